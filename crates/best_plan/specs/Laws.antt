@@ -1,8 +1,8 @@
 -- What holds of the best plan, whatever the code.
 use Rattle.std.specs.Prelude.{false, List, None, Some, sum, ℕ, [], ◌↔◌, ◌∷◌, ◌≡◌, ◌≤◌}
-use Rattle.best_plan.specs.{Best.{IsBestPlan, items_behind}, BestOf.best_plan_of}
+use Rattle.best_plan.specs.{Best.{IsBestPlan, items_with_lead_in}, BestOf.best_plan_of}
 use Rattle.frame_header.specs.Fields.{HeaderFields, SlotFields}
-use Rattle.slot_plan.specs.{Laws.ChooseInOrder, Parts.whole_of, Plans.{areas_in, IsPlan}}
+use Rattle.slot_plan.specs.{Laws.PartsChooseInOrder, Parts.all_items, Plans.{IsPlan, item_areas}}
 use Rattle.slot_plan.specs.declared.needs.{Need.Need, Placed.Placed}
 
 -- The best plan of a part has a lead-in exactly if its plan has one, and no more bytes of areas.
@@ -12,8 +12,8 @@ BestIsShortest =
     (placed best : List Placed) (plan : IsPlan window choices (needs ∷ []) placed)
     (is : IsBestPlan window choices needs best)
     → ((is.lead_in ≡ false) ↔ (plan.lead_ins ≡ None ∷ []))
-    × (sum (areas_in (items_behind is.lead_in choices needs) best)
-    ≤ sum (areas_in (whole_of choices (needs ∷ []) plan.lead_ins) placed))
+    × (sum (item_areas (items_with_lead_in is.lead_in choices needs) best)
+    ≤ sum (item_areas (all_items choices (needs ∷ []) plan.lead_ins) placed))
 
 -- If a part has a plan, it has a best plan.
 abbrev pub BestExists : Type 0
@@ -23,8 +23,8 @@ BestExists =
     → (best : List Placed) × (best_plan_of window choices needs ≡ Some best)
 
 -- The best plan of a part whose frames choose among ascending areas is that of the function.
-abbrev pub BestPlanIsThePlan : Type 0
-BestPlanIsThePlan =
+abbrev pub BestPlanIsCheapest : Type 0
+BestPlanIsCheapest =
     (window : ℕ) (choices : HeaderFields → List SlotFields) (needs : List Need)
-    (placed : List Placed) → ChooseInOrder choices (needs ∷ [])
+    (placed : List Placed) → PartsChooseInOrder choices (needs ∷ [])
     → IsBestPlan window choices needs placed ↔ (best_plan_of window choices needs ≡ Some placed)

@@ -2,46 +2,48 @@
 -- the least sum of the areas from it on, and the first area that has it.
 use Rattle.std.specs.Prelude.{All, AllPairs, IfSome, IsTrue, length, List, slice_index, ℕ, ◌++◌}
 use Rattle.std.specs.Prelude.{◌+◌, ◌-◌, ◌<◌, ◌≡◌, ◌≤◌}
-use Rattle.best_plan.specs.declared.{choice.{Known.Known, Row.Row}, rows.Sums.Sums}
+use Rattle.best_plan.specs.declared.choice.{ChoiceRow.ChoiceRow, SumBounds.SumBounds}
+use Rattle.best_plan.specs.declared.rows.Sums.{Sums}
 use Rattle.frame_header.specs.Limits.{most_frame_length}
-use Rattle.slot_plan.specs.Reserve.{free_behind}
+use Rattle.slot_plan.specs.Reserve.{free_bytes_behind}
 
 -- the sum if nothing fits, greater than all others
 abbrev pub nothing : ℕ
 nothing = 4294967295
 
 -- the sum of this area and of the least sum after it
-abbrev pub sum_with : ℕ → ℕ → ℕ → List ℕ → ℕ → ℕ
-sum_with window free bytes later area =
-    area + slice_index later (free_behind window free bytes area)
+abbrev pub area_sum : ℕ → ℕ → ℕ → List ℕ → ℕ → ℕ
+area_sum window free bytes later area =
+    area + slice_index later (free_bytes_behind window free bytes area)
 
 -- that sum, or `nothing` if the main data don't fit
 pub record IsSum (window free bytes area : ℕ) (later : List ℕ) (cost : ℕ) : Type 0 where
-  pub least : bytes ≤ free + area → cost ≤ sum_with window free bytes later area
+  pub least : bytes ≤ free + area → cost ≤ area_sum window free bytes later area
   pub fits : cost < nothing → bytes ≤ free + area
-  pub found : cost < nothing → cost ≡ sum_with window free bytes later area
+  pub found : cost < nothing → cost ≡ area_sum window free bytes later area
 
 -- the least sum over some areas, where `later` has the least
 -- sums from the next frame on, and the first place that has it
-pub record IsChoice (window free bytes : ℕ) (areas later : List ℕ) (cost place : ℕ) : Type 0 where
+pub record IsAreaChoice (window free bytes : ℕ) (areas later : List ℕ)
+    (cost place : ℕ) : Type 0 where
   pub least : (k : ℕ) → k < length areas → bytes ≤ free + slice_index areas k
-      → cost ≤ sum_with window free bytes later (slice_index areas k)
+      → cost ≤ area_sum window free bytes later (slice_index areas k)
   pub within : cost < nothing → place < length areas
   pub fits : cost < nothing → bytes ≤ free + slice_index areas place
-  pub found : cost < nothing → cost ≡ sum_with window free bytes later (slice_index areas place)
+  pub found : cost < nothing → cost ≡ area_sum window free bytes later (slice_index areas place)
   pub first : (k : ℕ) → k < place → cost < nothing → bytes ≤ free + slice_index areas k
-      → cost < sum_with window free bytes later (slice_index areas k)
+      → cost < area_sum window free bytes later (slice_index areas k)
 
 -- the areas of a frame after so large a window
-pub record AreChoices (window : ℕ) (areas : List ℕ) : Type 0 where
+pub record AreFrameAreas (window : ℕ) (areas : List ℕ) : Type 0 where
   pub narrow : window ≤ 511
   pub most : All (λ n. n ≤ most_frame_length) areas
   pub few : length areas ≤ 28
   pub ascending : AllPairs (λ m n. m < n) areas
 
 -- the areas of a frame, and the least sums of the frames after it
-pub record AreBefore (window : ℕ) (areas later : List ℕ) : Type 0 where
-  pub choices : AreChoices window areas
+pub record AreAreasAndSums (window : ℕ) (areas later : List ℕ) : Type 0 where
+  pub choices : AreFrameAreas window areas
   -- one for each number of free bytes up to the window
   pub width : length later ≡ window + 1
 
@@ -50,7 +52,7 @@ pub record IsRow (window bytes : ℕ) (areas later row cells : List ℕ) : Type 
   pub width : length row ≡ window + 1
   pub many : length cells ≡ window + 1
   pub each : (free : ℕ) → free ≤ window
-      → IsChoice window free bytes areas later (slice_index row free) (slice_index cells free)
+      → IsAreaChoice window free bytes areas later (slice_index row free) (slice_index cells free)
 
 -- a row of places was appended
 pub record AppendsRow (window bytes : ℕ) (areas later row old new : List ℕ) : Type 0 where
@@ -59,7 +61,7 @@ pub record AppendsRow (window bytes : ℕ) (areas later row old new : List ℕ) 
   pub is : IsRow window bytes areas later row cells
 
 -- that of a frame with this row of choices
-abbrev pub AddsRow : Row → List ℕ → List ℕ → List ℕ → Type 0
+abbrev pub AddsRow : ChoiceRow → List ℕ → List ℕ → List ℕ → Type 0
 AddsRow row sums old new = AppendsRow row.window row.bytes row.areas.now row.later.now sums old new
 
 -- numbers that no sum of a row is less than: by itself, and together with the bytes that are free
@@ -68,7 +70,7 @@ pub record AreBounds (later : List ℕ) (least whole : ℕ) : Type 0 where
   pub together : (free : ℕ) → free < length later → whole ≤ slice_index later free + free
 
 -- what is known where so many bytes are free before a frame with these areas
-pub record IsKnown (free bytes : ℕ) (areas later : List ℕ) (known : Known) : Type 0 where
+pub record AreKnownBounds (free bytes : ℕ) (areas later : List ℕ) (known : SumBounds) : Type 0 where
   -- no later sum is less than the bounds
   pub bounds : AreBounds later known.alone known.together
   -- the first areas are too small
@@ -76,27 +78,28 @@ pub record IsKnown (free bytes : ℕ) (areas later : List ℕ) (known : Known) :
   pub small : (k : ℕ) → k < known.from → free + slice_index areas k < bytes
 
 -- the areas before this place, which isn't after `from`, are too small; at it the first isn't
-pub record AreTooSmall (free bytes : ℕ) (areas : List ℕ) (from place : ℕ) : Type 0 where
+pub record AreAreasTooSmall (free bytes : ℕ) (areas : List ℕ) (from place : ℕ) : Type 0 where
   pub within : place ≤ from
   pub small : (k : ℕ) → k < place → free + slice_index areas k < bytes
   pub large : place < from → bytes ≤ free + slice_index areas place
 
 -- each free byte spares one: the sums together with the bytes that are free are all the same
-abbrev pub IsEven : List ℕ → Type 0
-IsEven sums = (free : ℕ) → free < length sums → slice_index sums free + free ≡ slice_index sums 0
+abbrev pub HasUnitSlope : List ℕ → Type 0
+HasUnitSlope sums =
+    (free : ℕ) → free < length sums → slice_index sums free + free ≡ slice_index sums 0
 
 -- from so many free bytes on each spares at most one, and fewer are too few for any list
-pub record IsNear (sums : List ℕ) (least : ℕ) : Type 0 where
+pub record HasSlopeAtMostOne (sums : List ℕ) (least : ℕ) : Type 0 where
   pub none : (free : ℕ) → free < least → free < length sums → nothing ≤ slice_index sums free
   pub near : (free : ℕ) → least ≤ free → free + 1 < length sums
       → slice_index sums free ≤ slice_index sums (free + 1) + 1
 
 -- what is known of the sums of a row is so
-pub record AreKnown (sums : Sums) : Type 0 where
+pub record AreKnownSlopes (sums : Sums) : Type 0 where
   -- whether each free byte spares one
-  pub even : IsTrue sums.even → IsEven sums.by_free.items
+  pub even : IsTrue sums.even → HasUnitSlope sums.by_free.items
   -- from how many on each spares at most one
-  pub near : IfSome sums.near (λ least. IsNear sums.by_free.items least)
+  pub near : IfSome sums.near (λ least. HasSlopeAtMostOne sums.by_free.items least)
 
 -- two rows of sums
 pub record AreRows (window : ℕ) (later sums : List ℕ) : Type 0 where
@@ -115,7 +118,7 @@ pub record AreSums (window bytes area : ℕ) (later : List ℕ) (start end : ℕ
       → IsSum window free bytes area later (slice_index new free)
 
 -- whatever is free, the first area with which the main data fit leaves no more than the window
-pub record HasRoom (window bytes : ℕ) (areas : List ℕ) : Type 0 where
+pub record HasWindowRoom (window bytes : ℕ) (areas : List ℕ) : Type 0 where
   pub some : 0 < length areas
   pub most : bytes ≤ slice_index areas (length areas - 1)
   pub least : slice_index areas 0 ≤ bytes
@@ -123,7 +126,7 @@ pub record HasRoom (window bytes : ℕ) (areas : List ℕ) : Type 0 where
       → slice_index areas k ≤ slice_index areas (k - 1) + window
 
 -- the first area with which the main data fit
-pub record IsFirst (bytes : ℕ) (areas : List ℕ) (free place : ℕ) : Type 0 where
+pub record IsFirstArea (bytes : ℕ) (areas : List ℕ) (free place : ℕ) : Type 0 where
   pub within : place < length areas
   pub fits : bytes ≤ free + slice_index areas place
   pub small : (k : ℕ) → k < place → free + slice_index areas k < bytes
@@ -137,8 +140,8 @@ pub record IsEndAt (window bytes : ℕ) (areas : List ℕ) (place end : ℕ) : T
   pub large : (free : ℕ) → end ≤ free → free ≤ window → bytes ≤ free + slice_index areas (place - 1)
 
 -- a row of the first areas with which the main data fit was appended
-pub record AppendsFirst (window bytes : ℕ) (areas old new : List ℕ) : Type 0 where
+pub record AppendsFirstAreas (window bytes : ℕ) (areas old new : List ℕ) : Type 0 where
   pub cells : List ℕ
   pub appended : new ≡ old ++ cells
   pub many : length cells ≡ window + 1
-  pub each : (free : ℕ) → free ≤ window → IsFirst bytes areas free (slice_index cells free)
+  pub each : (free : ℕ) → free ≤ window → IsFirstArea bytes areas free (slice_index cells free)

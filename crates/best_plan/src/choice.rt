@@ -1,7 +1,7 @@
 //! Of the areas of one frame, the one with which it and all frames after it have the fewest bytes.
 ghost use Rattle.std.specs.Prelude.{◌≡◌, ◌+◌, ◌<◌, ◌≤◌, All, AllPairs, length};
-ghost use Rattle.slot_plan.specs.Parts.{areas_with};
-ghost use Rattle.best_plan.specs.Rows.{AreBefore, AreBounds, AreTooSmall, IsKnown, IsSum, IsChoice};
+ghost use Rattle.slot_plan.specs.Parts.{slot_areas};
+ghost use Rattle.best_plan.specs.Rows.{AreAreasAndSums, AreBounds, AreAreasTooSmall, AreKnownBounds, IsSum, IsAreaChoice};
 ghost use Rattle.frame_header.specs.Limits.{most_back, most_frame_length};
 
 use arrayvec::ArrayVec;
@@ -13,7 +13,7 @@ pub(crate) const NOTHING: u32 = u32::MAX;
 
 /// The least sum of areas from a frame on, in bytes, and the place of the frame's area in its list.
 #[derive(Clone, Copy)]
-pub(crate) struct Choice {
+pub(crate) struct AreaChoice {
     pub(crate) sum: u32,
     pub(crate) place: u8,
 }
@@ -22,7 +22,7 @@ pub(crate) struct Choice {
 /// main data have, the areas among which it chooses, and the least sums of the frames after it, by the bytes
 /// that are free before them.
 #[derive(Clone, Copy)]
-pub(crate) struct Row<'a> {
+pub(crate) struct ChoiceRow<'a> {
     pub(crate) window: u32,
     pub(crate) bytes: u32,
     pub(crate) areas: &'a [u32],
@@ -33,7 +33,7 @@ pub(crate) struct Row<'a> {
 /// later sum is less than `alone`, and none is less than `together` once the bytes that are free before it
 /// are added.
 #[derive(Clone, Copy)]
-pub(crate) struct Known {
+pub(crate) struct SumBounds {
     pub(crate) from: usize,
     pub(crate) alone: u32,
     pub(crate) together: u32,
@@ -42,7 +42,7 @@ pub(crate) struct Known {
 /// The areas of some slots, in bytes.
 pub(crate) fn areas_among(lengths: &Lengths, protected: bool, slots: &[Slot]) -> ArrayVec<u32, 28>
     requires { length slots.now ≤ 28 }
-    ensures areas { result.items ≡ areas_with lengths.now protected slots.now }
+    ensures areas { result.items ≡ slot_areas lengths.now protected slots.now }
     ensures most { All (λ n. n ≤ most_frame_length) result.items }
 {
     let mut areas = ArrayVec::new();
@@ -68,18 +68,18 @@ fn sum_behind(window: u32, free: u32, bytes: u32, area: u32, later: &[u32]) -> u
 }
 
 /// The greatest bounds of a row of sums; no area is known to be too small.
-pub(crate) fn bounds_of(later: &[u32]) -> Known
+pub(crate) fn bounds_of(later: &[u32]) -> SumBounds
     requires { length later.now ≤ 512 }
     ensures bounds { AreBounds later.now result.alone result.together }
     ensures from { result.from ≡ 0 }
 {
-    let mut known = Known {
+    let mut known = SumBounds {
         from: 0,
         alone: NOTHING,
         together: NOTHING,
     };
     for (free, sum) in later.iter().enumerate() {
-        known = Known {
+        known = SumBounds {
             from: 0,
             alone: known.alone.min(*sum),
             together: known.together.min(sum.saturating_add(free as u32)),
@@ -95,7 +95,7 @@ pub(crate) fn too_small(free: u32, bytes: u32, areas: &[u32], from: usize) -> us
     requires areas { All (λ n. n ≤ most_frame_length) areas.now }
     requires ascending { AllPairs (λ m n. m < n) areas.now }
     requires from { from ≤ length areas.now }
-    ensures { AreTooSmall free bytes areas.now from result }
+    ensures { AreAreasTooSmall free bytes areas.now from result }
 {
     for place in (0..from).rev() {
         let area = areas[place];
@@ -115,14 +115,14 @@ pub(crate) fn best_choice(
     bytes: u32,
     areas: &[u32],
     later: &[u32],
-    known: Known,
-) -> Choice
-    requires row { AreBefore window areas.now later.now }
+    known: SumBounds,
+) -> AreaChoice
+    requires row { AreAreasAndSums window areas.now later.now }
     requires free { free ≤ window }
-    requires known { IsKnown free bytes areas.now later.now known }
-    ensures { IsChoice window free bytes areas.now later.now result.sum result.place }
+    requires known { AreKnownBounds free bytes areas.now later.now known }
+    ensures { IsAreaChoice window free bytes areas.now later.now result.sum result.place }
 {
-    let mut choice = Choice {
+    let mut choice = AreaChoice {
         sum: NOTHING,
         place: 0,
     };
@@ -138,7 +138,7 @@ pub(crate) fn best_choice(
         }
         let sum = sum_behind(window, free, bytes, area, later);
         if sum < choice.sum {
-            choice = Choice {
+            choice = AreaChoice {
                 sum,
                 place: place as u8,
             };

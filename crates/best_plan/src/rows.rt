@@ -1,10 +1,10 @@
 //! The choices of one frame, for each number of free bytes before it.
 ghost use Rattle.std.specs.Prelude.{◌+◌, ◌<◌, slice_index, IfOk, IfSome};
-ghost use Rattle.best_plan.specs.Rows.{nothing, AddsRow, AppendsRow, AreBefore, AreKnown, HasRoom, IsEven, IsNear};
+ghost use Rattle.best_plan.specs.Rows.{nothing, AddsRow, AppendsRow, AreAreasAndSums, AreKnownSlopes, HasWindowRoom, HasUnitSlope, HasSlopeAtMostOne};
 
-use crate::choice::{Known, NOTHING, Row, best_choice, bounds_of, too_small};
-use crate::even::{add_to_all, append_first, has_room, is_even};
-use crate::near::{append_near, near_from};
+use crate::bounded_slope::{append_bounded_slope, bounded_slope_start};
+use crate::choice::{ChoiceRow, NOTHING, SumBounds, best_choice, bounds_of, too_small};
+use crate::unit_slope::{add_to_all, append_first_areas, has_unit_slope, has_window_room};
 use std::alloc::AllocError;
 use std::mem::swap;
 
@@ -25,8 +25,12 @@ pub(crate) struct Sums {
 ///
 /// # Errors
 /// Where there is no memory.
-fn append_row(row: Row<'_>, sums: &mut Vec<u32>, places: &mut Vec<u8>) -> Result<(), AllocError>
-    requires row { AreBefore row.window row.areas.now row.later.now }
+fn append_row(
+    row: ChoiceRow<'_>,
+    sums: &mut Vec<u32>,
+    places: &mut Vec<u8>,
+) -> Result<(), AllocError>
+    requires row { AreAreasAndSums row.window row.areas.now row.later.now }
     ensures { IfOk result (λ _. AddsRow row.entry sums.new.items places.old.items
         places.new.items) }
 {
@@ -35,7 +39,7 @@ fn append_row(row: Row<'_>, sums: &mut Vec<u32>, places: &mut Vec<u8>) -> Result
     sums.clear();
     for free in 0..row.window + 1 {
         from = too_small(free, row.bytes, row.areas, from);
-        let known = Known {
+        let known = SumBounds {
             from,
             alone: bounds.alone,
             together: bounds.together,
@@ -52,18 +56,18 @@ fn append_row(row: Row<'_>, sums: &mut Vec<u32>, places: &mut Vec<u8>) -> Result
 /// # Errors
 /// Where there is no memory.
 fn append_next(
-    row: Row<'_>,
+    row: ChoiceRow<'_>,
     near: Option<u32>,
     sums: &mut Vec<u32>,
     places: &mut Vec<u8>,
 ) -> Result<(), AllocError>
-    requires row { AreBefore row.window row.areas.now row.later.now }
-    requires near { IfSome near (λ least. IsNear row.later.now least) }
+    requires row { AreAreasAndSums row.window row.areas.now row.later.now }
+    requires near { IfSome near (λ least. HasSlopeAtMostOne row.later.now least) }
     ensures { IfOk result (λ _. AddsRow row.entry sums.new.items places.old.items
         places.new.items) }
 {
     match near {
-        Some(least) => append_near(row, least, sums, places),
+        Some(least) => append_bounded_slope(row, least, sums, places),
         None => append_row(row, sums, places),
     }
 }
@@ -72,22 +76,22 @@ fn append_next(
 ///
 /// # Errors
 /// Where there is no memory.
-fn append_even(
+fn append_unit_slope(
     window: u32,
     bytes: u32,
     areas: &[u32],
     sums: &mut [u32],
     places: &mut Vec<u8>,
 ) -> Result<(), AllocError>
-    requires row { AreBefore window areas.now sums.old }
-    requires even { IsEven sums.old }
-    requires room { HasRoom window bytes areas.now }
+    requires row { AreAreasAndSums window areas.now sums.old }
+    requires even { HasUnitSlope sums.old }
+    requires room { HasWindowRoom window bytes areas.now }
     requires small { slice_index sums.old 0 + bytes < nothing }
     ensures row { IfOk result (λ _. AppendsRow window bytes areas.now sums.old sums.new
         places.old.items places.new.items) }
-    ensures even { IfOk result (λ _. IsEven sums.new) }
+    ensures even { IfOk result (λ _. HasUnitSlope sums.new) }
 {
-    append_first(window, bytes, areas, places)?;
+    append_first_areas(window, bytes, areas, places)?;
     add_to_all(sums, bytes);
     Ok(())
 }
@@ -103,18 +107,18 @@ pub(crate) fn append_frame(
     sums: &mut Sums,
     places: &mut Vec<u8>,
 ) -> Result<(), AllocError>
-    requires row { AreBefore window areas.now sums.old.by_free.items }
-    requires known { AreKnown sums.old }
+    requires row { AreAreasAndSums window areas.now sums.old.by_free.items }
+    requires known { AreKnownSlopes sums.old }
     ensures row { IfOk result (λ _. AppendsRow window bytes areas.now sums.old.by_free.items
         sums.new.by_free.items places.old.items places.new.items) }
-    ensures known { IfOk result (λ _. AreKnown sums.new) }
+    ensures known { IfOk result (λ _. AreKnownSlopes sums.new) }
 {
-    if sums.even && sums.by_free[0] < NOTHING - bytes && has_room(window, bytes, areas) {
-        append_even(window, bytes, areas, &mut sums.by_free, places)?;
+    if sums.even && sums.by_free[0] < NOTHING - bytes && has_window_room(window, bytes, areas) {
+        append_unit_slope(window, bytes, areas, &mut sums.by_free, places)?;
         sums.near = Some(0);
         return Ok(());
     }
-    let row = Row {
+    let row = ChoiceRow {
         window,
         bytes,
         areas,
@@ -122,7 +126,7 @@ pub(crate) fn append_frame(
     };
     append_next(row, sums.near, &mut sums.spare, places)?;
     swap(&mut sums.by_free, &mut sums.spare);
-    sums.even = is_even(sums.by_free.as_slice());
-    sums.near = near_from(sums.by_free.as_slice());
+    sums.even = has_unit_slope(sums.by_free.as_slice());
+    sums.near = bounded_slope_start(sums.by_free.as_slice());
     Ok(())
 }

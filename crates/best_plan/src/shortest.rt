@@ -1,11 +1,11 @@
 //! The shortest packing.
 ghost use Rattle.std.specs.Prelude.{◌≡◌, ◌+◌, ◌≤◌, length, slice_index, map, IfOk};
 ghost use Rattle.frame_header.specs.Tables.{window_of};
-ghost use Rattle.slot_plan.specs.Layouts.{IsFeasible};
-ghost use Rattle.slot_plan.specs.Parts.{AreOfOneClass, window_in, own_frame};
+ghost use Rattle.slot_plan.specs.Layouts.{HasLayout};
+ghost use Rattle.slot_plan.specs.Parts.{AreNeedsOfOneClass, window_in, own_frame};
 ghost use Rattle.slot_plan.specs.Plans.{entries};
 ghost use Rattle.best_plan.specs.Best.{IsBestPlan};
-ghost use Rattle.best_plan.specs.Table.{IsLeadInBy};
+ghost use Rattle.best_plan.specs.Table.{IsLeadInOfSums};
 
 use crate::choice::{NOTHING, areas_among, best_choice, bounds_of};
 use crate::table::table_of;
@@ -19,7 +19,7 @@ fn lead_in(class: Class, window: u32, sums: &[u32]) -> Placed
     requires window { window ≡ window_of class.version }
     requires sums { length sums.now ≡ window + 1 }
     requires some { slice_index sums.now window ≤ 288200000 }
-    ensures { IsLeadInBy window class sums.now result }
+    ensures { IsLeadInOfSums window class sums.now result }
 {
     // The largest slot has room for a whole window.
     let room = class.window();
@@ -43,10 +43,10 @@ fn lead_in(class: Class, window: u32, sums: &[u32]) -> Placed
 /// # Errors
 /// Where there is no memory.
 pub fn best<P: Policy>(alloc: Global, needs: &[Need], policy: &P) -> Result<Plan, AllocError>
-    requires class { AreOfOneClass needs.now }
+    requires class { AreNeedsOfOneClass needs.now }
     requires some { 1 ≤ length needs.now }
     requires few { length needs.now ≤ 200000 }
-    requires feasible { IsFeasible (window_in needs.now) (window_in needs.now)
+    requires feasible { HasLayout (window_in needs.now) (window_in needs.now)
         (map own_frame needs.now) }
     ensures { IfOk result (λ p. IsBestPlan (window_in needs.now) (P.choices_of policy.now) needs.now
         (entries p)) }

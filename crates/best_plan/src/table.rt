@@ -1,8 +1,8 @@
 //! The least sums, and the places of the areas that have them, from the last frame back to the first.
 ghost use Rattle.std.specs.Prelude.{◌≡◌, ◌≤◌, [], length, IfOk};
 ghost use Rattle.frame_header.specs.Tables.{class_of};
-ghost use Rattle.slot_plan.specs.Parts.{AreOfClass};
-ghost use Rattle.best_plan.specs.Table.{AreAreasOf, IsEnd, IsTable};
+ghost use Rattle.slot_plan.specs.Parts.{AreNeedsOfClass};
+ghost use Rattle.best_plan.specs.Table.{AreAreasOf, IsTableEnd, IsTable};
 ghost use Rattle.frame_header.specs.Limits.{most_back};
 
 use crate::choice::areas_among;
@@ -26,7 +26,7 @@ pub(crate) struct Table {
 /// Where there is no memory.
 fn no_areas(alloc: Global, window: u32) -> Result<Vec<u32>, AllocError>
     requires window { window ≤ most_back }
-    ensures { IfOk result (λ sums. IsEnd window sums.items []) }
+    ensures { IfOk result (λ sums. IsTableEnd window sums.items []) }
 {
     let mut sums = Vec::with_capacity(alloc, window as usize + 1)?;
     for _ in 0..window + 1 {
@@ -55,7 +55,7 @@ pub(crate) fn table_of<P: Policy>(
     policy: &P,
     lengths: &Lengths,
 ) -> Result<Table, AllocError>
-    requires class { AreOfClass lengths.now needs.now }
+    requires class { AreNeedsOfClass lengths.now needs.now }
     requires window { window ≤ most_back }
     requires few { length needs.now ≤ 200000 }
     ensures { IfOk result (λ t. IsTable window

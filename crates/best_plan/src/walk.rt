@@ -2,8 +2,8 @@
 //! are free before it.
 ghost use Rattle.std.specs.Prelude.{◌≡◌, ◌<◌, ◌≤◌, length, IfOk};
 ghost use Rattle.frame_header.specs.Tables.{class_of, area_of};
-ghost use Rattle.slot_plan.specs.Parts.{AreOfClass};
-ghost use Rattle.best_plan.specs.Table.{areas_for, CanWalk, IsFrameAt, Walks};
+ghost use Rattle.slot_plan.specs.Parts.{AreNeedsOfClass};
+ghost use Rattle.best_plan.specs.Table.{need_areas, CanWalkTable, IsFrameAt, WalksTable};
 ghost use Rattle.frame_header.specs.Limits.{most_back, most_frame_length};
 
 use frame_header::Slot;
@@ -12,7 +12,7 @@ use std::alloc::AllocError;
 
 /// The frame in the slot at this place of its choices.
 fn frame_at<P: Policy>(need: &Need, place: u8, free: u32, policy: &P) -> Placed
-    requires place { place < length (areas_for (P.choices_of policy.now) need.now) }
+    requires place { place < length (need_areas (P.choices_of policy.now) need.now) }
     requires free { free ≤ most_back }
     ensures { IsFrameAt (P.choices_of policy.now) need.now place free result }
 {
@@ -45,12 +45,12 @@ pub(crate) fn walk<P: Policy>(
     places: Vec<u8>,
     placed: &mut Vec<Placed>,
 ) -> Result<(), AllocError>
-    requires class { AreOfClass lengths.now needs.now }
+    requires class { AreNeedsOfClass lengths.now needs.now }
     requires window { room.window ≤ most_back }
     requires free { room.free ≤ room.window }
-    requires table { CanWalk room.window (P.choices_of policy.now) room.free needs.now
+    requires table { CanWalkTable room.window (P.choices_of policy.now) room.free needs.now
         places.items }
-    ensures { IfOk result (λ _. Walks room.window (P.choices_of policy.now) room.free needs.now
+    ensures { IfOk result (λ _. WalksTable room.window (P.choices_of policy.now) room.free needs.now
         placed.old.items placed.new.items) }
 {
     let window = room.window;

@@ -1,4 +1,4 @@
-pub mod BitsLaws
-pub mod GroupsLaws
-mod WindowLaws
-pub mod WordLaws
+pub mod BitsLemmas
+pub mod GroupsLemmas
+mod GroupBytesLemmas
+pub mod WordLemmas

@@ -9,16 +9,16 @@ pub record Cursor : Type 0 where
   pub left : List ℕ
 
 -- the same, n bits further on
-abbrev pub advanced : Cursor → ℕ → Cursor
-advanced c n = record { place = c.place + n; left = drop n c.left }
+abbrev pub advanced_cursor : Cursor → ℕ → Cursor
+advanced_cursor c n = record { place = c.place + n; left = drop n c.left }
 
 -- the next n bits are taken, or fewer are left
-pub record IsTaken (n : ℕ) (old new : Cursor) (result : Option ℕ) : Type 0 where
+pub record TakeAnswer (n : ℕ) (old new : Cursor) (result : Option ℕ) : Type 0 where
   -- it fails exactly where fewer are left
   pub short : IsNone result ↔ (length old.left < n)
   pub enough : n ≤ length old.left → IsSome result
   pub value : IfSome result (λ v. v ≡ number (take n old.left))
   pub below : IfSome result (λ v. v < 2 ^ n)
-  pub moves : IfSome result (λ v. new ≡ advanced old n)
+  pub moves : IfSome result (λ v. new ≡ advanced_cursor old n)
   -- and then stays
   pub stays : IfNone result (new ≡ old)

@@ -20,7 +20,7 @@ pub record IsNumberOf (xs : List ℕ) (at n v : ℕ) : Type 0 where
   pub below : v < 2 ^ n
 
 -- the bytes before this one hold the group, which is in the last five of them
-pub record IsReached (at n last : ℕ) : Type 0 where
+pub record IsGroupReached (at n last : ℕ) : Type 0 where
   pub reached : at + n ≤ 8 * last
   pub near : last ≤ at / 8 + 5
   pub ordered : at / 8 ≤ last
@@ -31,18 +31,18 @@ numbers_at [] bs = []
 numbers_at (width ∷ widths) bs = number (take width bs) ∷ numbers_at widths (drop width bs)
 
 -- the bits that spell numbers in successive groups
-unfoldable pub spelled : List ℕ → List ℕ → List ℕ
-spelled [] ns = []
-spelled (width ∷ widths) [] = []
-spelled (width ∷ widths) (n ∷ ns) = bits_of width n ++ spelled widths ns
+unfoldable pub group_bits : List ℕ → List ℕ → List ℕ
+group_bits [] ns = []
+group_bits (width ∷ widths) [] = []
+group_bits (width ∷ widths) (n ∷ ns) = bits_of width n ++ group_bits widths ns
 
 -- the bits with a value in place of the group of so many bits that begins at bit `at`
 abbrev pub with_value : ℕ → ℕ → ℕ → List ℕ → List ℕ
 with_value at width value bs = take at bs ++ bits_of width value ++ drop (at + width) bs
 
 -- there is a number for each group, and it fits
-abbrev pub Fits : List ℕ → List ℕ → Type 0
-Fits [] [] = Unit {0}
-Fits [] (n ∷ ns) = ⊥
-Fits (width ∷ widths) [] = ⊥
-Fits (width ∷ widths) (n ∷ ns) = (n < 2 ^ width) × Fits widths ns
+abbrev pub NumbersFit : List ℕ → List ℕ → Type 0
+NumbersFit [] [] = Unit {0}
+NumbersFit [] (n ∷ ns) = ⊥
+NumbersFit (width ∷ widths) [] = ⊥
+NumbersFit (width ∷ widths) (n ∷ ns) = (n < 2 ^ width) × NumbersFit widths ns

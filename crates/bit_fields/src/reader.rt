@@ -1,9 +1,9 @@
 //! Reads successive groups of bits as numbers.
 ghost use Rattle.std.specs.Prelude.{◌≡◌, ◌^◌, ◌≤◌, length};
 ghost use Rattle.bit_fields.specs.Bits.{bits};
-ghost use Rattle.bit_fields.specs.Cursor.{IsTaken};
+ghost use Rattle.bit_fields.specs.Cursor.{TakeAnswer};
 
-use crate::window::number_at;
+use crate::groups::number_at;
 use std::marker::Model;
 
 /// A place among the bits of a byte slice, the most significant bit of each byte first.
@@ -53,7 +53,7 @@ impl<'a> Bits<'a> {
     /// where fewer are left; the place then stays.
     pub fn take(&mut self, n: u32) -> Option<u32>
         requires { n ≤ 32 }
-        ensures { IsTaken n self.old self.new result }
+        ensures { TakeAnswer n self.old self.new result }
     {
         if self.left() < n as usize {
             return None;

@@ -1,9 +1,9 @@
 //! Writes a group of bits in place.
 ghost use Rattle.std.specs.Prelude.{◌≡◌, ◌+◌, ◌*◌, ◌^◌, ◌<◌, ◌≤◌, length};
 ghost use Rattle.bit_fields.specs.Bits.{bits};
-ghost use Rattle.bit_fields.specs.Groups.{with_value, IsGroupIn, IsReached};
+ghost use Rattle.bit_fields.specs.Groups.{with_value, IsGroupIn, IsGroupReached};
 
-use crate::window::{number_of, set_number, with_group, word_at};
+use crate::groups::{number_of, set_number, with_group, word_at};
 
 /// The n bits from bit `at` on, at most 32 of them, become the value, the most significant bit first;
 /// all other bits stay.
@@ -38,7 +38,7 @@ pub fn put_byte(bytes: &mut [u8], at: usize, value: u8)
 #[inline]
 fn put_in_bytes(bytes: &mut [u8], at: usize, n: u32, value: u32, last: usize)
     requires few { n ≤ 32 }
-    requires reached { IsReached at n last }
+    requires reached { IsGroupReached at n last }
     requires room { last ≤ length bytes.old }
     requires fits { value < 2 ^ n }
     requires short { length bytes.old ≤ 2 ^ 28 }

@@ -1,12 +1,12 @@
 -- The lemmas of this crate.
-pub mod WhyLaws
-pub mod OutputLaws
-pub mod NamedLaws
-pub mod RefusingLaws
-pub mod InputLaws
-pub mod MakeLaws
-pub mod MadeLaws
-pub mod TellingLaws
-pub mod SheetLaws
-pub mod FoundSheet
-pub mod TouchLaws
+pub mod WhyLemmas
+pub mod OutputLemmas
+pub mod NamedLemmas
+pub mod RefusingLemmas
+pub mod InputLemmas
+pub mod MakeLemmas
+pub mod MadeLemmas
+pub mod TellingLemmas
+pub mod SheetLemmas
+pub mod FoundSheetLemmas
+pub mod TouchLemmas

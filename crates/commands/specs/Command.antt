@@ -49,14 +49,16 @@ clash_of command = clash_from command.outputs 0 command.inputs
 -- ---- files
 
 -- the files once these outputs were written
-abbrev pub written : List Output → Contents → Contents
-written [] files = files
-written (output ∷ outputs) files = written outputs (with_file files output.name output.bytes)
+abbrev pub written_files : List Output → Contents → Contents
+written_files [] files = files
+written_files (output ∷ outputs) files =
+    written_files outputs (with_file files output.name output.bytes)
 
 -- the next output with its first bytes, if it was created
-abbrev pub begun : Option ℕ → List Output → List Output
-begun (Some count) (output ∷ outputs) = record output { bytes = take count output.bytes } ∷ []
-begun _ _ = []
+abbrev pub begun_output : Option ℕ → List Output → List Output
+begun_output (Some count) (output ∷ outputs) =
+    record output { bytes = take count output.bytes } ∷ []
+begun_output _ _ = []
 
 -- if the next output was created, its first bytes aren't all of them
 abbrev pub LacksBytes : Option ℕ → List Output → Type 0
@@ -64,12 +66,13 @@ LacksBytes (Some count) (output ∷ outputs) = count < length output.bytes
 LacksBytes _ _ = Unit {0}
 
 -- the first k outputs are whole, and the next one holds its first bytes, or wasn't created
-abbrev pub written_to : ℕ → Option ℕ → List Output → Contents → Contents
-written_to k count outputs files = written (take k outputs ++ begun count (drop k outputs)) files
+abbrev pub partly_written_files : ℕ → Option ℕ → List Output → Contents → Contents
+partly_written_files k count outputs files =
+    written_files (take k outputs ++ begun_output count (drop k outputs)) files
 
 -- the files that are told make the command give this
-abbrev pub Gives : Command → Files → Result Made EditFault → Type 0
-Gives command files answer = IfTold files (λ f. command.makes f ≡ answer)
+abbrev pub HasAnswer : Command → Files → Result Made EditFault → Type 0
+HasAnswer command files answer = IfTold files (λ f. command.makes f ≡ answer)
 
 -- ---- streams
 
@@ -81,15 +84,15 @@ AreStreams (output ∷ outputs) (stream ∷ streams) =
 AreStreams _ _ = ⊥
 
 -- the files of these names are there and well-formed
-abbrev pub AreSound : Contents → List (List ℕ) → Type 0
-AreSound files [] = Unit {0}
-AreSound files (name ∷ names) =
-    ((bytes : List ℕ) × (files name ≡ Some bytes) × IsWellFormed bytes) × AreSound files names
+abbrev pub AreSoundFiles : Contents → List (List ℕ) → Type 0
+AreSoundFiles files [] = Unit {0}
+AreSoundFiles files (name ∷ names) =
+    ((bytes : List ℕ) × (files name ≡ Some bytes) × IsWellFormed bytes) × AreSoundFiles files names
 
 -- the command is done with well-formed sources only, and what it makes of them holds the streams
 -- that it has to hold
 pub record MakesStreams (command : Command) (files : Contents) (made : Made) : Type 0 where
-  pub sources : AreSound files command.sources
+  pub sources : AreSoundFiles files command.sources
   pub streams : AreStreams made.outputs (command.streams files)
 
 -- what the command makes of the files that are told, by well-formed sources, holds the streams that

@@ -1,13 +1,13 @@
 -- What the contracts of this crate cite, and those of the commands.
-pub mod Kinds
+pub mod FaultKinds
 pub mod PassFaults
 pub mod Refusing
 pub mod Command
-pub mod Left
+pub mod AfterCall
 pub mod Inputs
-pub mod One
+pub mod SingleOutput
 pub mod Runs
-pub mod Said
-pub mod Telling
+pub mod SentText
+pub mod WithText
 pub mod Sheet
 pub mod Answers

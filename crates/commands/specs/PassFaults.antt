@@ -7,7 +7,7 @@ use Rattle.sync_survey.specs.declared.survey_fault.SurveyFault.TheVariants.{Read
 use Rattle.sync_survey.specs.declared.survey_fault.SurveyFault.TheVariants.{Shrunk as Shorter}
 
 -- that of a pass over this input that writes this output, both counted from 0
-abbrev pub of_pass : ℕ → ℕ → PassFault → EditFault
-of_pass input output Read = Input input Unread
-of_pass input output (Shrunk first second) = Input input (Shorter first second)
-of_pass input output Write = Unwritten output
+abbrev pub pass_edit_fault : ℕ → ℕ → PassFault → EditFault
+pass_edit_fault input output Read = Input input Unread
+pass_edit_fault input output (Shrunk first second) = Input input (Shorter first second)
+pass_edit_fault input output Write = Unwritten output

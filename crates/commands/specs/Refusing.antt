@@ -14,9 +14,9 @@ first_refusal refuse [] = None
 first_refusal refuse (a ∷ list) = or_else (refuse a) (first_refusal refuse list)
 
 -- this, unless there is a refusal
-abbrev pub unless : {A : Type 0} → Option Refusal → A → Result A EditFault
-unless (Some refusal) a = Err (Refused refusal)
-unless None a = Ok a
+abbrev pub refusal_or : {A : Type 0} → Option Refusal → A → Result A EditFault
+refusal_or (Some refusal) a = Err (Refused refusal)
+refusal_or None a = Ok a
 
 -- what is made of this, if it isn't refused
 abbrev pub then_made : {A B : Type 0} → Result A EditFault → (A → Result B EditFault)

@@ -1,16 +1,16 @@
 -- What the call of a command that makes files says, whatever its answer.
 use Rattle.std.specs.Prelude.{IfErr, IsErrOf, OnOk, Result, Some, ℕ, ◌↔◌, ◌≡◌}
+use Rattle.commands.specs.AfterCall.{HasNumbers, IsCommandDone, IsCommandFault}
 use Rattle.commands.specs.Command.{clash_of, Command, HoldsStreams}
-use Rattle.commands.specs.{Left.{HasNumbers, IsDone, Leaves}, declared.fault.EditFault.EditFault}
-use Rattle.commands.specs.declared.fault.EditFault.TheVariants.{EqualNames}
+use Rattle.commands.specs.declared.fault.EditFault.{EditFault, TheVariants.EqualNames}
 use Rattle.outside.specs.{Counts.NoneFell, Seen.Seen}
 
 -- from one moment to another the command ran, with this answer
 pub record IsRunOf (command : Command) (old new : Seen)
     (answer : Result (Unit {0}) EditFault) : Type 0 where
   -- all was written, or else this is left
-  pub done : OnOk answer (IsDone command old new)
-  pub left : IfErr answer (Leaves command old new)
+  pub done : OnOk answer (IsCommandDone command old new)
+  pub left : IfErr answer (IsCommandFault command old new)
   -- the fault is right over a folder that tells nothing too
   pub numbers : IfErr answer (HasNumbers command)
   -- it is that of equal names exactly where an input has the name of an output

@@ -1,12 +1,13 @@
 -- A sheet, the second input of a command: its bytes, and why they aren't read.
 use Rattle.std.specs.Prelude.{Bool, Err, false, if◌then◌else◌, length, List, nat_lt, None, Ok}
 use Rattle.std.specs.Prelude.{Option, Result, Some, true, ℕ, ◌≡◌, ◌≢◌}
-use Rattle.commands.specs.{Kinds.{HasRightNumbers, IsFromOutside}, Left.{by_why, never, why_of}}
-use Rattle.commands.specs.One.{LosesInput, MissesAt, ReadsNothing}
+use Rattle.commands.specs.AfterCall.{by_why, no_cause, why_of}
+use Rattle.commands.specs.FaultKinds.{HasRightNumbers, IsFromOutside}
+use Rattle.commands.specs.SingleOutput.{LosesInput, MissesAt, ReadsNothing}
 use Rattle.commands.specs.declared.fault.EditFault.{EditFault, TheVariants.{Input, Memory, Refused}}
 use Rattle.commands.specs.declared.fault.Refusal.{Refusal, TheVariants.SheetTooLarge}
 use Rattle.cue_sheet.specs.Limits.{longest_sheet}
-use Rattle.outside.specs.{Files.{Holds, IsThere}, Seen.Seen}
+use Rattle.outside.specs.{Files.{Holds, IsFileThere}, Seen.Seen}
 use Rattle.sync_survey.specs.declared.survey_fault.SurveyFault.TheVariants.{Absent}
 use Rattle.sync_survey.specs.declared.survey_fault.SurveyFault.TheVariants.{Memory as NoRoom}
 
@@ -24,7 +25,7 @@ sheet_in (Some sheet) = sheet_read sheet
 -- the sheet is there, and what its bytes say is refused
 pub record RefusesSheet {T : Type 0} (says : List ℕ → Result T EditFault)
     (name : List ℕ) (old new : Seen) (fault : EditFault) : Type 0 where
-  pub there : IsThere old.files name
+  pub there : IsFileThere old.files name
   pub bytes : (bytes : List ℕ) → Holds old.files name bytes → says bytes ≡ Err fault
   pub stays : new ≡ old
 
@@ -36,7 +37,7 @@ MissesSheet name old new fault = MissesAt 1 name old new fault
 abbrev pub IsFaultOfSheet : {T : Type 0} → (List ℕ → Result T EditFault)
     → List ℕ → Seen → Seen → EditFault → Type 0
 IsFaultOfSheet says name old new fault = by_why
-    (record never {
+    (record no_cause {
       rejected = RefusesSheet says name old new fault;
       missing = MissesSheet name old new fault;
       unread = ReadsNothing 1 name old new fault;
@@ -55,9 +56,9 @@ sheet_refuses (SheetTooLarge size) = nat_lt longest_sheet size
 sheet_refuses _ = false
 
 -- the fault is one of the sheet, which is read as bytes and not as frames, or want of memory
-abbrev pub IsOfSheet : EditFault → Type 0
-IsOfSheet (Input place fault) =
+abbrev pub HasSheetNumbers : EditFault → Type 0
+HasSheetNumbers (Input place fault) =
     (place ≡ 1) × (fault ≢ NoRoom) × HasRightNumbers fault × IsFromOutside fault
-IsOfSheet (Refused refusal) = sheet_refuses refusal ≡ true
-IsOfSheet Memory = Unit {0}
-IsOfSheet _ = ⊥
+HasSheetNumbers (Refused refusal) = sheet_refuses refusal ≡ true
+HasSheetNumbers Memory = Unit {0}
+HasSheetNumbers _ = ⊥

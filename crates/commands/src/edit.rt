@@ -3,7 +3,7 @@ ghost use Rattle.std.specs.Prelude.{◌≡◌, IfOk, IfErr, OnOk};
 ghost use Rattle.outside.specs.Counts.{OnlyReads};
 ghost use Rattle.commands.specs.Runs.{IsRunOf};
 ghost use Rattle.commands.specs.Inputs.{names_of};
-ghost use Rattle.commands.specs.One.{Task, one_command, IsEarlyFault, IsOfInputs, IsMaking, IsProper};
+ghost use Rattle.commands.specs.SingleOutput.{Task, one_command, IsEarlyFault, HasTaskNumbers, IsMaking, IsProperTask};
 
 use crate::fault::EditFault;
 use crate::inputs::Inputs;
@@ -41,7 +41,7 @@ pub trait Edit {
         ensures refused { IfErr result (IsEarlyFault (task self.now)
             (D.seen folder.old)
             (D.seen folder.new)) }
-        ensures numbers { IfErr result (IsOfInputs (task self.now)) }
+        ensures numbers { IfErr result (HasTaskNumbers (task self.now)) }
         ensures done { OnOk result ((D.seen folder.new).counts ≡ (D.seen folder.old).counts) }
         ensures files { (D.seen folder.new).files ≡ (D.seen folder.old).files }
         ensures counts { OnlyReads (D.seen folder.old).counts (D.seen folder.new).counts };
@@ -65,7 +65,7 @@ pub fn make_one<E: Edit, D: Folder>(
     output: &str,
 ) -> Result<(), EditFault>
     requires legal { E.IsLegal edit.now }
-    requires proper { IsProper (E.task edit.now) }
+    requires proper { IsProperTask (E.task edit.now) }
     // The sources are well-formed, and the output holds its stream.
     ensures { IsRunOf (one_command (E.task edit.now) output.now)
         (D.seen folder.old)

@@ -2,8 +2,8 @@
 
 ghost use Rattle.std.specs.Prelude.{◌≡◌};
 ghost use Rattle.commands.specs.declared.fault.EditFault.TheVariants.{Refused, Memory};
-ghost use Rattle.commands.specs.Kinds.{of_survey, of_input};
-ghost use Rattle.commands.specs.PassFaults.{of_pass};
+ghost use Rattle.commands.specs.FaultKinds.{survey_edit_fault, input_edit_fault};
+ghost use Rattle.commands.specs.PassFaults.{pass_edit_fault};
 
 use cue_sheet::CueFault;
 use fade_plan::EnvelopeFault;
@@ -99,7 +99,7 @@ impl<T: Drop> From<AllocFailed<T>> for EditFault {
 
 /// The fault of the one input of a command; want of memory is a fault of its own.
 impl From<SurveyFault> for EditFault {
-    ghost from_gives = { λ fault e. e ≡ of_input fault };
+    ghost from_gives = { λ fault e. e ≡ input_edit_fault fault };
 
     fn from(fault: SurveyFault) -> EditFault {
         EditFault::of_survey(0, fault)
@@ -109,7 +109,7 @@ impl From<SurveyFault> for EditFault {
 impl EditFault {
     /// The fault of the survey of this input, counted from 0; want of memory is a fault of its own.
     pub fn of_survey(input: u32, fault: SurveyFault) -> EditFault
-        ensures { result ≡ of_survey input fault }
+        ensures { result ≡ survey_edit_fault input fault }
     {
         match fault {
             SurveyFault::Memory => EditFault::Memory,
@@ -119,7 +119,7 @@ impl EditFault {
 
     /// The fault of a pass over this input that writes this output, both counted from 0.
     pub fn of_pass(input: u32, output: u32, fault: PassFault) -> EditFault
-        ensures { result ≡ of_pass input output fault }
+        ensures { result ≡ pass_edit_fault input output fault }
     {
         match fault {
             PassFault::Read => EditFault::Input(input, SurveyFault::Read),

@@ -1,11 +1,11 @@
 //! The output of a command that makes one file: it is created, and written by a second pass over the source.
 ghost use Rattle.std.specs.Prelude.{◌≡◌, ◌≢◌, List, [], ◌∷◌, ℕ, IfErr, OnOk};
-ghost use Rattle.outside.specs.Files.{Files, emptied, OnlyTouches};
+ghost use Rattle.outside.specs.Files.{Files, with_empty_file, OnlyTouches};
 ghost use Rattle.outside.specs.Counts.{NoneFell};
 ghost use Rattle.outside.specs.Seen.{OnFile};
-ghost use Rattle.outside.specs.Pass.{Appends, AppendsPrefix, route, HasPassCause};
-ghost use Rattle.commands.specs.Left.{IsOfPass};
-ghost use Rattle.commands.specs.One.{holding, IsPassFault};
+ghost use Rattle.outside.specs.Pass.{AppendsMadeBytes, AppendsPrefix, route, HasPassCause};
+ghost use Rattle.commands.specs.AfterCall.{HasPassNumbers};
+ghost use Rattle.commands.specs.SingleOutput.{files_holding, IsPassFault};
 
 use crate::fault::EditFault;
 use outside::{Folder, PassFault};
@@ -32,8 +32,8 @@ pub trait OutputPass: Drop {
     ) -> Result<(), PassFault>
         requires apart { input.now ≢ output.now }
         requires created { (old : Files) × IsReady self.old input.now old
-            × ((D.seen folder.old).files ≡ emptied old output.now) }
-        ensures written { OnOk result (Appends input.now output.now (file_of self.old)
+            × ((D.seen folder.old).files ≡ with_empty_file old output.now) }
+        ensures written { OnOk result (AppendsMadeBytes input.now output.now (file_of self.old)
             (D.seen folder.old).files (D.seen folder.new).files) }
         ensures prefix { IfErr result (AppendsPrefix input.now output.now (file_of self.old)
             (D.seen folder.old).files (D.seen folder.new).files) }
@@ -57,7 +57,7 @@ pub fn write_output<W: OutputPass, D: Folder>(
     requires apart { input.now ≢ output.now }
     requires ready { W.IsReady work.old input.now (D.seen folder.old).files }
     ensures written { OnOk result (OnFile (D.seen folder.old) input.now
-        (λ bytes. (D.seen folder.new).files ≡ holding (D.seen folder.old).files output.now
+        (λ bytes. (D.seen folder.new).files ≡ files_holding (D.seen folder.old).files output.now
         (W.file_of work.old bytes))) }
     ensures touches { OnlyTouches (output.now ∷ []) (D.seen folder.old).files
         (D.seen folder.new).files }
@@ -65,7 +65,7 @@ pub fn write_output<W: OutputPass, D: Folder>(
     ensures left { IfErr result (IsPassFault (W.file_of work.old) (input.now ∷ []) output.now
         (D.seen folder.old)
         (D.seen folder.new)) }
-    ensures numbers { IfErr result IsOfPass }
+    ensures numbers { IfErr result HasPassNumbers }
     ensures counts { NoneFell (D.seen folder.old).counts (D.seen folder.new).counts }
 {
     let Ok(()) = folder.create(output) else {

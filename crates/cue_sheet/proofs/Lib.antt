@@ -1,8 +1,8 @@
 -- The lemmas of this crate.
-pub mod NumbersLaws
-pub mod PartsLaws
-pub mod LinesLaws
-pub mod WordsLaws
-pub mod RisingLaws
-pub mod CuesLaws
-pub mod StartsLaws
+pub mod NumbersLemmas
+pub mod PartsLemmas
+pub mod LinesLemmas
+pub mod WordsLemmas
+pub mod RisingLemmas
+pub mod CuesLemmas
+pub mod StartsLemmas

@@ -1,13 +1,13 @@
 //! Cue sheets.
 ghost use Rattle.std.specs.Prelude.{◌≡◌, ◌≤◌, ◌++◌, ◌⊎◌, ◌∷◌, [], length, IfOk, OnOk, MatchResult, Ok, Err};
 ghost use Rattle.cue_sheet.specs.declared.cue_fault.CueFault.TheVariants.{Memory};
-ghost use Rattle.cue_sheet.specs.Cues.{places_of, entries_from, cue_in, cue_of, AreStarts};
+ghost use Rattle.cue_sheet.specs.Cues.{places_of, cue_entries_from, cue_in, cue_of, AreStarts};
 ghost use Rattle.cue_sheet.specs.Limits.{longest_sheet};
 
 use crate::cue_fault::CueFault;
-use crate::entry::{Entry, read_entry};
+use crate::entry::{CueEntry, read_entry};
 use crate::place::Place;
-use crate::seen::Seen;
+use crate::sheet_state::SheetState;
 use crate::words::{line_at, without_mark};
 use std::alloc::{AllocError, Global};
 use std::marker::Model;
@@ -16,11 +16,11 @@ use std::marker::Model;
 ///
 /// # Errors
 /// Where there is no memory.
-fn keep_start(starts: &mut Vec<Place>, entry: Entry) -> Result<(), AllocError>
+fn keep_start(starts: &mut Vec<Place>, entry: CueEntry) -> Result<(), AllocError>
     ensures kept { OnOk result
         (starts.new.items ≡ starts.old.items ++ places_of (entry ∷ [])) }
 {
-    if let Entry::Start(time) = entry {
+    if let CueEntry::Start(time) = entry {
         starts.push(Place::Time(time, 75))?;
     }
     Ok(())
@@ -30,14 +30,14 @@ fn keep_start(starts: &mut Vec<Place>, entry: Entry) -> Result<(), AllocError>
 fn read_lines(alloc: Global, text: &[u8]) -> Result<Vec<Place>, CueFault>
     requires { length text.now ≤ longest_sheet }
     ensures cue { MatchResult result
-        (λ starts. cue_in (entries_from text.now 0) ≡ Ok starts.items)
-        (λ fault. (fault ≡ Memory) ⊎ (cue_in (entries_from text.now 0) ≡ Err fault)) }
+        (λ starts. cue_in (cue_entries_from text.now 0) ≡ Ok starts.items)
+        (λ fault. (fault ≡ Memory) ⊎ (cue_in (cue_entries_from text.now 0) ≡ Err fault)) }
     ensures rising { IfOk result (λ starts. AreStarts starts.items) }
     ensures some { IfOk result (λ starts. 1 ≤ length starts.items) }
     ensures most { IfOk result (λ starts. length starts.items ≤ 99) }
 {
     let mut starts = Vec::new(alloc);
-    let mut seen = Seen::new();
+    let mut seen = SheetState::new();
     let mut at = 0;
     while at <= text.len() {
         let line = line_at(text, at);

@@ -51,7 +51,7 @@ pub fn read_steps(word: &[u8]) -> Option<i16>
 }
 
 /// The place of the first byte that is this one, or the length of the text where there is none.
-pub(crate) fn place_of(text: &[u8], byte: u8) -> usize
+pub(crate) fn position_of(text: &[u8], byte: u8) -> usize
     ensures place { result ≡ position_or_len (λ b. b == byte) text.now }
     ensures within { result ≤ length text.now }
 {

@@ -1,14 +1,14 @@
 //! What a line of a sheet says.
 ghost use Rattle.std.specs.Prelude.{◌≡◌, ◌∷◌};
 ghost use Rattle.cue_sheet.specs.Lines.{words_of};
-ghost use Rattle.cue_sheet.specs.Entries.{is_word as is_word_lem, is_track_number as is_track_number_lem, sheet_time, track_of, index_of, entry_of, of_two};
+ghost use Rattle.cue_sheet.specs.Entries.{is_word, is_track_number, sheet_time, track_of, index_of, cue_entry_of, two_word_entry};
 
 use crate::digits::read_number;
-use crate::words::{behind, front_of, next_word, read_pair};
+use crate::words::{next_word, read_pair, text_after, text_before};
 
 /// What a line says by itself, whatever lines are before it.
 #[derive(Clone, Copy)]
-pub(crate) enum Entry {
+pub(crate) enum CueEntry {
     /// A line that isn't read.
     Passed,
     File,
@@ -23,14 +23,14 @@ pub(crate) enum Entry {
 
 /// Whether the word is this keyword, compared without ASCII case.
 fn is_word(word: &[u8], keyword: &[u8]) -> bool
-    ensures { result ≡ is_word_lem word.now keyword.now }
+    ensures { result ≡ is_word word.now keyword.now }
 {
     word.eq_ignore_ascii_case(keyword)
 }
 
 /// Whether these are one or two digits of a number from 1 to 99.
 fn is_track_number(digits: &[u8]) -> bool
-    ensures { result ≡ is_track_number_lem digits.now }
+    ensures { result ≡ is_track_number digits.now }
 {
     match read_number(digits, 1, 2, 99) {
         Some(number) => number >= 1,
@@ -43,51 +43,52 @@ fn is_track_number(digits: &[u8]) -> bool
 fn read_time(word: &[u8]) -> Option<u32>
     ensures time { result ≡ sheet_time word.now }
 {
-    let rest = behind(word, b':');
-    let minutes = read_number(front_of(word, b':'), 2, 4, 9_999)?;
-    let seconds = read_number(front_of(rest, b':'), 2, 2, 59)?;
-    let frames = read_number(behind(rest, b':'), 2, 2, 74)?;
+    let rest = text_after(word, b':');
+    let minutes = read_number(text_before(word, b':'), 2, 4, 9_999)?;
+    let seconds = read_number(text_before(rest, b':'), 2, 2, 59)?;
+    let frames = read_number(text_after(rest, b':'), 2, 2, 74)?;
     Some((60 * minutes + seconds) * 75 + frames)
 }
 
 /// What is after `TRACK`: a number and `AUDIO`.
-fn read_track(rest: &[u8]) -> Entry
-    ensures { result ≡ of_two track_of (words_of rest.now) }
+fn read_track(rest: &[u8]) -> CueEntry
+    ensures { result ≡ two_word_entry track_of (words_of rest.now) }
 {
     match read_pair(rest) {
-        Some((number, kind)) if is_track_number(number) && is_word(kind, b"AUDIO") => Entry::Track,
-        _ => Entry::Broken,
+        Some((number, kind)) if is_track_number(number) && is_word(kind, b"AUDIO") =>
+            CueEntry::Track,
+        _ => CueEntry::Broken,
     }
 }
 
 /// An index with this number at this time.
-fn index_at(number: &[u8], time: &[u8]) -> Entry
+fn index_at(number: &[u8], time: &[u8]) -> CueEntry
     ensures { result ≡ index_of number.now time.now }
 {
     match (read_number(number, 1, 2, 99), read_time(time)) {
-        (Some(1), Some(time)) => Entry::Start(time),
-        (Some(_), Some(_)) => Entry::Index,
-        _ => Entry::Broken,
+        (Some(1), Some(time)) => CueEntry::Start(time),
+        (Some(_), Some(_)) => CueEntry::Index,
+        _ => CueEntry::Broken,
     }
 }
 
 /// What is after `INDEX`: a number and a time.
-fn read_index(rest: &[u8]) -> Entry
-    ensures { result ≡ of_two index_of (words_of rest.now) }
+fn read_index(rest: &[u8]) -> CueEntry
+    ensures { result ≡ two_word_entry index_of (words_of rest.now) }
 {
     match read_pair(rest) {
         Some((number, time)) => index_at(number, time),
-        None => Entry::Broken,
+        None => CueEntry::Broken,
     }
 }
 
 /// What a line says, by its first word and what is after it.
-#[tactic(auto, unfolding(crate::specs::Entries::entry_of))]
-fn entry_behind(first: &[u8], rest: &[u8]) -> Entry
-    ensures { result ≡ entry_of (first.now ∷ words_of rest.now) }
+#[tactic(auto, unfolding(crate::specs::Entries::cue_entry_of))]
+fn entry_behind(first: &[u8], rest: &[u8]) -> CueEntry
+    ensures { result ≡ cue_entry_of (first.now ∷ words_of rest.now) }
 {
     if is_word(first, b"FILE") {
-        return Entry::File;
+        return CueEntry::File;
     }
     if is_word(first, b"TRACK") {
         return read_track(rest);
@@ -95,16 +96,16 @@ fn entry_behind(first: &[u8], rest: &[u8]) -> Entry
     if is_word(first, b"INDEX") {
         return read_index(rest);
     }
-    Entry::Passed
+    CueEntry::Passed
 }
 
 /// What a line says by itself.
-#[tactic(auto, unfolding(crate::specs::Entries::entry_of))]
-pub(crate) fn read_entry(line: &[u8]) -> Entry
-    ensures { result ≡ entry_of (words_of line.now) }
+#[tactic(auto, unfolding(crate::specs::Entries::cue_entry_of))]
+pub(crate) fn read_entry(line: &[u8]) -> CueEntry
+    ensures { result ≡ cue_entry_of (words_of line.now) }
 {
     match next_word(line) {
         Some(first) => entry_behind(first.word, first.rest),
-        None => Entry::Passed,
+        None => CueEntry::Passed,
     }
 }

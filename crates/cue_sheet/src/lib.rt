@@ -9,7 +9,7 @@ mod cue_fault;
 pub mod digits;
 mod entry;
 mod place;
-mod seen;
+mod sheet_state;
 pub mod words;
 
 pub use cue::Cue;

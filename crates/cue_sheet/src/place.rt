@@ -1,9 +1,9 @@
 //! Positions in a stream.
 ghost use Rattle.std.specs.Prelude.{◌≡◌, ◌<◌, ◌≤◌, ◌^◌, IfSome};
 ghost use Rattle.cue_sheet.specs.declared.place.Place.TheVariants.{End};
-ghost use Rattle.cue_sheet.specs.Places.{place_of as place_of_lem, time_of, hundredths_of, frame_at, IsPlace};
+ghost use Rattle.cue_sheet.specs.Places.{place_of, time_of, hundredths_of, frame_at, IsPlace};
 
-use crate::digits::{place_of, read_number};
+use crate::digits::{position_of, read_number};
 use frame_header::Class;
 
 /// A position: a place between the frames of a stream. Frames are counted from 0, without a head.
@@ -44,7 +44,7 @@ fn read_time(minutes: &[u8], rest: &[u8]) -> Option<Place>
     ensures time { result ≡ time_of minutes.now rest.now }
     ensures place { IfSome result IsPlace }
 {
-    let end = place_of(rest, b'.');
+    let end = position_of(rest, b'.');
     let minutes = read_number(minutes, 1, 4, 9_999)?;
     let seconds = read_number(&rest[..end], 1, 2, 59)?;
     let hundredths = read_hundredths(&rest[end..])?;
@@ -58,7 +58,7 @@ impl Place {
     /// dot and one or two digits: minutes, seconds and hundredths of a second. A single digit counts
     /// hundredths too. `None` exactly for every other word.
     pub fn read(word: &str) -> Option<Place>
-        ensures place { result ≡ place_of_lem word.now }
+        ensures place { result ≡ place_of word.now }
         ensures sound { IfSome result IsPlace }
     {
         Place::of_word(word.as_bytes())
@@ -66,13 +66,13 @@ impl Place {
 
     /// The same of a word of a sheet, whose bytes needn't be UTF-8.
     pub fn of_word(word: &[u8]) -> Option<Place>
-        ensures place { result ≡ place_of_lem word.now }
+        ensures place { result ≡ place_of word.now }
         ensures sound { IfSome result IsPlace }
     {
         if word == b"EOF".as_slice() {
             return Some(Place::End);
         }
-        let end = place_of(word, b'.');
+        let end = position_of(word, b'.');
         if end == word.len() {
             return read_number(word, 1, 7, 9_999_999).map(Place::Frame);
         }

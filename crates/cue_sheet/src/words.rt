@@ -2,9 +2,9 @@
 ghost use Rattle.std.specs.Prelude.{◌≡◌, ◌+◌, ◌<◌, ◌≤◌, ◌==◌, [], ◌∷◌, length, MatchOption};
 ghost use Rattle.std.specs.List.{prefix_len, position_or_len, before_first, after_first};
 ghost use Rattle.std.specs.Str.Lines.{strip_carriage_return};
-ghost use Rattle.cue_sheet.specs.Lines.{is_blank as is_blank_lem, words_of, lines_from, HasNotTwo, without_mark as without_mark_lem};
+ghost use Rattle.cue_sheet.specs.Lines.{is_blank, words_of, lines_from, HasNotTwo, without_mark};
 
-use crate::digits::place_of;
+use crate::digits::position_of;
 
 /// A line, without one carriage return at its end, and where the next one begins.
 #[derive(Clone, Copy)]
@@ -20,7 +20,7 @@ pub fn line_at(text: &[u8], at: usize) -> LineAt<'_>
     ensures on { at < result.next }
     ensures within { result.next ≤ length text.now + 1 }
 {
-    let line = front_of(&text[at..], b'\n');
+    let line = text_before(&text[at..], b'\n');
     LineAt {
         line: without_return(line),
         next: at + line.len() + 1,
@@ -29,7 +29,7 @@ pub fn line_at(text: &[u8], at: usize) -> LineAt<'_>
 
 /// The bytes without a byte order mark at their beginning.
 pub fn without_mark(bytes: &[u8]) -> &[u8]
-    ensures { result.now ≡ without_mark_lem bytes.now }
+    ensures { result.now ≡ without_mark bytes.now }
 {
     match bytes {
         [0xef, 0xbb, 0xbf, rest @ ..] => rest,
@@ -38,17 +38,17 @@ pub fn without_mark(bytes: &[u8]) -> &[u8]
 }
 
 /// What is before the first byte that is this one, or all of the text where there is none.
-pub fn front_of(text: &[u8], byte: u8) -> &[u8]
+pub fn text_before(text: &[u8], byte: u8) -> &[u8]
     ensures { result.now ≡ before_first (λ b. b == byte) text.now }
 {
-    &text[..place_of(text, byte)]
+    &text[..position_of(text, byte)]
 }
 
 /// What is after the first byte that is this one, or nothing where there is none.
-pub fn behind(text: &[u8], byte: u8) -> &[u8]
+pub fn text_after(text: &[u8], byte: u8) -> &[u8]
     ensures { result.now ≡ after_first (λ b. b == byte) text.now }
 {
-    let end = place_of(text, byte);
+    let end = position_of(text, byte);
     if end == text.len() {
         return &[];
     }
@@ -66,14 +66,14 @@ fn without_return(line: &[u8]) -> &[u8]
 }
 
 fn is_blank(byte: u8) -> bool
-    ensures { result ≡ is_blank_lem byte }
+    ensures { result ≡ is_blank byte }
 {
     byte == b' ' || byte == b'\t'
 }
 
 /// With how many blanks the text begins.
 fn blanks(text: &[u8]) -> usize
-    ensures blanks { result ≡ prefix_len is_blank_lem text.now }
+    ensures blanks { result ≡ prefix_len is_blank text.now }
     ensures within { result ≤ length text.now }
 {
     let mut count = 0;
@@ -85,7 +85,7 @@ fn blanks(text: &[u8]) -> usize
 
 /// How many bytes are before the first blank.
 fn word_length(text: &[u8]) -> usize
-    ensures word { result ≡ position_or_len is_blank_lem text.now }
+    ensures word { result ≡ position_or_len is_blank text.now }
     ensures within { result ≤ length text.now }
 {
     let mut count = 0;

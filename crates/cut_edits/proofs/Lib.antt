@@ -1,8 +1,8 @@
 -- The lemmas of this crate.
-pub mod LaidPass
-pub mod ChosenLaws
-pub mod HeadLaws
-pub mod SpanLaws
-pub mod SealedLaws
-pub mod PieceLaws
-pub mod PlayLaws
+pub mod LaidPassLemmas
+pub mod ChosenLemmas
+pub mod HeadLemmas
+pub mod SpanLemmas
+pub mod SealedLemmas
+pub mod PieceLemmas
+pub mod PlayLemmas

@@ -2,18 +2,18 @@
 use Rattle.std.specs.Prelude.{Bool, Err, false, if◌then◌else◌, length, List, map, nat_le, nat_lt}
 use Rattle.std.specs.Prelude.{None, Ok, Option, replicate, Result, slice_range, Some, true, ℕ, []}
 use Rattle.std.specs.Prelude.{◌&&◌, ◌<◌, ◌∷◌, ◌≡◌, ◌≤◌, ◌⊎◌}
-use Rattle.commands.specs.{Command.Command, One.{file_task, Making, most_frames, one_command, Task}}
-use Rattle.commands.specs.{Refusing.{then_made, unless}, declared.fault.EditFault.EditFault}
-use Rattle.commands.specs.declared.fault.Refusal.{Refusal, TheVariants.Range}
+use Rattle.commands.specs.{Command.Command, Refusing.{refusal_or, then_made}}
+use Rattle.commands.specs.SingleOutput.{file_task, Making, most_frames, one_command, Task}
+use Rattle.commands.specs.declared.fault.{EditFault.EditFault, Refusal.{Refusal, TheVariants.Range}}
 use Rattle.cue_sheet.specs.{Places.frame_at, declared.place.Place.Place}
 use Rattle.cut_edits.specs.declared.chosen.Chosen.{Chosen as CodeChosen}
 use Rattle.frame_header.specs.{Fields.{ClassFields, HeaderFields, SlotFields}, Tables.window_of}
-use Rattle.laying.specs.Laid.{file_laid, IsWritable, Laid, laid_in, part_laid, stream_laid}
-use Rattle.laying.specs.{Needs.need_of, NeedsFit.{any_choice, own_choice}, Relaid.Part}
-use Rattle.laying.specs.{Written.head_info, declared.selected.Selected.Selected}
+use Rattle.laying.specs.Laid.{file_laid, IsWritableSelection, LaidPart, selected_part, source_part}
+use Rattle.laying.specs.{Laid.stream_laid, Needs.need_of, NeedsFit.{any_choice, own_choice}}
+use Rattle.laying.specs.{Relaid.FilePart, Written.head_info, declared.selected.Selected.Selected}
 use Rattle.slot_plan.specs.{LeastPlan.least_plan, declared.needs.{Need.Need, Placed.Placed}}
 use Rattle.sync_survey.specs.{Faults.SurveyFields, MainData.StreamFrame, Row.Row}
-use Rattle.sync_survey.specs.Survey.{IsLaidOut, survey_of}
+use Rattle.sync_survey.specs.Survey.{IsSurveyLaidOut, survey_of}
 use Rattle.sync_survey.specs.declared.survey_fault.SurveyFault.{SurveyFault}
 
 -- ---- what is chosen
@@ -27,8 +27,8 @@ pub record Chosen : Type 0 where
   pub extension : List ℕ
 
 -- there is a frame between them, and all are there, of a survey with at most so many frames
-pub record AreThere (most : ℕ) (chosen : Chosen) (s : SurveyFields) : Type 0 where
-  pub laid : IsLaidOut s
+pub record AreChosenThere (most : ℕ) (chosen : Chosen) (s : SurveyFields) : Type 0 where
+  pub laid : IsSurveyLaidOut s
   pub few : length s.frames ≤ most
   pub some : chosen.from < chosen.to
   pub within : chosen.to ≤ length s.frames
@@ -54,12 +54,12 @@ abbrev pub chosen_rows : Chosen → SurveyFields → List Row
 chosen_rows chosen s = slice_range s.frames chosen.from chosen.to
 
 -- what they need, which is what is planned
-abbrev pub needs_of : Chosen → SurveyFields → List Need
-needs_of chosen s = map need_of (chosen_rows chosen s)
+abbrev pub chosen_needs : Chosen → SurveyFields → List Need
+chosen_needs chosen s = map need_of (chosen_rows chosen s)
 
 -- each frame keeps its own slot, or may have any
-abbrev pub AreUsual : (HeaderFields → List SlotFields) → Type 0
-AreUsual choices = (choices ≡ own_choice) ⊎ (choices ≡ any_choice)
+abbrev pub AreUsualChoices : (HeaderFields → List SlotFields) → Type 0
+AreUsualChoices choices = (choices ≡ own_choice) ⊎ (choices ≡ any_choice)
 
 -- The slots of their plan: of all lists the first, in the order of areas, for which there is a
 -- layout, after a lead-in only where there is none without.
@@ -67,12 +67,12 @@ abbrev pub first_plan : (HeaderFields → List SlotFields) → ClassFields → L
 first_plan choices class needs = least_plan (window_of class.version) choices (needs ∷ [])
 
 -- that of their own slots
-abbrev pub plan_of : Chosen → SurveyFields → List Placed
-plan_of chosen s = first_plan own_choice s.class (needs_of chosen s)
+abbrev pub own_slots_plan : Chosen → SurveyFields → List Placed
+own_slots_plan chosen s = first_plan own_choice s.class (chosen_needs chosen s)
 
 -- the chosen frames in the slots of a plan
-abbrev pub laid_by : Chosen → List Placed → Laid
-laid_by chosen placed = record {
+abbrev pub placed_part : Chosen → List Placed → LaidPart
+placed_part chosen placed = record {
   from = chosen.from;
   to = chosen.to;
   placed = placed;
@@ -83,26 +83,27 @@ laid_by chosen placed = record {
 -- these were made ready: the chosen frames in the slots of their plan, which can be written
 pub record IsSelected (choices : HeaderFields → List SlotFields) (chosen : Chosen)
     (s : SurveyFields) (selected : Selected) : Type 0 where
-  pub laid : laid_in selected ≡ laid_by chosen (first_plan choices s.class (needs_of chosen s))
-  pub writable : IsWritable s selected
+  pub laid : selected_part selected
+      ≡ placed_part chosen (first_plan choices s.class (chosen_needs chosen s))
+  pub writable : IsWritableSelection s selected
 
 -- the chosen frames in their own slots
-abbrev pub laid_of : Chosen → SurveyFields → Laid
-laid_of chosen s = laid_by chosen (plan_of chosen s)
+abbrev pub own_slots_part : Chosen → SurveyFields → LaidPart
+own_slots_part chosen s = placed_part chosen (own_slots_plan chosen s)
 
 -- the chosen frames as a part of their file
-abbrev pub part_of : Chosen → List ℕ → SurveyFields → Part
-part_of chosen file s = part_laid (laid_of chosen s) file s
+abbrev pub chosen_file_part : Chosen → List ℕ → SurveyFields → FilePart
+chosen_file_part chosen file s = source_part (own_slots_part chosen s) file s
 
 -- the file of the chosen frames in their own slots: the ID3v2 blocks before the first frame or the
 -- head; an Info frame by the header of the first chosen frame; the lead-in and the frames, with all
 -- main data laid into their slots; all other blocks in their order
 unfoldable pub chosen_file : Chosen → List ℕ → SurveyFields → List ℕ
-chosen_file chosen file s = file_laid (laid_of chosen s) file s
+chosen_file chosen file s = file_laid (own_slots_part chosen s) file s
 
 -- its stream: at most one lead-in, and the frames as they are in the stream of the file
 unfoldable pub chosen_stream : Chosen → List ℕ → SurveyFields → List StreamFrame
-chosen_stream chosen file s = stream_laid (laid_of chosen s) file s
+chosen_stream chosen file s = stream_laid (own_slots_part chosen s) file s
 
 -- ---- the commands
 
@@ -119,43 +120,45 @@ abbrev pub first_planning : (HeaderFields → List SlotFields) → Planning
 first_planning choices class needs = Ok (first_plan choices class needs)
 
 -- these frames in the slots of their plan
-abbrev pub laid_as : Planning → SurveyFields → Chosen → Result Laid EditFault
-laid_as plan s chosen =
-    then_made (plan s.class (needs_of chosen s)) (λ placed. Ok (laid_by chosen placed))
+abbrev pub planned_part : Planning → SurveyFields → Chosen → Result LaidPart EditFault
+planned_part plan s chosen =
+    then_made (plan s.class (chosen_needs chosen s)) (λ placed. Ok (placed_part chosen placed))
 
 -- what such a command lays of a file with this survey, or why it refuses it
-unfoldable pub laid_with : Choosing → Planning → List ℕ → SurveyFields → Result Laid EditFault
-laid_with choose plan file s = then_made (choose file s) (laid_as plan s)
+unfoldable pub laying_part : Choosing → Planning → List ℕ → SurveyFields → Result LaidPart EditFault
+laying_part choose plan file s = then_made (choose file s) (planned_part plan s)
 
 -- the file of it
-abbrev pub laying_with : Choosing → Planning → Making
-laying_with choose plan file s =
-    then_made (laid_with choose plan file s) (λ laid. Ok (file_laid laid file s))
+abbrev pub laying_making : Choosing → Planning → Making
+laying_making choose plan file s =
+    then_made (laying_part choose plan file s) (λ laid. Ok (file_laid laid file s))
 
 -- the stream of what is laid; empty where nothing is
-abbrev pub stream_if : List ℕ → SurveyFields → Result Laid EditFault → List StreamFrame
-stream_if file s (Err fault) = []
-stream_if file s (Ok laid) = stream_laid laid file s
+abbrev pub laid_stream_or_none : List ℕ → SurveyFields → Result LaidPart EditFault
+    → List StreamFrame
+laid_stream_or_none file s (Err fault) = []
+laid_stream_or_none file s (Ok laid) = stream_laid laid file s
 
 -- that of a file with this survey; empty where it has a fault
-abbrev pub stream_by : Choosing → Planning → List ℕ → Result SurveyFields SurveyFault
+abbrev pub surveyed_laid_stream : Choosing → Planning → List ℕ → Result SurveyFields SurveyFault
     → List StreamFrame
-stream_by choose plan file (Err fault) = []
-stream_by choose plan file (Ok s) = stream_if file s (laid_with choose plan file s)
+surveyed_laid_stream choose plan file (Err fault) = []
+surveyed_laid_stream choose plan file (Ok s) =
+    laid_stream_or_none file s (laying_part choose plan file s)
 
 -- the stream of what is written; empty where nothing is written
-abbrev pub stream_with : Choosing → Planning → List ℕ → List StreamFrame
-stream_with choose plan file = stream_by choose plan file (survey_of file most_frames)
+abbrev pub laying_stream : Choosing → Planning → List ℕ → List StreamFrame
+laying_stream choose plan file = surveyed_laid_stream choose plan file (survey_of file most_frames)
 
 -- what is made is the file of the chosen frames in the slots of their plan
 abbrev pub laying_task : Choosing → Planning → (Refusal → Bool) → List ℕ → Task
 laying_task choose plan refuses input =
-    file_task (laying_with choose plan) (stream_with choose plan) refuses input
+    file_task (laying_making choose plan) (laying_stream choose plan) refuses input
 
 -- the frames between two numbers, if there is one and all are there
-abbrev pub chosen_with : Option ℕ → List ℕ → ℕ → ℕ → ℕ → Result Chosen EditFault
-chosen_with quality extension from to frames =
-    unless (outside_fault from to frames) (record {
+abbrev pub chosen_range : Option ℕ → List ℕ → ℕ → ℕ → ℕ → Result Chosen EditFault
+chosen_range quality extension from to frames =
+    refusal_or (outside_fault from to frames) (record {
       from = from;
       to = to;
       quality = quality;
@@ -166,14 +169,14 @@ chosen_with quality extension from to frames =
 -- 0
 unfoldable pub cut_choice : Place → Place → Choosing
 cut_choice from to file s =
-    chosen_with None (replicate 36 0)
+    chosen_range None (replicate 36 0)
     (frame_at s.class (length s.frames) from) (frame_at s.class (length s.frames) to)
     (length s.frames)
 
 -- all frames, with the quality and extension that the head has
 unfoldable pub all_choice : Choosing
 all_choice file s =
-    chosen_with (head_info file s.head).quality (head_info file s.head).extension
+    chosen_range (head_info file s.head).quality (head_info file s.head).extension
     0 (length s.frames) (length s.frames)
 
 -- a cut may refuse its positions
@@ -186,15 +189,15 @@ abbrev pub pack_refuses : Refusal → Bool
 pack_refuses refusal = false
 
 -- each frame gets the least slot, or keeps its own
-abbrev pub choices_by : Bool → HeaderFields → List SlotFields
-choices_by true = any_choice
-choices_by false = own_choice
+abbrev pub slot_choices : Bool → HeaderFields → List SlotFields
+slot_choices true = any_choice
+slot_choices false = own_choice
 
 -- the input's frames between two positions are the output
 abbrev pub cut_command : Place → Place → Bool → List ℕ → List ℕ → Command
 cut_command from to least input output =
     one_command
-    (laying_task (cut_choice from to) (first_planning (choices_by least)) cut_refuses input)
+    (laying_task (cut_choice from to) (first_planning (slot_choices least)) cut_refuses input)
     output
 
 -- all frames of the input, in the least slots, are the output

@@ -3,9 +3,10 @@
 use Rattle.std.specs.Prelude.{Bool, Err, false, if◌then◌else◌, length, List, map, nat_le, nat_lt}
 use Rattle.std.specs.Prelude.{None, Ok, Option, option_and_then, Result, slice_get, slice_range}
 use Rattle.std.specs.Prelude.{Some, true, ℕ, [], ◌&&◌, ◌+◌, ◌-◌, ◌<◌, ◌≤◌}
-use Rattle.commands.specs.{Command.Command, One.{file_task, Making, most_frames, one_command, Task}}
-use Rattle.commands.specs.{Refusing.{then_made, unless}, declared.fault.EditFault.EditFault}
-use Rattle.commands.specs.declared.fault.Refusal.{Refusal, TheVariants.Span as NoSpan}
+use Rattle.commands.specs.{Command.Command, Refusing.{refusal_or, then_made}}
+use Rattle.commands.specs.SingleOutput.{file_task, Making, most_frames, one_command, Task}
+use Rattle.commands.specs.declared.fault.{EditFault.EditFault, Refusal.Refusal}
+use Rattle.commands.specs.declared.fault.Refusal.TheVariants.{Span as NoSpan}
 use Rattle.cut_edits.specs.Chosen.{first_plan}
 use Rattle.exact_span.specs.{Extensions.extension_of, Places.sample_at}
 use Rattle.exact_span.specs.PlayedPositions.{length_of_played, played_of}
@@ -14,10 +15,11 @@ use Rattle.exact_span.specs.declared.{exact_place.ExactPlace.ExactPlace, played.
 use Rattle.exact_span.specs.declared.span.Span.{Span}
 use Rattle.frame_header.specs.{Fields.ClassFields, Tables.window_of}
 use Rattle.info_header.specs.declared.fields.Info.{Info}
-use Rattle.laying.specs.{KeptFields.fields_of_head, Laid.{file_laid, info_laid, Laid, stream_laid}}
-use Rattle.laying.specs.{Needs.need_of, NeedsFit.own_choice}
+use Rattle.laying.specs.KeptFields.{fields_of_head}
+use Rattle.laying.specs.{Laid.{file_laid, info_laid, LaidPart, stream_laid}, Needs.need_of}
+use Rattle.laying.specs.NeedsFit.{own_choice}
 use Rattle.slot_plan.specs.{LeastPlan.led_plan, declared.needs.{Need.Need, Placed.Placed}}
-use Rattle.sync_survey.specs.{Faults.SurveyFields, HeadApart.{emptied, head_apart}}
+use Rattle.sync_survey.specs.{Faults.SurveyFields, HeadApart.{emptied_survey, head_apart}}
 use Rattle.sync_survey.specs.{MainData.StreamFrame, Row.Row, Survey.survey_of}
 use Rattle.sync_survey.specs.declared.survey_fault.SurveyFault.{SurveyFault}
 
@@ -34,12 +36,12 @@ span_between class played from to =
     let samples = length_of_played played in
     let a = sample_at class samples from in
     let b = sample_at class samples to in
-    unless (samples_fault a b samples) (span_of class (played.start + a) (played.start + b))
+    refusal_or (samples_fault a b samples) (span_of class (played.start + a) (played.start + b))
 
 -- that of a file with this head and this survey
-unfoldable pub span_in : ExactPlace → ExactPlace → Option Info → SurveyFields
+unfoldable pub file_span : ExactPlace → ExactPlace → Option Info → SurveyFields
     → Result Span EditFault
-span_in from to head s = span_between s.class (played_of head s.class (length s.frames)) from to
+file_span from to head s = span_between s.class (played_of head s.class (length s.frames)) from to
 
 -- its frames are there
 pub record IsSpanIn (s : SurveyFields) (span : Span) : Type 0 where
@@ -52,89 +54,92 @@ pub record IsSpanIn (s : SurveyFields) (span : Span) : Type 0 where
 -- The head's area isn't main data here, since players leave the head out:
 -- a frame whose main data begin in it is lost too, if every frame before
 -- it is silent or lost. Lost frames are as they are written, empty ones.
-abbrev pub apart : SurveyFields → SurveyFields
-apart s = emptied (head_apart s)
+abbrev pub survey_without_head : SurveyFields → SurveyFields
+survey_without_head s = emptied_survey (head_apart s)
 
 -- ---- the piece
 
 -- the frames of a span, each with what it needs
-abbrev pub needs_in : Span → SurveyFields → List Need
-needs_in span s = map need_of (slice_range s.frames span.first span.last)
+abbrev pub span_needs : Span → SurveyFields → List Need
+span_needs span s = map need_of (slice_range s.frames span.first span.last)
 
 -- In their own slots: of all lists the first for which there is a layout. A lead-in is before
 -- them where the span has to have one, and else only where there is no layout without.
-abbrev pub plan_with : Bool → ClassFields → List Need → List Placed
-plan_with led class needs = if led then led_plan (window_of class.version) own_choice needs
+abbrev pub span_plan : Bool → ClassFields → List Need → List Placed
+span_plan led class needs = if led then led_plan (window_of class.version) own_choice needs
     else first_plan own_choice class needs
 
 -- how many lead-ins are among these slots
-abbrev pub leads_in : Span → List Placed → ℕ
-leads_in span placed = length placed - (span.last - span.first)
+abbrev pub span_lead_ins : Span → List Placed → ℕ
+span_lead_ins span placed = length placed - (span.last - span.first)
 
 -- the quality of the head, if there is one
 abbrev pub quality_of : Option Info → Option ℕ
 quality_of head = option_and_then (λ (info : Info). info.quality) head
 
 -- the extension for the Info frame: that of the head with the delay and the padding of the span
-abbrev pub numbered : Option Info → ClassFields → Span → List Placed → List ℕ
-numbered head class span placed =
-    extension_of head (delay_of class (leads_in span placed) span) (padding_of span)
+abbrev pub span_extension : Option Info → ClassFields → Span → List Placed → List ℕ
+span_extension head class span placed =
+    extension_of head (delay_of class (span_lead_ins span placed) span) (padding_of span)
 
 -- the frames of a span in their slots, and the fields for their Info frame
-abbrev pub laid_span : Option Info → Span → SurveyFields → Laid
-laid_span head span s =
-    let placed = plan_with span.led s.class (needs_in span s) in
+abbrev pub span_part : Option Info → Span → SurveyFields → LaidPart
+span_part head span s =
+    let placed = span_plan span.led s.class (span_needs span s) in
     record {
       from = span.first;
       to = span.last;
       placed = placed;
       quality = quality_of head;
       extension =
-          numbered head s.class span placed;
+          span_extension head s.class span placed;
     }
 
 -- the same with music length and tag CRC in the extension, by the header of the first chosen frame
-abbrev pub sealed_from : Option Row → Laid → List ℕ → SurveyFields → Laid
-sealed_from None laid file s = laid
-sealed_from (Some first) laid file s =
+abbrev pub row_sealed_part : Option Row → LaidPart → List ℕ → SurveyFields → LaidPart
+row_sealed_part None laid file s = laid
+row_sealed_part (Some first) laid file s =
     record laid { extension = (sealed_info first.header (info_laid laid file s)).extension }
 
 -- the same of what is laid of a file
-abbrev pub sealed_laid : Laid → List ℕ → SurveyFields → Laid
-sealed_laid laid file s = sealed_from (slice_get s.frames laid.from) laid file s
+abbrev pub sealed_part : LaidPart → List ℕ → SurveyFields → LaidPart
+sealed_part laid file s = row_sealed_part (slice_get s.frames laid.from) laid file s
 
 -- the piece of a span, by the survey whose head is set apart
-unfoldable pub piece_of : Option Info → Span → List ℕ → SurveyFields → Laid
-piece_of head span file s = sealed_laid (laid_span head span s) file s
+unfoldable pub span_piece : Option Info → Span → List ℕ → SurveyFields → LaidPart
+span_piece head span file s = sealed_part (span_part head span s) file s
 
 -- ---- the command
 
 -- what is laid of a file with this survey, or why it is refused
-unfoldable pub exact_laid : ExactPlace → ExactPlace → List ℕ → SurveyFields → Result Laid EditFault
-exact_laid from to file s =
+unfoldable pub exact_part : ExactPlace → ExactPlace → List ℕ → SurveyFields
+    → Result LaidPart EditFault
+exact_part from to file s =
     let head = fields_of_head file s.head in
-    then_made (span_in from to head s) (λ span. Ok (piece_of head span file (apart s)))
+    then_made (file_span from to head s)
+    (λ span. Ok (span_piece head span file (survey_without_head s)))
 
 -- the file of it
 abbrev pub exact_making : ExactPlace → ExactPlace → Making
 exact_making from to file s =
-    then_made (exact_laid from to file s) (λ laid. Ok (file_laid laid file (apart s)))
+    then_made (exact_part from to file s) (λ laid. Ok (file_laid laid file (survey_without_head s)))
 
 -- its stream: at most one lead-in, and the frames of the
 -- span as they are in the stream whose head is set apart
-abbrev pub stream_if : List ℕ → SurveyFields → Result Laid EditFault → List StreamFrame
-stream_if file s (Err fault) = []
-stream_if file s (Ok laid) = stream_laid laid file (apart s)
+abbrev pub exact_stream_or_none : List ℕ → SurveyFields → Result LaidPart EditFault
+    → List StreamFrame
+exact_stream_or_none file s (Err fault) = []
+exact_stream_or_none file s (Ok laid) = stream_laid laid file (survey_without_head s)
 
 -- that of a file with this survey; empty where it has a fault
-abbrev pub stream_by : ExactPlace → ExactPlace → List ℕ → Result SurveyFields SurveyFault
-    → List StreamFrame
-stream_by from to file (Err fault) = []
-stream_by from to file (Ok s) = stream_if file s (exact_laid from to file s)
+abbrev pub exact_surveyed_stream : ExactPlace → ExactPlace → List ℕ
+    → Result SurveyFields SurveyFault → List StreamFrame
+exact_surveyed_stream from to file (Err fault) = []
+exact_surveyed_stream from to file (Ok s) = exact_stream_or_none file s (exact_part from to file s)
 
 -- that of a file; empty where it is refused
 abbrev pub exact_stream : ExactPlace → ExactPlace → List ℕ → List StreamFrame
-exact_stream from to file = stream_by from to file (survey_of file most_frames)
+exact_stream from to file = exact_surveyed_stream from to file (survey_of file most_frames)
 
 -- it may refuse its places
 abbrev pub exact_refuses : Refusal → Bool

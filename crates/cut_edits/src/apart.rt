@@ -1,14 +1,14 @@
 //! The stream of a file whose head is set apart.
 ghost use Rattle.std.specs.Prelude.{◌≡◌};
-ghost use Rattle.sync_survey.specs.Faults.{tells};
-ghost use Rattle.cut_edits.specs.Exact.{apart};
+ghost use Rattle.sync_survey.specs.Faults.{survey_view};
+ghost use Rattle.cut_edits.specs.Exact.{survey_without_head};
 
 use sync_survey::Survey;
 
 /// Sets the head apart from the stream, as players do: a frame whose main data begin in the head's area is lost too, if every
 /// frame before it is silent or lost. All lost frames are empty then.
 pub fn set_apart(survey: &mut Survey)
-    ensures { tells survey.new ≡ apart (tells survey.old) }
+    ensures { survey_view survey.new ≡ survey_without_head (survey_view survey.old) }
 {
     survey.head_apart();
     survey.empty_lost();

@@ -5,7 +5,7 @@ ghost use Rattle.commands.specs.Runs.{IsRunOf};
 ghost use Rattle.cut_edits.specs.Chosen.{cut_command, pack_command};
 ghost use Rattle.cut_edits.specs.Exact.{exact_command};
 
-use crate::choice::Choice;
+use crate::choice::FrameChoice;
 use crate::edit::FrameEdit;
 use crate::exact_edit::ExactEdit;
 use commands::{EditFault, make_one};
@@ -47,7 +47,7 @@ pub fn cut<D: Folder>(
 {
     let edit = FrameEdit {
         input,
-        choice: Choice::Between(from, to),
+        choice: FrameChoice::Between(from, to),
         least,
     };
     make_one(alloc, folder, &edit, output)
@@ -73,7 +73,7 @@ pub fn pack<D: Folder>(
 {
     let edit = FrameEdit {
         input,
-        choice: Choice::All,
+        choice: FrameChoice::All,
         least: true,
     };
     make_one(alloc, folder, &edit, output)

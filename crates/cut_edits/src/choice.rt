@@ -1,15 +1,15 @@
 //! Which frames of a file the commands of this crate choose.
 ghost use Rattle.std.specs.Prelude.{◌≡◌, ◌<◌, ◌≤◌, Bool, ℕ, List, length, Ok, Err, MatchResult, IfOk, IfErr};
-ghost use Rattle.outside.specs.Files.{IsThere};
+ghost use Rattle.outside.specs.Files.{IsFileThere};
 ghost use Rattle.outside.specs.Seen.{OnFile, OnlyRead};
 ghost use Rattle.cue_sheet.specs.Places.{IsPlace};
-ghost use Rattle.sync_survey.specs.Faults.{tells};
-ghost use Rattle.sync_survey.specs.Survey.{survey_of, IsLaidOut};
-ghost use Rattle.commands.specs.Left.{IsOfInput, IsRefusal};
-ghost use Rattle.commands.specs.One.{most_frames, IsInputFault, Making};
+ghost use Rattle.sync_survey.specs.Faults.{survey_view};
+ghost use Rattle.sync_survey.specs.Survey.{survey_of, IsSurveyLaidOut};
+ghost use Rattle.commands.specs.AfterCall.{HasInputNumbers, IsEditRefusal};
+ghost use Rattle.commands.specs.SingleOutput.{most_frames, IsInputFault, Making};
 ghost use Rattle.commands.specs.declared.fault.Refusal.{Refusal};
-ghost use Rattle.cut_edits.specs.Chosen.{chosen_in, Planning, laying_with, cut_choice as cut_choice_lem, all_choice as all_choice_lem, cut_refuses};
-ghost use Rattle.cut_edits.specs.Choices.{choosing_by, refused_by, IsChoice};
+ghost use Rattle.cut_edits.specs.Chosen.{chosen_in, Planning, laying_making, cut_choice, all_choice, cut_refuses};
+ghost use Rattle.cut_edits.specs.Choices.{choosing_of, refuses_of_choice, IsSoundChoice};
 
 use crate::chosen::{Chosen, choose};
 use commands::EditFault;
@@ -20,7 +20,7 @@ use sync_survey::Survey;
 
 /// Which frames are chosen.
 #[derive(Clone, Copy)]
-pub enum Choice<'a> {
+pub enum FrameChoice<'a> {
     /// Those from the first position up to, but not including, the second.
     Between(&'a Place, &'a Place),
     /// All, with the quality and extension that the head of the input has.
@@ -32,15 +32,15 @@ pub enum Choice<'a> {
 pub fn cut_choice(survey: &Survey, from: &Place, to: &Place) -> Result<Chosen, EditFault>
     requires from { IsPlace from.now }
     requires to { IsPlace to.now }
-    requires few { length (tells survey.now).frames ≤ most_frames }
+    requires few { length (survey_view survey.now).frames ≤ most_frames }
     ensures chosen { MatchResult result
         (λ chosen. (file : List ℕ)
-        → cut_choice_lem from.now to.now file (tells survey.now) ≡ Ok (chosen_in chosen))
+        → cut_choice from.now to.now file (survey_view survey.now) ≡ Ok (chosen_in chosen))
         (λ fault. (file : List ℕ)
-        → cut_choice_lem from.now to.now file (tells survey.now) ≡ Err fault) }
+        → cut_choice from.now to.now file (survey_view survey.now) ≡ Err fault) }
     ensures some { IfOk result (λ chosen. chosen.from < chosen.to) }
-    ensures within { IfOk result (λ chosen. chosen.to ≤ length (tells survey.now).frames) }
-    ensures refusal { IfErr result (IsRefusal cut_refuses) }
+    ensures within { IfOk result (λ chosen. chosen.to ≤ length (survey_view survey.now).frames) }
+    ensures refusal { IfErr result (IsEditRefusal cut_refuses) }
 {
     let frames = survey.frames().len();
     let class = survey.class();
@@ -58,21 +58,21 @@ pub fn all_choice<D: Folder>(
     name: &str,
     survey: &Survey,
 ) -> Result<Chosen, EditFault>
-    requires there { IsThere (D.seen folder.old).files name.now }
-    requires laid { IsLaidOut (tells survey.now) }
-    requires few { length (tells survey.now).frames ≤ most_frames }
+    requires there { IsFileThere (D.seen folder.old).files name.now }
+    requires laid { IsSurveyLaidOut (survey_view survey.now) }
+    requires few { length (survey_view survey.now).frames ≤ most_frames }
     requires surveyed { OnFile (D.seen folder.old) name.now
-        (λ bytes. survey_of bytes most_frames ≡ Ok (tells survey.now)) }
+        (λ bytes. survey_of bytes most_frames ≡ Ok (survey_view survey.now)) }
     ensures chosen { IfOk result (λ chosen. OnFile (D.seen folder.old) name.now
-        (λ bytes. all_choice_lem bytes (tells survey.now) ≡ Ok (chosen_in chosen))) }
+        (λ bytes. all_choice bytes (survey_view survey.now) ≡ Ok (chosen_in chosen))) }
     ensures some { IfOk result (λ chosen. chosen.from < chosen.to) }
-    ensures within { IfOk result (λ chosen. chosen.to ≤ length (tells survey.now).frames) }
+    ensures within { IfOk result (λ chosen. chosen.to ≤ length (survey_view survey.now).frames) }
     // Whatever the command makes of them.
     ensures refused { IfErr result (λ fault. (make : Making)
         → IsInputFault make name.now (D.seen folder.old)
         (D.seen folder.new) fault) }
     ensures numbers { IfErr result (λ fault. (refuses : Refusal → Bool)
-        → IsOfInput refuses fault) }
+        → HasInputNumbers refuses fault) }
     ensures reads { OnlyRead result (D.seen folder.old) (D.seen folder.new) }
 {
     let kept = match kept_fields(folder, name, survey) {
@@ -86,7 +86,7 @@ pub fn all_choice<D: Folder>(
     })
 }
 
-impl<'a> Choice<'a> {
+impl<'a> FrameChoice<'a> {
     /// The chosen frames of a surveyed input: `Range` where there is none between the positions, or where the second is after
     /// the end; `Input(0, ..)` with `Read` and `Shrunk` where the frame of the head could not be read.
     pub(crate) fn find<D: Folder>(
@@ -95,27 +95,27 @@ impl<'a> Choice<'a> {
         name: &str,
         survey: &Survey,
     ) -> Result<Chosen, EditFault>
-        requires choice { IsChoice self.now }
-        requires there { IsThere (D.seen folder.old).files name.now }
-        requires laid { IsLaidOut (tells survey.now) }
-        requires few { length (tells survey.now).frames ≤ most_frames }
+        requires choice { IsSoundChoice self.now }
+        requires there { IsFileThere (D.seen folder.old).files name.now }
+        requires laid { IsSurveyLaidOut (survey_view survey.now) }
+        requires few { length (survey_view survey.now).frames ≤ most_frames }
         requires surveyed { OnFile (D.seen folder.old) name.now
-            (λ bytes. survey_of bytes most_frames ≡ Ok (tells survey.now)) }
+            (λ bytes. survey_of bytes most_frames ≡ Ok (survey_view survey.now)) }
         ensures chosen { IfOk result (λ chosen. OnFile (D.seen folder.old) name.now
-            (λ bytes. choosing_by self.now bytes (tells survey.now) ≡ Ok (chosen_in chosen))) }
+            (λ bytes. choosing_of self.now bytes (survey_view survey.now) ≡ Ok (chosen_in chosen))) }
         ensures some { IfOk result (λ chosen. chosen.from < chosen.to) }
-        ensures within { IfOk result (λ chosen. chosen.to ≤ length (tells survey.now).frames) }
+        ensures within { IfOk result (λ chosen. chosen.to ≤ length (survey_view survey.now).frames) }
         // However the frames are planned.
         ensures refused { IfErr result (λ fault. (plan : Planning)
-            → IsInputFault (laying_with (choosing_by self.now) plan) name.now
+            → IsInputFault (laying_making (choosing_of self.now) plan) name.now
             (D.seen folder.old)
             (D.seen folder.new) fault) }
-        ensures numbers { IfErr result (IsOfInput (refused_by self.now)) }
+        ensures numbers { IfErr result (HasInputNumbers (refuses_of_choice self.now)) }
         ensures reads { OnlyRead result (D.seen folder.old) (D.seen folder.new) }
     {
         match *self {
-            Choice::Between(from, to) => cut_choice(survey, from, to),
-            Choice::All => all_choice(folder, name, survey),
+            FrameChoice::Between(from, to) => cut_choice(survey, from, to),
+            FrameChoice::All => all_choice(folder, name, survey),
         }
     }
 }

@@ -1,7 +1,7 @@
 //! Which frames of a file are chosen, and how they are laid.
 ghost use Rattle.std.specs.Prelude.{◌≡◌, ◌<◌, ◌≤◌, Ok, Err, MatchResult, IfOk, IfErr};
-ghost use Rattle.cut_edits.specs.Chosen.{chosen_in, chosen_with, cut_refuses};
-ghost use Rattle.commands.specs.Left.{IsRefusal};
+ghost use Rattle.cut_edits.specs.Chosen.{chosen_in, chosen_range, cut_refuses};
+ghost use Rattle.commands.specs.AfterCall.{IsEditRefusal};
 
 use commands::{EditFault, Refusal};
 use laying::Kept;
@@ -19,12 +19,12 @@ pub struct Chosen {
 /// is none between them, or `to` is greater than `frames`.
 pub fn choose(from: u64, to: u64, frames: usize, kept: Kept) -> Result<Chosen, EditFault>
     ensures chosen { MatchResult result
-        (λ chosen. chosen_with kept.quality kept.extension from to frames
+        (λ chosen. chosen_range kept.quality kept.extension from to frames
         ≡ Ok (chosen_in chosen))
-        (λ fault. chosen_with kept.quality kept.extension from to frames ≡ Err fault) }
+        (λ fault. chosen_range kept.quality kept.extension from to frames ≡ Err fault) }
     ensures some { IfOk result (λ chosen. chosen.from < chosen.to) }
     ensures within { IfOk result (λ chosen. chosen.to ≤ frames) }
-    ensures refusal { IfErr result (IsRefusal cut_refuses) }
+    ensures refusal { IfErr result (IsEditRefusal cut_refuses) }
 {
     let all = frames as u64;
     if from < to && to <= all {

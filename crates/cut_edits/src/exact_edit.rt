@@ -6,7 +6,7 @@ use crate::apart::set_apart;
 use crate::heads::read_head;
 use crate::pieces::select_piece;
 use crate::spans::find_span;
-use crate::work::Work;
+use crate::work::LaidWork;
 use commands::{Edit, EditFault, Inputs, MOST_FRAMES, survey_at};
 use exact_span::ExactPlace;
 use outside::Folder;
@@ -21,7 +21,7 @@ pub struct ExactEdit<'a> {
 }
 
 impl<'a> Edit for ExactEdit<'a> {
-    type Work = Work;
+    type Work = LaidWork;
 
     ghost task = { λ edit. exact_task edit.from.now edit.to.now edit.input.now };
 
@@ -31,13 +31,13 @@ impl<'a> Edit for ExactEdit<'a> {
         Inputs::one(self.input)
     }
 
-    fn prepare<D: Folder>(&self, alloc: Global, folder: &mut D) -> Result<Work, EditFault> {
+    fn prepare<D: Folder>(&self, alloc: Global, folder: &mut D) -> Result<LaidWork, EditFault> {
         let mut survey = survey_at(alloc, folder, self.input, 0, MOST_FRAMES)?;
         let head = read_head(folder, self.input, &survey)?;
         let span = find_span(&survey, head.as_ref(), self.from, self.to)?;
         set_apart(&mut survey);
         let selected = select_piece(alloc, &survey, head.as_ref(), &span)?;
-        let work = Work::new(alloc, survey, selected)?;
+        let work = LaidWork::new(alloc, survey, selected)?;
         Ok(work)
     }
 }

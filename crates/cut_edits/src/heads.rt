@@ -1,12 +1,12 @@
 //! The head of an input.
 ghost use Rattle.std.specs.Prelude.{◌≡◌, Ok, IfOk, IfErr};
-ghost use Rattle.outside.specs.Files.{IsThere};
+ghost use Rattle.outside.specs.Files.{IsFileThere};
 ghost use Rattle.outside.specs.Seen.{OnFile, OnlyRead};
-ghost use Rattle.sync_survey.specs.Faults.{tells};
-ghost use Rattle.sync_survey.specs.Survey.{survey_of, IsLaidOut};
+ghost use Rattle.sync_survey.specs.Faults.{survey_view};
+ghost use Rattle.sync_survey.specs.Survey.{survey_of, IsSurveyLaidOut};
 ghost use Rattle.laying.specs.KeptFields.{fields_of_head};
-ghost use Rattle.commands.specs.One.{most_frames};
-ghost use Rattle.cut_edits.specs.Heads.{IsHeadFault, IsOfHead};
+ghost use Rattle.commands.specs.SingleOutput.{most_frames};
+ghost use Rattle.cut_edits.specs.Heads.{IsHeadFault, HasHeadNumbers};
 
 use commands::EditFault;
 use info_header::Info;
@@ -23,16 +23,16 @@ pub fn read_head<D: Folder>(
     name: &str,
     survey: &Survey,
 ) -> Result<Option<Info>, EditFault>
-    requires there { IsThere (D.seen folder.old).files name.now }
-    requires laid { IsLaidOut (tells survey.now) }
+    requires there { IsFileThere (D.seen folder.old).files name.now }
+    requires laid { IsSurveyLaidOut (survey_view survey.now) }
     requires surveyed { OnFile (D.seen folder.old) name.now
-        (λ bytes. survey_of bytes most_frames ≡ Ok (tells survey.now)) }
+        (λ bytes. survey_of bytes most_frames ≡ Ok (survey_view survey.now)) }
     ensures head { IfOk result (λ head. OnFile (D.seen folder.old) name.now
-        (λ bytes. head ≡ fields_of_head bytes (tells survey.now).head)) }
+        (λ bytes. head ≡ fields_of_head bytes (survey_view survey.now).head)) }
     ensures refused { IfErr result (IsHeadFault name.now
         (D.seen folder.old)
         (D.seen folder.new)) }
-    ensures numbers { IfErr result IsOfHead }
+    ensures numbers { IfErr result HasHeadNumbers }
     ensures reads { OnlyRead result (D.seen folder.old) (D.seen folder.new) }
 {
     match head_fields(folder, name, survey) {

@@ -16,7 +16,7 @@ mod work;
 
 pub use apart::set_apart;
 pub use calls::{cut, cut_exact, pack};
-pub use choice::{Choice, all_choice, cut_choice};
+pub use choice::{FrameChoice, all_choice, cut_choice};
 pub use chosen::{Chosen, choose};
 pub use edit::FrameEdit;
 pub use heads::read_head;
@@ -24,4 +24,4 @@ pub use laws::pieces_play_their_samples;
 pub use pieces::select_piece;
 pub use plans::{chosen_parts, plan_file};
 pub use spans::find_span;
-pub use work::Work;
+pub use work::LaidWork;

@@ -1,24 +1,24 @@
 //! Exact pieces: their plans, and their Info frames with delay, padding, music length and tag CRC.
 ghost use Rattle.std.specs.Prelude.{◌≡◌, ◌+◌, ◌-◌, ◌<◌, ◌≤◌, List, ℕ, length, take, drop, map, option_copied, slice_get, Some, IfOk};
-ghost use Rattle.frame_header.specs.Limits.{most_placed};
+ghost use Rattle.frame_header.specs.Limits.{most_output_frames};
 ghost use Rattle.frame_writer.specs.Frames.{Frame};
 ghost use Rattle.slot_plan.specs.Plans.{entries};
 ghost use Rattle.slot_plan.specs.declared.needs.Placed.{Placed as PlacedFields};
-ghost use Rattle.sync_survey.specs.Row.{Row as RowFields};
-ghost use Rattle.sync_survey.specs.Faults.{tells};
-ghost use Rattle.sync_survey.specs.Survey.{IsLaidOut};
+ghost use Rattle.sync_survey.specs.Row.{Row};
+ghost use Rattle.sync_survey.specs.Faults.{survey_view};
+ghost use Rattle.sync_survey.specs.Survey.{IsSurveyLaidOut};
 ghost use Rattle.info_header.specs.InfoFrame.{info_frame};
 ghost use Rattle.exact_span.specs.Spans.{IsSpan, AreLeads};
-ghost use Rattle.exact_span.specs.TagWord.{text_place, sealed_info as sealed_fields};
+ghost use Rattle.exact_span.specs.TagWord.{text_place, sealed_info};
 ghost use Rattle.frame_header.specs.Tables.{window_of};
-ghost use Rattle.laying.specs.NeedsFit.{IsPlaced};
-ghost use Rattle.laying.specs.Fits.{IsFitting};
-ghost use Rattle.laying.specs.Laid.{laid_in, laid_between, needs_laid, IsWritable};
-ghost use Rattle.laying.specs.Surveys.{HasSurvey};
+ghost use Rattle.laying.specs.NeedsFit.{IsPlacedSurvey};
+ghost use Rattle.laying.specs.Fits.{IsFittingPlan};
+ghost use Rattle.laying.specs.Laid.{selected_part, laid_part, needs_laid, IsWritableSelection};
+ghost use Rattle.laying.specs.Surveys.{CanBeRelaid};
 ghost use Rattle.laying.specs.Written.{slot_in, info_for};
-ghost use Rattle.commands.specs.One.{most_frames};
-ghost use Rattle.cut_edits.specs.Chosen.{chosen_in, needs_of as needs_of_lem, AreThere};
-ghost use Rattle.cut_edits.specs.Exact.{plan_with, leads_in, numbered, quality_of as quality_of_lem, sealed_laid, piece_of, IsSpanIn};
+ghost use Rattle.commands.specs.SingleOutput.{most_frames};
+ghost use Rattle.cut_edits.specs.Chosen.{chosen_in, chosen_needs, AreChosenThere};
+ghost use Rattle.cut_edits.specs.Exact.{span_plan, span_lead_ins, span_extension, quality_of, sealed_part, span_piece, IsSpanIn};
 
 use crate::chosen::Chosen;
 use crate::plans::{chosen_parts, plan_by};
@@ -42,9 +42,9 @@ fn plan_piece(
     chosen: &Chosen,
     led: bool,
 ) -> Result<Plan, AllocError>
-    requires there { AreThere most_frames (chosen_in chosen.now) (tells survey.now) }
-    ensures { IfOk result (λ plan. entries plan ≡ plan_with led (tells survey.now).class
-        (needs_of_lem (chosen_in chosen.now) (tells survey.now))) }
+    requires there { AreChosenThere most_frames (chosen_in chosen.now) (survey_view survey.now) }
+    ensures { IfOk result (λ plan. entries plan ≡ span_plan led (survey_view survey.now).class
+        (chosen_needs (chosen_in chosen.now) (survey_view survey.now))) }
 {
     if led {
         let parts = chosen_parts(alloc, survey, chosen)?;
@@ -56,7 +56,7 @@ fn plan_piece(
 
 /// The quality that a head says.
 fn quality_of(head: Option<&Info>) -> Option<u32>
-    ensures { result ≡ quality_of_lem (option_copied head.entry) }
+    ensures { result ≡ quality_of (option_copied head.entry) }
 {
     head?.quality
 }
@@ -67,10 +67,10 @@ fn kept_of(class: Class, head: Option<&Info>, span: &Span, placed: &[Placed]) ->
     requires span { IsSpan class span.now }
     requires some { span.now.first < span.now.last }
     requires many { span.now.last - span.now.first ≤ length placed.now }
-    requires leads { AreLeads span.now (leads_in span.now placed.now) }
+    requires leads { AreLeads span.now (span_lead_ins span.now placed.now) }
     ensures { result ≡ record {
-      quality = quality_of_lem (option_copied head.entry);
-      extension = numbered (option_copied head.entry) class span.now placed.now;
+      quality = quality_of (option_copied head.entry);
+      extension = span_extension (option_copied head.entry) class span.now placed.now;
     } }
 {
     let leads = placed.len() - (span.last - span.first) as usize;
@@ -102,14 +102,14 @@ fn has_all(extension: &[u8; 36])
 /// The bytes of the Info frame before frames of a surveyed input in the slots of a plan, sealed. The first of the frames is
 /// frame `from`, whose header it has.
 fn sealed_info(survey: &Survey, from: usize, kept: &Kept, placed: &[Placed]) -> ArrayVec<u8, 1441>
-    requires well { IsPlaced (tells survey.now) }
-    requires within { from < length (tells survey.now).frames }
-    requires few { length placed.now ≤ most_placed }
-    ensures room { text_place (tells survey.now).class + 156 ≤ length result.items }
-    ensures bytes { (first : RowFields) (frames : List Frame)
-        → slice_get (tells survey.now).frames from ≡ Some first
+    requires well { IsPlacedSurvey (survey_view survey.now) }
+    requires within { from < length (survey_view survey.now).frames }
+    requires few { length placed.now ≤ most_output_frames }
+    ensures room { text_place (survey_view survey.now).class + 156 ≤ length result.items }
+    ensures bytes { (first : Row) (frames : List Frame)
+        → slice_get (survey_view survey.now).frames from ≡ Some first
         → map slot_in frames ≡ map (λ (p : PlacedFields). p.slot) placed.now
-        → result.items ≡ info_frame first.header (sealed_fields first.header (info_for (tells
+        → result.items ≡ info_frame first.header (sealed_info first.header (info_for (survey_view
         survey.now).class frames kept.now.quality kept.now.extension)) }
 {
     has_all(&kept.extension);
@@ -121,15 +121,15 @@ fn sealed_info(survey: &Survey, from: usize, kept: &Kept, placed: &[Placed]) -> 
 /// Frames of a surveyed input in the slots of a plan, with what their Info frame says besides what it counts. The Info
 /// frame has its music length and its tag CRC.
 fn select_sealed(survey: &Survey, from: usize, to: usize, kept: Kept, plan: Plan) -> Selected
-    requires placed { IsPlaced (tells survey.now) }
+    requires placed { IsPlacedSurvey (survey_view survey.now) }
     requires some { from < to }
-    requires within { to ≤ length (tells survey.now).frames }
-    requires few { length (entries plan) ≤ most_placed }
-    requires fitting { IsFitting (window_of (tells survey.now).class.version)
-        (needs_laid (laid_between from to kept (entries plan)) (tells survey.now)) (entries plan) }
-    ensures laid { (file : List ℕ) → HasSurvey file (tells survey.now) → laid_in result
-        ≡ sealed_laid (laid_between from to kept (entries plan)) file (tells survey.now) }
-    ensures writable { IsWritable (tells survey.now) result }
+    requires within { to ≤ length (survey_view survey.now).frames }
+    requires few { length (entries plan) ≤ most_output_frames }
+    requires fitting { IsFittingPlan (window_of (survey_view survey.now).class.version)
+        (needs_laid (laid_part from to kept (entries plan)) (survey_view survey.now)) (entries plan) }
+    ensures laid { (file : List ℕ) → CanBeRelaid file (survey_view survey.now) → selected_part result
+        ≡ sealed_part (laid_part from to kept (entries plan)) file (survey_view survey.now) }
+    ensures writable { IsWritableSelection (survey_view survey.now) result }
 {
     has_all(&kept.extension);
     let info = sealed_info(survey, from, &kept, plan.placed());
@@ -154,13 +154,13 @@ pub fn select_piece(
     head: Option<&Info>,
     span: &Span,
 ) -> Result<Selected, AllocError>
-    requires laid { IsLaidOut (tells survey.now) }
-    requires few { length (tells survey.now).frames ≤ most_frames }
-    requires there { IsSpanIn (tells survey.now) span.now }
-    ensures laid { IfOk result (λ selected. (file : List ℕ) → HasSurvey file (tells survey.now)
-        → laid_in selected
-        ≡ piece_of (option_copied head.entry) span.now file (tells survey.now)) }
-    ensures writable { IfOk result (IsWritable (tells survey.now)) }
+    requires laid { IsSurveyLaidOut (survey_view survey.now) }
+    requires few { length (survey_view survey.now).frames ≤ most_frames }
+    requires there { IsSpanIn (survey_view survey.now) span.now }
+    ensures laid { IfOk result (λ selected. (file : List ℕ) → CanBeRelaid file (survey_view survey.now)
+        → selected_part selected
+        ≡ span_piece (option_copied head.entry) span.now file (survey_view survey.now)) }
+    ensures writable { IfOk result (IsWritableSelection (survey_view survey.now)) }
 {
     let chosen = Chosen {
         from: span.first as usize,

@@ -1,10 +1,10 @@
 //! The plan of chosen frames, and the Info frame before them.
 ghost use Rattle.std.specs.Prelude.{◌≡◌, ◌<◌, ◌≤◌, [], ◌∷◌, length, IfOk};
-ghost use Rattle.laying.specs.Needs.{asked_of};
+ghost use Rattle.laying.specs.Needs.{plan_input};
 ghost use Rattle.slot_plan.specs.Plans.{entries};
-ghost use Rattle.sync_survey.specs.Faults.{tells};
-ghost use Rattle.commands.specs.One.{most_frames};
-ghost use Rattle.cut_edits.specs.Chosen.{chosen_in, chosen_rows, choices_by, first_plan, needs_of, AreThere, AreUsual, IsSelected};
+ghost use Rattle.sync_survey.specs.Faults.{survey_view};
+ghost use Rattle.commands.specs.SingleOutput.{most_frames};
+ghost use Rattle.cut_edits.specs.Chosen.{chosen_in, chosen_rows, slot_choices, first_plan, chosen_needs, AreChosenThere, AreUsualChoices, IsSelected};
 
 use crate::chosen::Chosen;
 use laying::{Parts, Selected};
@@ -15,11 +15,11 @@ use sync_survey::Survey;
 /// Chosen frames as the one part of a plan.
 pub fn chosen_parts(alloc: Global, survey: &Survey, chosen: &Chosen) -> Result<Parts, AllocError>
     requires some { chosen.now.from < chosen.now.to }
-    requires within { chosen.now.to ≤ length (tells survey.now).frames }
+    requires within { chosen.now.to ≤ length (survey_view survey.now).frames }
     ensures parts { IfOk result (λ parts. parts
-        ≡ asked_of (chosen_rows (chosen_in chosen.now) (tells survey.now) ∷ [])) }
+        ≡ plan_input (chosen_rows (chosen_in chosen.now) (survey_view survey.now) ∷ [])) }
     ensures needs { IfOk result (λ parts. length parts.needs
-        ≤ length (tells survey.now).frames) }
+        ≤ length (survey_view survey.now).frames) }
     ensures places { IfOk result (λ parts. length parts.places ≡ 1) }
 {
     let mut parts = Parts::new(alloc);
@@ -34,11 +34,11 @@ pub(crate) fn plan_by<P: Policy>(
     chosen: &Chosen,
     policy: &P,
 ) -> Result<Plan, AllocError>
-    requires there { AreThere most_frames (chosen_in chosen.now) (tells survey.now) }
-    requires policy { AreUsual (P.choices_of policy.now) }
+    requires there { AreChosenThere most_frames (chosen_in chosen.now) (survey_view survey.now) }
+    requires policy { AreUsualChoices (P.choices_of policy.now) }
     ensures { IfOk result (λ plan. entries plan ≡ first_plan (P.choices_of policy.now)
-        (tells survey.now).class
-        (needs_of (chosen_in chosen.now) (tells survey.now))) }
+        (survey_view survey.now).class
+        (chosen_needs (chosen_in chosen.now) (survey_view survey.now))) }
 {
     let parts = chosen_parts(alloc, survey, chosen)?;
     plan(alloc, parts.needs(), parts.places(), policy)
@@ -51,10 +51,10 @@ fn plan_chosen(
     chosen: &Chosen,
     least: bool,
 ) -> Result<Plan, AllocError>
-    requires { AreThere most_frames (chosen_in chosen.now) (tells survey.now) }
-    ensures { IfOk result (λ plan. entries plan ≡ first_plan (choices_by least)
-        (tells survey.now).class
-        (needs_of (chosen_in chosen.now) (tells survey.now))) }
+    requires { AreChosenThere most_frames (chosen_in chosen.now) (survey_view survey.now) }
+    ensures { IfOk result (λ plan. entries plan ≡ first_plan (slot_choices least)
+        (survey_view survey.now).class
+        (chosen_needs (chosen_in chosen.now) (survey_view survey.now))) }
 {
     if least {
         plan_by(alloc, survey, chosen, &Least)
@@ -70,9 +70,9 @@ pub fn plan_file(
     chosen: &Chosen,
     least: bool,
 ) -> Result<Selected, AllocError>
-    requires { AreThere most_frames (chosen_in chosen.now) (tells survey.now) }
-    ensures { IfOk result (IsSelected (choices_by least) (chosen_in chosen.now)
-        (tells survey.now)) }
+    requires { AreChosenThere most_frames (chosen_in chosen.now) (survey_view survey.now) }
+    ensures { IfOk result (IsSelected (slot_choices least) (chosen_in chosen.now)
+        (survey_view survey.now)) }
 {
     let plan = plan_chosen(alloc, survey, chosen, least)?;
     Ok(Selected::new(survey, chosen.from, chosen.to, chosen.kept, plan))

@@ -2,10 +2,10 @@
 ghost use Rattle.std.specs.Prelude.{◌≡◌, ◌*◌, ◌≤◌, length, option_copied, Ok, Err, MatchResult, IfOk, IfErr};
 ghost use Rattle.exact_span.specs.Places.{IsExactPlace};
 ghost use Rattle.exact_span.specs.PlayedPositions.{samples_in};
-ghost use Rattle.sync_survey.specs.Faults.{tells};
-ghost use Rattle.commands.specs.Left.{IsRefusal};
-ghost use Rattle.commands.specs.One.{most_frames};
-ghost use Rattle.cut_edits.specs.Exact.{span_between as span_between_lem, span_in, exact_refuses, IsSpanIn};
+ghost use Rattle.sync_survey.specs.Faults.{survey_view};
+ghost use Rattle.commands.specs.AfterCall.{IsEditRefusal};
+ghost use Rattle.commands.specs.SingleOutput.{most_frames};
+ghost use Rattle.cut_edits.specs.Exact.{span_between, file_span, exact_refuses, IsSpanIn};
 
 use commands::{EditFault, Refusal};
 use exact_span::{ExactPlace, Played, Span};
@@ -25,9 +25,9 @@ fn span_between(
     requires to { IsExactPlace to.now }
     requires most { played.now.end ≤ most_frames * samples_in class }
     ensures span { MatchResult result
-        (λ span. span_between_lem class played.now from.now to.now ≡ Ok span)
-        (λ fault. span_between_lem class played.now from.now to.now ≡ Err fault) }
-    ensures refusal { IfErr result (IsRefusal exact_refuses) }
+        (λ span. span_between class played.now from.now to.now ≡ Ok span)
+        (λ fault. span_between class played.now from.now to.now ≡ Err fault) }
+    ensures refusal { IfErr result (IsEditRefusal exact_refuses) }
 {
     let samples = played.length();
     let a = from.sample(class, samples);
@@ -49,13 +49,13 @@ pub fn find_span(
 ) -> Result<Span, EditFault>
     requires from { IsExactPlace from.now }
     requires to { IsExactPlace to.now }
-    requires few { length (tells survey.now).frames ≤ most_frames }
+    requires few { length (survey_view survey.now).frames ≤ most_frames }
     ensures span { MatchResult result
-        (λ span. span_in from.now to.now (option_copied head.entry) (tells survey.now) ≡ Ok span)
-        (λ fault. span_in from.now to.now (option_copied head.entry) (tells survey.now)
+        (λ span. file_span from.now to.now (option_copied head.entry) (survey_view survey.now) ≡ Ok span)
+        (λ fault. file_span from.now to.now (option_copied head.entry) (survey_view survey.now)
         ≡ Err fault) }
-    ensures there { IfOk result (IsSpanIn (tells survey.now)) }
-    ensures refusal { IfErr result (IsRefusal exact_refuses) }
+    ensures there { IfOk result (IsSpanIn (survey_view survey.now)) }
+    ensures refusal { IfErr result (IsEditRefusal exact_refuses) }
 {
     let class = survey.class();
     let frames = survey.frames().len() as u32;

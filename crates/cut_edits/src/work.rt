@@ -3,29 +3,29 @@ ghost use Rattle.std.specs.Prelude.{IfOk};
 ghost use Rattle.cut_edits.specs.Layable.{work_file, IsLayable, IsWorkOf};
 
 use commands::OutputPass;
-use laying::{Buffers, Relay, Selected};
+use laying::{Relay, RelayBuffers, Selected};
 use outside::{Folder, Pass, PassFault};
 use std::alloc::{AllocError, Global};
 use sync_survey::Survey;
 
 /// What is known of the input, the chosen frames with their plan, and the memory of the pass.
 #[derive(Drop)]
-pub struct Work {
+pub struct LaidWork {
     pub survey: Survey,
     pub selected: Selected,
-    pub buffers: Buffers,
+    pub buffers: RelayBuffers,
 }
 
-impl Work {
+impl LaidWork {
     /// What is known and planned, with all memory of the pass.
     ///
     /// # Errors
     /// Where there is no memory.
-    pub fn new(alloc: Global, survey: Survey, selected: Selected) -> Result<Work, AllocError>
+    pub fn new(alloc: Global, survey: Survey, selected: Selected) -> Result<LaidWork, AllocError>
         ensures { IfOk result (IsWorkOf survey selected) }
     {
-        let buffers = Buffers::new(alloc, survey.class())?;
-        Ok(Work {
+        let buffers = RelayBuffers::new(alloc, survey.class())?;
+        Ok(LaidWork {
             survey,
             selected,
             buffers,
@@ -33,7 +33,7 @@ impl Work {
     }
 }
 
-impl OutputPass for Work {
+impl OutputPass for LaidWork {
     ghost file_of = { λ work. work_file work };
 
     ghost IsReady = { λ work input files. IsLayable input work files };
@@ -44,7 +44,7 @@ impl OutputPass for Work {
         input: &str,
         output: &str,
     ) -> Result<(), PassFault> {
-        let Work {
+        let LaidWork {
             survey,
             selected,
             buffers,

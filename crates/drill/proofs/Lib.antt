@@ -1,8 +1,8 @@
 -- The lemmas of this crate.
-pub mod PackedLaws
-pub mod DrawsLaws
-pub mod DrawnSide
-pub mod MakingLaws
-pub mod BareStream
-pub mod DrillLaws
-pub mod NoLeadIn
+pub mod PackedLemmas
+pub mod DrawsLemmas
+pub mod DrawnSideLemmas
+pub mod MakingLemmas
+pub mod BareStreamLemmas
+pub mod DrillLemmas
+pub mod NoLeadInLemmas

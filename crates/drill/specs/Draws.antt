@@ -7,15 +7,15 @@ next_state state = (state * 1103515245 + 12345) % 2147483648
 
 -- the number that was drawn when this state was reached:
 -- its bits except the lowest 16, from 0 to 32,767
-abbrev pub drawn : ℕ → ℕ
-drawn state = state / 65536
+abbrev pub drawn_number : ℕ → ℕ
+drawn_number state = state / 65536
 
 -- the state after so many draws
-unfoldable pub state_behind : ℕ → ℕ → ℕ
-state_behind zero state = state
-state_behind (suc count) state = state_behind count (next_state state)
+unfoldable pub state_after : ℕ → ℕ → ℕ
+state_after zero state = state
+state_after (suc count) state = state_after count (next_state state)
 
 -- so many draws from a state on, in their order
 unfoldable pub draws : ℕ → ℕ → List ℕ
 draws zero state = []
-draws (suc count) state = drawn (next_state state) ∷ draws count (next_state state)
+draws (suc count) state = drawn_number (next_state state) ∷ draws count (next_state state)

@@ -6,9 +6,9 @@ use Rattle.std.specs.List.{range_with_len}
 use Rattle.std.specs.Prelude.{false, length, List, map, max, slice_index, suc, take, zero, ℕ, []}
 use Rattle.std.specs.Prelude.{◌%◌, ◌*◌, ◌++◌, ◌+◌, ◌-◌, ◌/◌, ◌∷◌}
 use Rattle.bit_fields.specs.Bits.{bits, bytes}
-use Rattle.drill.specs.Draws.{draws, state_behind}
+use Rattle.drill.specs.Draws.{draws, state_after}
 use Rattle.frame_header.specs.{Fields.HeaderFields, declared.version.Version.TheVariants.One}
-use Rattle.frame_writer.specs.{Frames.{Frame, frame_bytes}, Laid.zeros}
+use Rattle.frame_writer.specs.{Frames.{bytes_of_frames, Frame}, Laid.zeros}
 use Rattle.side_info.specs.{Granule.no_granule, Side.{no_side, payload_bits}}
 use Rattle.side_info.specs.declared.{granule.Granule.Granule, side.Side.Side}
 
@@ -31,17 +31,17 @@ drill_header = record {
 
 -- how many bytes there are for the main data of a frame: those of
 -- its own area, and those before it that its main_data_begin counts
-abbrev pub room_of : ℕ → ℕ
-room_of begin = 381 + begin
+abbrev pub drill_room : ℕ → ℕ
+drill_room begin = 381 + begin
 
 -- the part2_3_length of each granule and channel, at most twice the
 -- bytes of room: together they are at most as many bits as the room has
 abbrev pub drawn_lengths : ℕ → ℕ → List ℕ
-drawn_lengths begin state = map (λ draw. draw % (2 * room_of begin + 1)) (draws 4 state)
+drawn_lengths begin state = map (λ draw. draw % (2 * drill_room begin + 1)) (draws 4 state)
 
 -- the global_gain of each, from 100 to 199
 abbrev pub drawn_gains : ℕ → List ℕ
-drawn_gains state = map (λ draw. 100 + draw % 100) (draws 4 (state_behind 4 state))
+drawn_gains state = map (λ draw. 100 + draw % 100) (draws 4 (state_after 4 state))
 
 -- a granule with this length and this gain, all other fields 0
 abbrev pub granule_with : ℕ → ℕ → Granule
@@ -88,7 +88,7 @@ drawn_bits begin state = payload_bits (drawn_side begin state)
 abbrev pub drawn_frame : ℕ → ℕ → Frame
 drawn_frame begin state = record {
   kept = record { header = drill_header; side = drawn_side begin state };
-  payload = drawn_payload (drawn_bits begin state) (state_behind 8 state);
+  payload = drawn_payload (drawn_bits begin state) (state_after 8 state);
 }
 
 -- how many draws it takes
@@ -99,7 +99,7 @@ draws_of begin state = 8 + (drawn_bits begin state + 7) / 8
 
 -- what is known before a frame: the state of the draws, and the place
 -- among the bytes of all areas at which the main data before it end
-pub record Before : Type 0 where
+pub record DrillState : Type 0 where
   pub state : ℕ
   pub ended : ℕ
 
@@ -108,38 +108,38 @@ abbrev pub area_start : ℕ → ℕ
 area_start i = 381 * i
 
 -- where its main data begin: after those before it, but no more than 511 bytes before its own area
-abbrev pub data_start : ℕ → Before → ℕ
+abbrev pub data_start : ℕ → DrillState → ℕ
 data_start i b = max b.ended (area_start i - 511)
 
 -- its main_data_begin
-abbrev pub data_begin : ℕ → Before → ℕ
+abbrev pub data_begin : ℕ → DrillState → ℕ
 data_begin i b = area_start i - data_start i b
 
 -- frame i, by what is known before it
-abbrev pub frame_behind : ℕ → Before → Frame
-frame_behind i b = drawn_frame (data_begin i b) b.state
+abbrev pub next_drill_frame : ℕ → DrillState → Frame
+next_drill_frame i b = drawn_frame (data_begin i b) b.state
 
 -- what is known before the next frame
-abbrev pub before_next : ℕ → Before → Before
-before_next i b = record {
-  state = state_behind (draws_of (data_begin i b) b.state) b.state;
-  ended = data_start i b + length (frame_behind i b).payload;
+abbrev pub next_drill_state : ℕ → DrillState → DrillState
+next_drill_state i b = record {
+  state = state_after (draws_of (data_begin i b) b.state) b.state;
+  ended = data_start i b + length (next_drill_frame i b).payload;
 }
 
 -- what is known before frame i
-unfoldable pub before_frame : ℕ → ℕ → Before
-before_frame seed zero = record { state = seed; ended = 0 }
-before_frame seed (suc i) = before_next i (before_frame seed i)
+unfoldable pub drill_state_at : ℕ → ℕ → DrillState
+drill_state_at seed zero = record { state = seed; ended = 0 }
+drill_state_at seed (suc i) = next_drill_state i (drill_state_at seed i)
 
 -- frame i
-abbrev pub frame_at : ℕ → ℕ → Frame
-frame_at seed i = frame_behind i (before_frame seed i)
+abbrev pub drill_frame_at : ℕ → ℕ → Frame
+drill_frame_at seed i = next_drill_frame i (drill_state_at seed i)
 
 -- the first frames that a number gives, so many
 unfoldable pub drill_frames : ℕ → ℕ → List Frame
-drill_frames seed count = map (frame_at seed) (range_with_len 0 count)
+drill_frames seed count = map (drill_frame_at seed) (range_with_len 0 count)
 
 -- their bytes: the main data of each where its main_data_begin
 -- says, and zeros in the areas everywhere else
 unfoldable pub drill_stream : ℕ → ℕ → List ℕ
-drill_stream seed count = frame_bytes (drill_frames seed count)
+drill_stream seed count = bytes_of_frames (drill_frames seed count)

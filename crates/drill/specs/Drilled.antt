@@ -1,9 +1,10 @@
 -- The drill command: a stream is made from a seed and packed, and a line
 -- says how long both are. No file of any folder is read or written.
 use Rattle.std.specs.Prelude.{Err, false, filter, length, List, Ok, Result, Some, ℕ, [], ◌∷◌}
-use Rattle.commands.specs.{Command.Command, One.made_file, declared.fault.EditFault.EditFault}
+use Rattle.commands.specs.{Command.Command, SingleOutput.made_file}
+use Rattle.commands.specs.declared.fault.EditFault.{EditFault}
 use Rattle.commands.specs.declared.fault.EditFault.TheVariants.{Memory, Sent as NotSent}
-use Rattle.cut_edits.specs.Chosen.{all_choice, first_planning, laying_with}
+use Rattle.cut_edits.specs.Chosen.{all_choice, first_planning, laying_making}
 use Rattle.drill.specs.{Drill.{drill_header, drill_stream}, StreamLaws.drill_needs}
 use Rattle.drill.specs.{Summary.summary_text, declared.summary.Summary.Summary}
 use Rattle.frame_header.specs.Tables.{window_of}
@@ -13,7 +14,7 @@ use Rattle.slot_plan.specs.{LeastPlan.least_plan, declared.needs.Placed.Placed}
 -- what the packing with the least slots makes of the stream
 abbrev pub packing_of : ℕ → ℕ → Result (List ℕ) EditFault
 packing_of seed count =
-    made_file (laying_with all_choice (first_planning any_choice)) (drill_stream seed count)
+    made_file (laying_making all_choice (first_planning any_choice)) (drill_stream seed count)
 
 -- the file that was made; empty where there is none
 abbrev pub file_in : Result (List ℕ) EditFault → List ℕ

@@ -1,9 +1,9 @@
 -- What a survey tells of a stream that is made from a number.
 use Rattle.std.specs.Prelude.{All, Contains, false, length, List, map, None, Ok, ℕ, [], ◌*◌, ◌<◌}
 use Rattle.std.specs.Prelude.{◌∷◌, ◌≡◌, ◌≤◌}
-use Rattle.drill.specs.Drill.{drill_frames, drill_header, drill_stream, frame_at}
+use Rattle.drill.specs.Drill.{drill_frame_at, drill_frames, drill_header, drill_stream}
 use Rattle.frame_header.specs.{Fields.{HeaderFields, SlotFields}, Tables.{class_of, window_of}}
-use Rattle.laying.specs.{LaidFiles.{entry_of, rows_from}, Needs.need_of}
+use Rattle.laying.specs.{LaidFiles.{rows_from, stream_entry}, Needs.need_of}
 use Rattle.slot_plan.specs.{Plans.IsPlan, declared.needs.{Need.Need, Placed.Placed}}
 use Rattle.sync_survey.specs.{Faults.{HoldsStream, SurveyFields}, Survey.survey_of}
 
@@ -24,7 +24,7 @@ drill_fields seed count = record {
 -- and holds the frames and the main data that were drawn.
 abbrev pub StreamsHold : Type 0
 StreamsHold = (seed count : ℕ) → 0 < count
-    → HoldsStream (drill_stream seed count) (map entry_of (drill_frames seed count))
+    → HoldsStream (drill_stream seed count) (map stream_entry (drill_frames seed count))
 
 -- A survey that allows as many frames finds them where
 -- they were put. A stream of 20,000 frames isn't too long.
@@ -39,7 +39,7 @@ StreamsAreLong = (seed count : ℕ) → length (drill_stream seed count) ≡ 417
 
 -- the main data of the first frame begin in its own area
 abbrev pub FirstBeginsInItsArea : Type 0
-FirstBeginsInItsArea = (seed : ℕ) → (frame_at seed 0).kept.side.main_data_begin ≡ 0
+FirstBeginsInItsArea = (seed : ℕ) → (drill_frame_at seed 0).kept.side.main_data_begin ≡ 0
 
 -- what the planner is given of such a stream
 abbrev pub drill_needs : ℕ → ℕ → List Need

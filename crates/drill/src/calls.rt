@@ -1,10 +1,10 @@
 //! The command `drill`.
 ghost use Rattle.std.specs.Prelude.{◌≡◌, ◌≤◌, Ok, IfOk, IfErr};
 ghost use Rattle.outside.specs.Files.{Files};
-ghost use Rattle.sync_survey.specs.Faults.{tells};
+ghost use Rattle.sync_survey.specs.Faults.{survey_view};
 ghost use Rattle.sync_survey.specs.Survey.{survey_of};
-ghost use Rattle.commands.specs.One.{most_frames};
-ghost use Rattle.commands.specs.Said.{Says, fault_of};
+ghost use Rattle.commands.specs.SingleOutput.{most_frames};
+ghost use Rattle.commands.specs.SentText.{SaysText, answer_fault};
 ghost use Rattle.drill.specs.Drilled.{packed_file, drill_summary, drill_command, IsDrillFault};
 
 use crate::{FRAME_LENGTH, Summary, send_summary, stream_folder, streams_are_long};
@@ -28,7 +28,7 @@ fn survey_packed(
     requires some { 1 ≤ count }
     requires few { count ≤ 20000 }
     ensures { IfOk result (λ survey. survey_of (packed_file seed count) most_frames
-        ≡ Ok (tells survey)) }
+        ≡ Ok (survey_view survey)) }
 {
     let mut folder = stream_folder(alloc, seed, count, stream, packed)?;
     let Ok(()) = pack(alloc, &mut folder, stream, packed) else {
@@ -72,9 +72,9 @@ pub fn drill<T: Sink>(alloc: Global, seed: u32, count: u32, out: &mut T) -> Resu
     requires some { 1 ≤ count }
     requires few { count ≤ 20000 }
     // Whatever files there are: none is read.
-    ensures says { (files : Files) → Says (drill_command seed count) files
+    ensures says { (files : Files) → SaysText (drill_command seed count) files
         (T.heard out.old) (T.heard out.new)
-        (fault_of result) }
+        (answer_fault result) }
     ensures fault { IfErr result IsDrillFault }
 {
     let summary = summary_of(alloc, seed, count)?;

@@ -1,6 +1,6 @@
 //! A folder in memory with a stream and room for the file that it is packed into.
 ghost use Rattle.std.specs.Prelude.{◌≡◌, ◌+◌, ◌*◌, ◌≤◌, Some, IfOk};
-ghost use Rattle.outside.specs.Memory.{contents_of, room_of};
+ghost use Rattle.outside.specs.Memory.{contents_of, mem_room};
 ghost use Rattle.drill.specs.Drill.{drill_stream};
 ghost use Rattle.frame_header.specs.Limits.{most_frame_length};
 
@@ -30,7 +30,7 @@ pub fn stream_folder(
 ) -> Result<MemFolder, AllocError>
     ensures stream { IfOk result (λ folder. contents_of folder stream.now
         ≡ Some (drill_stream seed count)) }
-    ensures room { IfOk result (λ folder. (count + 2) * most_frame_length ≤ room_of folder
+    ensures room { IfOk result (λ folder. (count + 2) * most_frame_length ≤ mem_room folder
         packed.now) }
 {
     let count_of = u64::from(count);

@@ -1,7 +1,7 @@
 //! One frame.
 ghost use Rattle.std.specs.Prelude.{◌≡◌, ◌+◌, ◌*◌, ◌/◌, ◌%◌, ◌≤◌, length, map};
-ghost use Rattle.drill.specs.Draws.{state_behind};
-ghost use Rattle.drill.specs.Drill.{drill_header as drill_header_lem, room_of, granule_with, granules_with, first_bits, drawn_side, drawn_payload};
+ghost use Rattle.drill.specs.Draws.{state_after};
+ghost use Rattle.drill.specs.Drill.{drill_header, drill_room, granule_with, granules_with, first_bits, drawn_side, drawn_payload};
 ghost use Rattle.frame_header.specs.Limits.{most_back};
 
 use crate::draws::Draws;
@@ -19,7 +19,7 @@ const ROOM: usize = 892;
 /// The header of each frame: MPEG-1, 128 kbit/s at 44,100 Hz in two channels, without a check word. The frame has 417
 /// bytes.
 pub(crate) fn drill_header() -> Header
-    ensures { result ≡ drill_header_lem }
+    ensures { result ≡ drill_header }
 {
     Header {
         version: Version::One,
@@ -62,7 +62,7 @@ fn granules(begin: u16, lengths: &[u16; 4], gains: &[u16; 4]) -> [[Granule; 2]; 
     requires few { begin ≤ most_back }
     requires four { (length lengths.now ≡ 4) × (length gains.now ≡ 4) }
     ensures { result ≡ granules_with
-        (map (λ draw. draw % (2 * room_of begin + 1)) lengths.now)
+        (map (λ draw. draw % (2 * drill_room begin + 1)) lengths.now)
         (map (λ draw. 100 + draw % 100) gains.now) }
 {
     let most = 2 * (AREA + begin) + 1;
@@ -75,7 +75,7 @@ fn granules(begin: u16, lengths: &[u16; 4], gains: &[u16; 4]) -> [[Granule; 2]; 
 pub(crate) fn draw_side(draws: &mut Draws, begin: u16) -> Side
     requires few { begin ≤ most_back }
     ensures side { result ≡ drawn_side begin draws.old.state }
-    ensures state { draws.new.state ≡ state_behind 8 draws.old.state }
+    ensures state { draws.new.state ≡ state_after 8 draws.old.state }
 {
     let lengths = draws.four();
     let gains = draws.four();
@@ -104,7 +104,7 @@ pub(crate) fn draw_payload<'w>(draws: &mut Draws, bits: u32, window: &'w mut Win
     requires few { bits ≤ 7136 }
     ensures payload { result ≡ drawn_payload bits draws.old.state }
     ensures size { length result ≡ (bits + 7) / 8 }
-    ensures state { draws.new.state ≡ state_behind ((bits + 7) / 8) draws.old.state }
+    ensures state { draws.new.state ≡ state_after ((bits + 7) / 8) draws.old.state }
 {
     let count = bits.div_ceil(8) as usize;
     let mut room = [0; ROOM];

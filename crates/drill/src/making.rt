@@ -1,14 +1,14 @@
 //! A stream on its way to a file.
 ghost use Rattle.std.specs.Prelude.{◌≡◌, ◌≤◌, [], length, IfOk, OnOk, OnErr};
 ghost use Rattle.frame_header.specs.Tables.{class_of};
-ghost use Rattle.outside.specs.Files.{appended, IsThere};
-ghost use Rattle.outside.specs.Passed.{AppendedPrefix};
+ghost use Rattle.outside.specs.Files.{with_appended_bytes, IsFileThere};
+ghost use Rattle.outside.specs.BufferOutput.{AppendedPrefix};
 ghost use Rattle.outside.specs.Counts.{OnlyWrites};
-ghost use Rattle.frame_writer.specs.Frames.{reach_of, reach_with};
-ghost use Rattle.frame_writer.specs.Writing.{IsNew, WritesOn, WritesPart, WriteFailed};
-ghost use Rattle.drill.specs.Draws.{state_behind};
-ghost use Rattle.drill.specs.Drill.{drill_header as drill_header_lem, draws_of, drill_frames, drill_stream};
-ghost use Rattle.drill.specs.Making.{writing_in, IsNext, next_frame, HasMade};
+ghost use Rattle.frame_writer.specs.Frames.{reach_of, reach_after_frame};
+ghost use Rattle.frame_writer.specs.Writing.{IsNewQueue, AcceptsFrame, WritesPart, WriteFailed};
+ghost use Rattle.drill.specs.Draws.{state_after};
+ghost use Rattle.drill.specs.Drill.{drill_header, draws_of, drill_frames, drill_stream};
+ghost use Rattle.drill.specs.Making.{drill_writing, IsNextDrawn, next_frame, HasMade};
 
 use crate::draws::Draws;
 use crate::frames::{draw_payload, draw_side, drill_header};
@@ -21,24 +21,24 @@ use std::alloc::{AllocError, Global};
 /// A stream on its way to a file: the draws, the main data of one frame, the frames that wait, and the
 /// bytes that wait for the file.
 #[derive(Drop)]
-pub(crate) struct Making {
+pub(crate) struct DrillWriter {
     pub(crate) draws: Draws,
     window: Window,
     pub(crate) writer: FrameQueue,
     pub(crate) unsent: WriteBuffer,
 }
 
-impl Making {
+impl DrillWriter {
     /// No frame of the stream of this number was drawn yet. It takes all its memory here.
     ///
     /// # Errors
     /// Where there is no memory.
-    pub(crate) fn new(alloc: Global, seed: u32) -> Result<Making, AllocError>
+    pub(crate) fn new(alloc: Global, seed: u32) -> Result<DrillWriter, AllocError>
         ensures state { IfOk result (λ making. making.draws.state ≡ seed) }
-        ensures new { IfOk result (λ making. IsNew (class_of drill_header_lem) making.writer) }
+        ensures new { IfOk result (λ making. IsNewQueue (class_of drill_header) making.writer) }
         ensures none { IfOk result (λ making. making.unsent ≡ []) }
     {
-        Ok(Making {
+        Ok(DrillWriter {
             draws: Draws { state: seed },
             unsent: WriteBuffer::new(alloc)?,
             window: Window::new(alloc)?,
@@ -51,18 +51,18 @@ impl Making {
     /// # Errors
     /// Where a write failed.
     fn frame<D: Folder>(&mut self, folder: &mut D, name: &str) -> Result<(), Failed>
-        requires there { IsThere (D.seen folder.old).files name.now }
-        requires next { IsNext self.old }
-        ensures written { OnOk result (WritesOn name.now (next_frame self.old) (writing_in self.old)
-            (writing_in self.new) (D.seen folder.old).files (D.seen folder.new).files) }
-        ensures part { OnErr result (WritesPart name.now (next_frame self.old) (writing_in self.old)
+        requires there { IsFileThere (D.seen folder.old).files name.now }
+        requires next { IsNextDrawn self.old }
+        ensures written { OnOk result (AcceptsFrame name.now (next_frame self.old) (drill_writing self.old)
+            (drill_writing self.new) (D.seen folder.old).files (D.seen folder.new).files) }
+        ensures part { OnErr result (WritesPart name.now (next_frame self.old) (drill_writing self.old)
             self.new.writer (D.seen folder.old).files (D.seen folder.new).files) }
-        ensures next { OnOk result (IsNext self.new) }
+        ensures next { OnOk result (IsNextDrawn self.new) }
         ensures state { self.new.draws.state ≡
-            state_behind (draws_of (reach_of self.old.writer) self.old.draws.state)
+            state_after (draws_of (reach_of self.old.writer) self.old.draws.state)
             self.old.draws.state }
         ensures reach { reach_of self.new.writer ≡
-            reach_with (class_of drill_header_lem) (next_frame self.old) }
+            reach_after_frame (class_of drill_header) (next_frame self.old) }
         ensures failed { OnErr result (WriteFailed name.now (D.seen folder.old).counts
             (D.seen folder.new).counts) }
         ensures done { OnOk result ((D.seen folder.new).counts ≡ (D.seen folder.old).counts) }
@@ -80,10 +80,10 @@ impl Making {
     /// # Errors
     /// Where a write failed. Then a prefix of the stream of these frames was appended.
     fn frames<D: Folder>(&mut self, count: u32, folder: &mut D, name: &str) -> Result<(), Failed>
-        requires there { IsThere (D.seen folder.old).files name.now }
-        requires new { IsNew (class_of drill_header_lem) self.old.writer }
+        requires there { IsFileThere (D.seen folder.old).files name.now }
+        requires new { IsNewQueue (class_of drill_header) self.old.writer }
         requires none { self.old.unsent ≡ [] }
-        ensures made { OnOk result (HasMade name.now (writing_in self.new)
+        ensures made { OnOk result (HasMade name.now (drill_writing self.new)
             (drill_frames self.old.draws.state count) (D.seen folder.old).files
             (D.seen folder.new).files) }
         ensures prefix { OnErr result (AppendedPrefix name.now
@@ -110,11 +110,11 @@ impl Making {
         folder: &mut D,
         name: &str,
     ) -> Result<(), Failed>
-        requires there { IsThere (D.seen folder.old).files name.now }
-        requires new { IsNew (class_of drill_header_lem) self.old.writer }
+        requires there { IsFileThere (D.seen folder.old).files name.now }
+        requires new { IsNewQueue (class_of drill_header) self.old.writer }
         requires none { self.old.unsent ≡ [] }
         ensures written { OnOk result ((D.seen folder.new).files
-            ≡ appended (D.seen folder.old).files name.now
+            ≡ with_appended_bytes (D.seen folder.old).files name.now
             (drill_stream self.old.draws.state count)) }
         ensures prefix { OnErr result (AppendedPrefix name.now
             (drill_stream self.old.draws.state count) (D.seen folder.old).files

@@ -1,13 +1,13 @@
 //! A stream, written to a file of a folder.
 ghost use Rattle.std.specs.Prelude.{◌≡◌, ◌⊎◌, OnOk, IsErrOf};
-ghost use Rattle.outside.specs.Files.{emptied, appended, FailsToCreate};
-ghost use Rattle.outside.specs.Passed.{AppendedPrefix};
+ghost use Rattle.outside.specs.Files.{with_empty_file, with_appended_bytes, FailsToCreate};
+ghost use Rattle.outside.specs.BufferOutput.{AppendedPrefix};
 ghost use Rattle.outside.specs.Counts.{OnlyWrites};
 ghost use Rattle.frame_writer.specs.Writing.{WriteFailed};
 ghost use Rattle.drill.specs.Drill.{drill_stream};
 
 use crate::fault::StreamFault;
-use crate::making::Making;
+use crate::making::DrillWriter;
 use outside::Folder;
 use std::alloc::Global;
 
@@ -25,11 +25,11 @@ pub fn write_stream<D: Folder>(
     name: &str,
 ) -> Result<(), StreamFault>
     ensures written { OnOk result ((D.seen folder.new).files ≡
-        appended (emptied (D.seen folder.old).files name.now) name.now (drill_stream seed count)) }
+        with_appended_bytes (with_empty_file (D.seen folder.old).files name.now) name.now (drill_stream seed count)) }
     ensures part { IsErrOf result StreamFault.Write
         → FailsToCreate name.now (D.seen folder.old).files (D.seen folder.new).files
         ⊎ AppendedPrefix name.now (drill_stream seed count)
-        (emptied (D.seen folder.old).files name.now) (D.seen folder.new).files }
+        (with_empty_file (D.seen folder.old).files name.now) (D.seen folder.new).files }
     ensures failed { IsErrOf result StreamFault.Write →
         WriteFailed name.now (D.seen folder.old).counts (D.seen folder.new).counts }
     ensures kept { IsErrOf result StreamFault.Memory → (D.seen folder.new).files
@@ -39,7 +39,7 @@ pub fn write_stream<D: Folder>(
     ensures done { OnOk result ((D.seen folder.new).counts ≡ (D.seen folder.old).counts) }
     ensures counts { OnlyWrites (D.seen folder.old).counts (D.seen folder.new).counts }
 {
-    let Ok(mut making) = Making::new(alloc, seed) else {
+    let Ok(mut making) = DrillWriter::new(alloc, seed) else {
         return Err(StreamFault::Memory);
     };
     let Ok(()) = folder.create(name) else {

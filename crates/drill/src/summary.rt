@@ -1,7 +1,7 @@
 //! The line that tells of a stream that was made and packed.
 ghost use Rattle.std.specs.Prelude.{◌≡◌, ◌+◌, ◌≤◌, [], ◌++◌, length, decimal, OnOk, OnErr};
-ghost use Rattle.outside.specs.Files.{sent_more};
-ghost use Rattle.outside.specs.Passed.{SentPrefix};
+ghost use Rattle.outside.specs.Files.{sent_and_more};
+ghost use Rattle.outside.specs.BufferOutput.{SentPrefix};
 ghost use Rattle.outside.specs.Counts.{HasCause};
 ghost use Rattle.drill.specs.Summary.{summary_text};
 
@@ -54,7 +54,7 @@ fn line_of(summary: &Summary) -> ArrayVec<u8, ROOM>
 /// Where a write failed. Then a prefix of the line was sent.
 pub fn send_summary<T: Sink>(sink: &mut T, summary: &Summary) -> Result<(), Failed>
     ensures sent { OnOk result ((T.heard sink.new).sent ≡
-        sent_more (T.heard sink.old).sent (summary_text summary.now)) }
+        sent_and_more (T.heard sink.old).sent (summary_text summary.now)) }
     ensures prefix { OnErr result (SentPrefix (summary_text summary.now)
         (T.heard sink.old).sent (T.heard sink.new).sent) }
     ensures cause { HasCause (T.heard sink.old).faults (T.heard sink.new).faults result }

@@ -26,7 +26,7 @@ pub use gain_edits::{
 };
 pub use join_edits::{join, join_seamless};
 pub use list_edits::{info, list};
-pub use moved_gains::{Gains, Stuck, gains_of};
+pub use moved_gains::{Gains, OutOfRange, gains_of};
 pub use pack_edits::{PackMode, fewest_bytes, floors_fit, never_longer, pack_with};
 pub use requests::{Channels, Shift, Steps};
 pub use salvage_edits::salvage;

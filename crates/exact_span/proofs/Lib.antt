@@ -1,5 +1,5 @@
-pub mod SplitLaws
-pub mod SpanLaws
-pub mod PlayedLaws
-pub mod ExtensionLaws
-pub mod SealLaws
+pub mod SplitLemmas
+pub mod SpanLemmas
+pub mod PlayedLemmas
+pub mod ExtensionLemmas
+pub mod SealLemmas

@@ -5,7 +5,7 @@
 use Rattle.std.specs.Prelude.{Bool, bytes_eq, codes, drop, if◌then◌else◌, List, nat_le, None}
 use Rattle.std.specs.Prelude.{Option, replicate, slice_index, Some, take, ℕ, [], ◌%◌, ◌&&◌, ◌*◌}
 use Rattle.std.specs.Prelude.{◌++◌, ◌+◌, ◌/◌, ◌||◌, ◌∷◌}
-use Rattle.exact_span.specs.declared.extensions.Counts.{Counts}
+use Rattle.exact_span.specs.declared.extensions.HeadCounts.{HeadCounts}
 use Rattle.info_header.specs.declared.fields.Info.{Info}
 
 -- ---- what is read
@@ -25,9 +25,9 @@ abbrev pub padding_in : List ℕ → ℕ
 padding_in extension = 256 * (slice_index extension 22 % 16) + slice_index extension 23
 
 -- what a head with this number of frames counts
-abbrev pub counts_with : Info → Option ℕ → Option Counts
-counts_with info None = None
-counts_with info (Some frames) =
+abbrev pub counts_with_frames : Info → Option ℕ → Option HeadCounts
+counts_with_frames info None = None
+counts_with_frames info (Some frames) =
     if nat_le 1 frames && has_encoder info.extension
     then Some (record {
       frames = frames;
@@ -39,28 +39,28 @@ counts_with info (Some frames) =
 -- What a head counts: a number of frames that isn't 0, delay and padding. It does where it has such
 -- a number and the name of such an encoder. No checksum is looked at. A file without a head counts
 -- nothing.
-abbrev pub counts_of : Option Info → Option Counts
+abbrev pub counts_of : Option Info → Option HeadCounts
 counts_of None = None
-counts_of (Some info) = counts_with info info.frames
+counts_of (Some info) = counts_with_frames info info.frames
 
 -- ---- what is written
 
 -- no name but LAME, and all else 0
-abbrev pub plain : List ℕ
-plain = codes "LAME" ++ replicate 32 0
+abbrev pub plain_extension : List ℕ
+plain_extension = codes "LAME" ++ replicate 32 0
 
 -- the extension of the input where it has the name of an encoder that counts
-abbrev pub kept : Option Info → List ℕ
-kept None = plain
-kept (Some info) = if has_encoder info.extension then info.extension else plain
+abbrev pub kept_extension : Option Info → List ℕ
+kept_extension None = plain_extension
+kept_extension (Some info) = if has_encoder info.extension then info.extension else plain_extension
 
 -- two numbers of 12 bits in three bytes
-abbrev pub in_three_bytes : ℕ → ℕ → List ℕ
-in_three_bytes delay padding = delay / 16 ∷ (delay % 16 * 16 + padding / 256) ∷ padding % 256 ∷ []
+abbrev pub three_bytes : ℕ → ℕ → List ℕ
+three_bytes delay padding = delay / 16 ∷ (delay % 16 * 16 + padding / 256) ∷ padding % 256 ∷ []
 
 -- What is kept, with this delay and padding. The last eight bytes, music length, music CRC and tag
 -- CRC, are 0.
 unfoldable pub extension_of : Option Info → ℕ → ℕ → List ℕ
 extension_of info delay padding =
-    let old = kept info in
-    take 21 old ++ (in_three_bytes delay padding ++ (take 4 (drop 24 old) ++ replicate 8 0))
+    let old = kept_extension info in
+    take 21 old ++ (three_bytes delay padding ++ (take 4 (drop 24 old) ++ replicate 8 0))

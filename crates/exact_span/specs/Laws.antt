@@ -5,7 +5,7 @@ use Rattle.std.specs.Prelude.{◌+◌, ◌-◌, ◌/◌, ◌<◌, ◌∷◌, ◌
 use Rattle.exact_span.specs.Extensions.{delay_in, extension_of, has_encoder, padding_in}
 use Rattle.exact_span.specs.PlayedPositions.{decoder_delay, length_of_played, played_of, samples_in}
 use Rattle.exact_span.specs.Spans.{AreLeads, delay_of, padding_of, span_of, warm_up}
-use Rattle.exact_span.specs.TagWord.{arc_of, sealed, sealed_info, text_place}
+use Rattle.exact_span.specs.TagWord.{arc_of, sealed_frame, sealed_info, text_place}
 use Rattle.exact_span.specs.declared.{played.Played.Played, span.Span.Span}
 use Rattle.frame_header.specs.{Fields.{ClassFields, HeaderFields}, Tables.{class_of, granules_of}}
 use Rattle.info_header.specs.{InfoFrame.info_frame, declared.fields.Info.Info}
@@ -19,7 +19,7 @@ WordsGoOn = (word : ℕ) (x y : List ℕ) → arc_of (arc_of word x) y ≡ arc_o
 -- ---- extensions
 
 -- fields that a struct can have
-pub record AreWhole (info : Info) : Type 0 where
+pub record AreInfoFields (info : Info) : Type 0 where
   pub table : IfSome info.table (λ table. length table ≡ 100)
   pub extension : length info.extension ≡ 36
 
@@ -32,14 +32,14 @@ pub record SaysNumbers (d p : ℕ) (extension : List ℕ) : Type 0 where
 -- the extension that is written says its numbers
 abbrev pub ExtensionsSay : Type 0
 ExtensionsSay =
-    (info : Option Info) (delay padding : ℕ) → IfSome info AreWhole → delay < 4096 → padding < 4096
-    → SaysNumbers delay padding (extension_of info delay padding)
+    (info : Option Info) (delay padding : ℕ) → IfSome info AreInfoFields → delay < 4096
+    → padding < 4096 → SaysNumbers delay padding (extension_of info delay padding)
 
 -- an Info frame can be sealed, and then it is the Info frame of other fields, which differ in music
 -- length and tag CRC alone
-pub record IsSealed (first : HeaderFields) (info : Info) : Type 0 where
+pub record IsInfoSealed (first : HeaderFields) (info : Info) : Type 0 where
   pub room : text_place (class_of first) + 156 ≤ length (info_frame first info)
-  pub is : sealed (class_of first) (info_frame first info)
+  pub is : sealed_frame (class_of first) (info_frame first info)
       ≡ info_frame first (sealed_info first info)
   -- its extension says the same numbers
   pub says : (d p : ℕ) → SaysNumbers d p info.extension
@@ -47,7 +47,7 @@ pub record IsSealed (first : HeaderFields) (info : Info) : Type 0 where
 
 -- so each Info frame can be sealed
 abbrev pub SealedFrames : Type 0
-SealedFrames = (first : HeaderFields) (info : Info) → AreWhole info → IsSealed first info
+SealedFrames = (first : HeaderFields) (info : Info) → AreInfoFields info → IsInfoSealed first info
 
 -- ---- spans
 
@@ -58,8 +58,8 @@ pub record ArePlayed (head : Option Info) (class : ClassFields) (frames a b : �
   pub most : b ≤ length_of_played (played_of head class frames)
 
 -- their span
-abbrev pub span_in : Option Info → ClassFields → ℕ → ℕ → ℕ → Span
-span_in head class frames a b =
+abbrev pub played_span : Option Info → ClassFields → ℕ → ℕ → ℕ → Span
+played_span head class frames a b =
     let start = (played_of head class frames).start in span_of class (start + a) (start + b)
 
 -- A span has a frame, and no frame that the file hasn't. Both numbers have 12 bits, and aren't
@@ -77,11 +77,11 @@ pub record SpanFits (class : ClassFields) (frames leads : ℕ) (span : Span) : T
 abbrev pub SpansFit : Type 0
 SpansFit =
     (head : Option Info) (class : ClassFields) (frames a b leads : ℕ) →
-    let span = span_in head class frames a b in
+    let span = played_span head class frames a b in
     ArePlayed head class frames a b → AreLeads span leads → SpanFits class frames leads span
 
 -- The head of a piece: that of the frames of a span with so many lead-ins.
-pub record IsHeadOf (class : ClassFields) (leads : ℕ) (span : Span) (head : Info) : Type 0 where
+pub record IsPieceHead (class : ClassFields) (leads : ℕ) (span : Span) (head : Info) : Type 0 where
   pub frames : head.frames ≡ Some (leads + (span.last - span.first))
   pub numbers : SaysNumbers (delay_of class leads span) (padding_of span) head.extension
 
@@ -106,8 +106,8 @@ pub record KeepsPlaces (class : ClassFields) (leads first a b : ℕ) (piece file
 abbrev pub SamplesKeepPlaces : Type 0
 SamplesKeepPlaces =
     (file : Option Info) (piece : Info) (class : ClassFields) (frames a b leads : ℕ) →
-    let span = span_in file class frames a b in
-    ArePlayed file class frames a b → AreLeads span leads → IsHeadOf class leads span piece
+    let span = played_span file class frames a b in
+    ArePlayed file class frames a b → AreLeads span leads → IsPieceHead class leads span piece
     → KeepsPlaces class leads span.first a b
     (played_of (Some piece) class (leads + (span.last - span.first))) (played_of file class frames)
 
@@ -122,14 +122,14 @@ first_granule y = (y - 480) / 576 - 1
 
 -- Each granule on which a position depends is in the frames of the span. Where these aren't the
 -- file's first ones, the first position has its whole warm-up.
-pub record IsWarm (class : ClassFields) (p q : ℕ) (span : Span) : Type 0 where
+pub record IsSpanWarm (class : ClassFields) (p q : ℕ) (span : Span) : Type 0 where
   pub granules : (y k : ℕ) → p ≤ y → y < q → first_granule y ≤ k → k ≤ y / 576
       → (span.first ≤ frame_of_granule class k) × (frame_of_granule class k < span.last)
   pub whole : 0 < span.first → span.first * samples_in class + warm_up ≤ p
 
 -- each granule on which wanted positions depend is in their span
 abbrev pub SpansAreWarm : Type 0
-SpansAreWarm = (class : ClassFields) (p q : ℕ) → IsWarm class p q (span_of class p q)
+SpansAreWarm = (class : ClassFields) (p q : ℕ) → IsSpanWarm class p q (span_of class p q)
 
 -- ---- pieces of a split
 
@@ -148,12 +148,12 @@ last_point a [] = a
 last_point a (b ∷ points) = last_point b points
 
 -- no point is before the one before it
-abbrev pub Ascend : ℕ → List ℕ → Type 0
-Ascend a [] = ⊤
-Ascend a (b ∷ points) = (a ≤ b) × Ascend b points
+abbrev pub PointsAscend : ℕ → List ℕ → Type 0
+PointsAscend a [] = ⊤
+PointsAscend a (b ∷ points) = (a ≤ b) × PointsAscend b points
 
 -- the pieces of ascending points have each sample from the first point to the last once, in order
 abbrev pub PiecesAreTheWhole : Type 0
 PiecesAreTheWhole =
-    (a : ℕ) (points : List ℕ) → Ascend a points
+    (a : ℕ) (points : List ℕ) → PointsAscend a points
     → pieces_samples a points ≡ samples_between a (last_point a points)

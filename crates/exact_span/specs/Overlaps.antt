@@ -10,8 +10,8 @@ use Rattle.frame_header.specs.declared.version.Version.TheVariants.{One, Two, Tw
 -- positions before its last frame's end. So the frames in the first `start + rest` positions
 -- of the second are shared, if these are whole frames that it has. Of them those are alike
 -- that aren't before the frame in which position `start` is, and the last in any case.
-unfoldable pub shared_of : ClassFields → ℕ → ℕ → ℕ → Option Overlap
-shared_of class rest start frames =
+unfoldable pub shared_overlap : ClassFields → ℕ → ℕ → ℕ → Option Overlap
+shared_overlap class rest start frames =
     let samples = samples_in class in
     let shared = (start + rest) / samples in
     if (start + rest) % samples == 0 && nat_le shared frames
@@ -35,6 +35,6 @@ most_alike Two = 7
 most_alike TwoFive = 7
 
 -- no more frames are shared, and no more are to be alike, than that
-pub record IsShort (class : ClassFields) (overlap : Overlap) : Type 0 where
+pub record IsOverlapShort (class : ClassFields) (overlap : Overlap) : Type 0 where
   pub frames : overlap.frames ≤ most_shared class.version
   pub alike : overlap.frames ≤ overlap.first_alike + most_alike class.version

@@ -15,12 +15,12 @@ use Rattle.frame_header.specs.{Fields.ClassFields, Tables.{frequency_of, samples
 -- ---- minutes and seconds, with a dot between them
 
 -- minutes are one to four digits before the first dot
-abbrev pub minutes_in : List ℕ → Option ℕ
-minutes_in word = number_in 1 4 9999 (before_first is_dot word)
+abbrev pub clock_minutes_in : List ℕ → Option ℕ
+clock_minutes_in word = number_in 1 4 9999 (before_first is_dot word)
 
 -- seconds are one or two digits of at most 59 after it, up to the next dot or the end
-abbrev pub seconds_in : List ℕ → Option ℕ
-seconds_in word = number_in 1 2 59 (before_first is_dot (after_first is_dot word))
+abbrev pub clock_seconds_in : List ℕ → Option ℕ
+clock_seconds_in word = number_in 1 2 59 (before_first is_dot (after_first is_dot word))
 
 -- minutes and seconds, in seconds
 abbrev pub whole_seconds : ℕ → ℕ → ℕ
@@ -29,17 +29,18 @@ whole_seconds minutes seconds = 60 * minutes + seconds
 -- both, in seconds
 unfoldable pub clock_of : List ℕ → Option ℕ
 clock_of word =
-    option_and_then (λ m. option_map (whole_seconds m) (seconds_in word)) (minutes_in word)
+    option_and_then (λ m. option_map (whole_seconds m) (clock_seconds_in word))
+    (clock_minutes_in word)
 
 -- what is after the seconds: nothing, or the second dot and what is after it
-abbrev pub behind_seconds : List ℕ → List ℕ
-behind_seconds word = let rest = after_first is_dot word in drop (position_or_len is_dot rest) rest
+abbrev pub seconds_tail : List ℕ → List ℕ
+seconds_tail word = let rest = after_first is_dot word in drop (position_or_len is_dot rest) rest
 
 -- ---- thousandths of a second
 
 -- seconds and thousandths, in thousandths
-abbrev pub in_millis : ℕ → ℕ → ℕ
-in_millis seconds thousandths = seconds * 1000 + thousandths
+abbrev pub total_millis : ℕ → ℕ → ℕ
+total_millis seconds thousandths = seconds * 1000 + thousandths
 
 -- a dot and three digits
 abbrev pub thousandths_of : List ℕ → Option ℕ
@@ -47,26 +48,26 @@ thousandths_of [] = None
 thousandths_of (dot ∷ digits) = number_in 3 3 999 digits
 
 -- hundredths as thousandths
-abbrev pub tenfold : ℕ → ℕ
-tenfold hundredths = 10 * hundredths
+abbrev pub thousandths_in_hundredths : ℕ → ℕ
+thousandths_in_hundredths hundredths = 10 * hundredths
 
 -- nothing, or a dot and two or three digits: hundredths or thousandths
 abbrev pub fraction_of : List ℕ → Option ℕ
 fraction_of [] = Some 0
 fraction_of (dot ∷ digits) =
-    if length digits == 2 then option_map tenfold (number_in 2 2 99 digits)
+    if length digits == 2 then option_map thousandths_in_hundredths (number_in 2 2 99 digits)
     else number_in 3 3 999 digits
 
 -- minutes, seconds and thousandths, in thousandths
 unfoldable pub millis_of : List ℕ → Option ℕ
 millis_of word =
-    option_and_then (λ s. option_map (in_millis s) (thousandths_of (behind_seconds word)))
+    option_and_then (λ s. option_map (total_millis s) (thousandths_of (seconds_tail word)))
     (clock_of word)
 
 -- minutes, seconds, and hundredths or thousandths or neither, in thousandths
 unfoldable pub fine_millis_of : List ℕ → Option ℕ
 fine_millis_of word =
-    option_and_then (λ s. option_map (in_millis s) (fraction_of (behind_seconds word)))
+    option_and_then (λ s. option_map (total_millis s) (fraction_of (seconds_tail word)))
     (clock_of word)
 
 -- ---- words

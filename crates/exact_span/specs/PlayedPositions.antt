@@ -4,7 +4,7 @@
 -- 576.
 use Rattle.std.specs.Prelude.{if◌then◌else◌, min, nat_lt, None, Option, option_map, Some, ℕ, ◌*◌}
 use Rattle.std.specs.Prelude.{◌+◌, ◌-◌, ◌≤◌}
-use Rattle.exact_span.specs.{Extensions.counts_of, declared.extensions.Counts.Counts}
+use Rattle.exact_span.specs.{Extensions.counts_of, declared.extensions.HeadCounts.HeadCounts}
 use Rattle.exact_span.specs.declared.played.Played.{Played}
 use Rattle.frame_header.specs.{Fields.ClassFields, Tables.samples_of}
 use Rattle.info_header.specs.declared.fields.Info.{Info}
@@ -21,35 +21,36 @@ decoder_delay = 529
 -- Where the played positions end: with the last frame, and where the head counts no fewer frames
 -- than there are, as many positions before the end of the frames that it counts as its padding has
 -- more than the decoder's delay, if that is earlier.
-abbrev pub end_by : ℕ → ℕ → Counts → ℕ
-end_by samples frames counts =
+abbrev pub counted_end : ℕ → ℕ → HeadCounts → ℕ
+counted_end samples frames counts =
     if nat_lt counts.frames frames then frames * samples
     else min (frames * samples) (counts.frames * samples + decoder_delay - counts.padding)
 
 -- those that a head counts: after its delay and the decoder's, up to its padding
-abbrev pub counted_by : ℕ → ℕ → Counts → Played
-counted_by samples frames counts = record {
+abbrev pub counted_played : ℕ → ℕ → HeadCounts → Played
+counted_played samples frames counts = record {
   start = counts.delay + decoder_delay;
-  end = end_by samples frames counts;
+  end = counted_end samples frames counts;
 }
 
 -- those that a head counts, or all
-abbrev pub played_by : ℕ → ℕ → Option Counts → Played
-played_by samples frames None = record { start = 0; end = frames * samples }
-played_by samples frames (Some counts) = counted_by samples frames counts
+abbrev pub played_or_all : ℕ → ℕ → Option HeadCounts → Played
+played_or_all samples frames None = record { start = 0; end = frames * samples }
+played_or_all samples frames (Some counts) = counted_played samples frames counts
 
 -- the played positions of a file with this head and so many
 -- frames: those that the head counts, or all where it counts none
 unfoldable pub played_of : Option Info → ClassFields → ℕ → Played
-played_of info class frames = played_by (samples_in class) frames (counts_of info)
+played_of info class frames = played_or_all (samples_in class) frames (counts_of info)
 
 -- how many these are
 abbrev pub length_of_played : Played → ℕ
 length_of_played played = played.end - played.start
 
 -- those that the head counts, if it does
-unfoldable pub counted_of : Option Info → ClassFields → ℕ → Option Played
-counted_of info class frames = option_map (counted_by (samples_in class) frames) (counts_of info)
+unfoldable pub counted_positions : Option Info → ClassFields → ℕ → Option Played
+counted_positions info class frames =
+    option_map (counted_played (samples_in class) frames) (counts_of info)
 
 -- how many positions of so many frames are after the last played one
 abbrev pub rest_of : ClassFields → ℕ → Played → ℕ

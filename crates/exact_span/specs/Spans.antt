@@ -11,8 +11,8 @@ abbrev pub warm_up : ℕ
 warm_up = 1056
 
 -- the frame in which position p is, or its warm-up begins; the first where that is before the first
-abbrev pub first_frame : ℕ → ℕ → ℕ
-first_frame samples p = (p - warm_up) / samples
+abbrev pub warm_up_frame : ℕ → ℕ → ℕ
+warm_up_frame samples p = (p - warm_up) / samples
 
 -- how many frames are needed for the positions before q
 abbrev pub frames_before : ℕ → ℕ → ℕ
@@ -25,10 +25,10 @@ unfoldable pub span_of : ClassFields → ℕ → ℕ → Span
 span_of class p q =
     let samples = samples_in class in
     record {
-      first = first_frame samples p;
+      first = warm_up_frame samples p;
       last = frames_before samples q;
       led = nat_lt p decoder_delay;
-      from = p - first_frame samples p * samples;
+      from = p - warm_up_frame samples p * samples;
       to = frames_before samples q * samples - q;
     }
 

@@ -55,8 +55,8 @@ with_tag_crc class frame =
     ++ (big_bytes 2 (arc_of 0 (take (crc_place class) frame)) ++ drop (crc_place class + 2) frame)
 
 -- an Info frame with its music length and its tag CRC
-abbrev pub sealed : ClassFields → List ℕ → List ℕ
-sealed class frame = with_tag_crc class (with_music_length class frame)
+abbrev pub sealed_frame : ClassFields → List ℕ → List ℕ
+sealed_frame class frame = with_tag_crc class (with_music_length class frame)
 
 -- ---- the fields of a sealed Info frame
 

@@ -1,6 +1,6 @@
 //! The CRC of an Info frame.
 ghost use Rattle.std.specs.Prelude.{◌≡◌};
-ghost use Rattle.exact_span.specs.TagWord.{arc_bit as arc_bit_lem, arc_byte as arc_byte_lem, arc_of};
+ghost use Rattle.exact_span.specs.TagWord.{arc_bit, arc_byte, arc_of};
 
 /// x^16 + x^15 + x^2 + 1 without its highest power, the least significant bit first.
 const POLYNOMIAL: u16 = 0xa001;
@@ -8,7 +8,7 @@ const POLYNOMIAL: u16 = 0xa001;
 /// One bit further on.
 #[tactic(auto, unfolding(crate::specs::TagWord::arc_bit))]
 fn arc_bit(word: u16) -> u16
-    ensures { result ≡ arc_bit_lem word }
+    ensures { result ≡ arc_bit word }
 {
     if word % 2 == 1 {
         (word / 2) ^ POLYNOMIAL
@@ -19,7 +19,7 @@ fn arc_bit(word: u16) -> u16
 
 /// One byte further on.
 fn arc_byte(word: u16, byte: u8) -> u16
-    ensures { result ≡ arc_byte_lem word byte }
+    ensures { result ≡ arc_byte word byte }
 {
     let mut next = word ^ u16::from(byte);
     for _ in 0..8u32 {

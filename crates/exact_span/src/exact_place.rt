@@ -3,7 +3,7 @@ ghost use Rattle.std.specs.Prelude.{◌≡◌, ◌≤◌, ◌*◌, ◌<◌, IfSo
 ghost use Rattle.cue_sheet.specs.declared.place.Place.TheVariants.{End};
 ghost use Rattle.cue_sheet.specs.Places.{IsPlace};
 ghost use Rattle.exact_span.specs.declared.exact_place.ExactPlace.TheVariants.{Place as PlaceVariant};
-ghost use Rattle.exact_span.specs.Places.{sample_of, back_of, exact_place_of, IsExactPlace, samples_until as samples_until_lem, sample_of_position as sample_of_position_lem, sample_at};
+ghost use Rattle.exact_span.specs.Places.{sample_of, back_of, exact_place_of, IsExactPlace, samples_until, sample_of_position, sample_at};
 
 use crate::times::{read_fine_millis, read_millis};
 use cue_sheet::Place;
@@ -57,7 +57,7 @@ fn read_back(word: &[u8]) -> Option<u32>
 /// How many whole samples take no longer than so many parts of a second.
 fn samples_until(class: Class, time: u32, parts: u32) -> u64
     requires { 1 ≤ parts }
-    ensures { result ≡ samples_until_lem class time parts }
+    ensures { result ≡ samples_until class time parts }
 {
     u64::from(time) * u64::from(class.frequency()) / u64::from(parts)
 }
@@ -65,7 +65,7 @@ fn samples_until(class: Class, time: u32, parts: u32) -> u64
 /// The sample before which a position is, in a file that plays so many.
 fn sample_of_position(class: Class, length: u64, place: Place) -> u64
     requires { IsPlace place }
-    ensures { result ≡ sample_of_position_lem class length place }
+    ensures { result ≡ sample_of_position class length place }
 {
     match place {
         Place::Frame(number) => u64::from(number) * u64::from(class.samples()),

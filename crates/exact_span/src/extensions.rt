@@ -1,12 +1,12 @@
 //! The extension of an Info head: the encoder delay and the padding in it.
 ghost use Rattle.std.specs.Prelude.{◌≡◌, ◌<◌, option_copied, IfSome};
-ghost use Rattle.exact_span.specs.Extensions.{has_encoder as has_encoder_lem, delay_in as delay_in_lem, padding_in as padding_in_lem, counts_of as counts_of_lem, kept as kept_lem, plain as plain_lem, extension_of};
+ghost use Rattle.exact_span.specs.Extensions.{has_encoder, delay_in, padding_in, counts_of, kept_extension, plain_extension, extension_of};
 
 use info_header::Info;
 
 /// What a head counts: frames, at least 1, and delay and padding in samples, two numbers of 12 bits.
 #[derive(Clone, Copy, Debug, PartialEq, Eq)]
-pub struct Counts {
+pub struct HeadCounts {
     pub frames: u32,
     pub delay: u32,
     pub padding: u32,
@@ -15,7 +15,7 @@ pub struct Counts {
 /// Whether the extension begins with the name of an encoder that counts.
 #[tactic(auto, unfolding(crate::specs::Extensions::has_encoder))]
 fn has_encoder(extension: &[u8; 36]) -> bool
-    ensures { result ≡ has_encoder_lem extension.now }
+    ensures { result ≡ has_encoder extension.now }
 {
     extension.starts_with(b"LAME")
         || extension.starts_with(b"Lavf")
@@ -24,7 +24,7 @@ fn has_encoder(extension: &[u8; 36]) -> bool
 
 /// The upper 12 of the 24 bits in the bytes 21 to 23.
 fn delay_in(extension: &[u8; 36]) -> u32
-    ensures delay { result ≡ delay_in_lem extension.now }
+    ensures delay { result ≡ delay_in extension.now }
     ensures most { result < 4096 }
 {
     16 * u32::from(extension[21]) + u32::from(extension[22] / 16)
@@ -32,7 +32,7 @@ fn delay_in(extension: &[u8; 36]) -> u32
 
 /// The lower 12.
 fn padding_in(extension: &[u8; 36]) -> u32
-    ensures padding { result ≡ padding_in_lem extension.now }
+    ensures padding { result ≡ padding_in extension.now }
     ensures most { result < 4096 }
 {
     256 * u32::from(extension[22] % 16) + u32::from(extension[23])
@@ -40,8 +40,8 @@ fn padding_in(extension: &[u8; 36]) -> u32
 
 /// What the head counts. `None` where there is no head, or it has no number of frames or the number
 /// 0, or its extension doesn't begin with `LAME`, `Lavf` or `Lavc`.
-pub fn counts_of(info: Option<&Info>) -> Option<Counts>
-    ensures counts { result ≡ counts_of_lem (option_copied info.entry) }
+pub fn counts_of(info: Option<&Info>) -> Option<HeadCounts>
+    ensures counts { result ≡ counts_of (option_copied info.entry) }
     ensures padding { IfSome result (λ counts. counts.padding < 4096) }
     ensures delay { IfSome result (λ counts. counts.delay < 4096) }
 {
@@ -50,7 +50,7 @@ pub fn counts_of(info: Option<&Info>) -> Option<Counts>
     if frames == 0 || !has_encoder(&info.extension) {
         return None;
     }
-    Some(Counts {
+    Some(HeadCounts {
         frames,
         delay: delay_in(&info.extension),
         padding: padding_in(&info.extension),
@@ -59,7 +59,7 @@ pub fn counts_of(info: Option<&Info>) -> Option<Counts>
 
 /// The name LAME, and zeros.
 fn plain() -> [u8; 36]
-    ensures { result ≡ plain_lem }
+    ensures { result ≡ plain_extension }
 {
     let mut extension = [0; 36];
     extension[..4].copy_from_slice(b"LAME");
@@ -69,7 +69,7 @@ fn plain() -> [u8; 36]
 /// The extension of the input where it begins with the name of an encoder that counts, else the
 /// name LAME and zeros.
 fn kept(info: Option<&Info>) -> [u8; 36]
-    ensures { result ≡ kept_lem (option_copied info.entry) }
+    ensures { result ≡ kept_extension (option_copied info.entry) }
 {
     match info {
         Some(info) if has_encoder(&info.extension) => info.extension,

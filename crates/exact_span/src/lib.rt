@@ -18,7 +18,7 @@ mod times;
 
 pub use crc::arc;
 pub use exact_place::ExactPlace;
-pub use extensions::{Counts, counts_of, extension};
+pub use extensions::{HeadCounts, counts_of, extension};
 pub use laws::{
     extensions_say_their_numbers, pieces_are_the_whole, samples_keep_their_places,
     sealed_frames_are_info_frames, spans_are_warm, spans_fit, words_go_on,

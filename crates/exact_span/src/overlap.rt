@@ -1,7 +1,7 @@
 //! The frames that two files share, the second of which goes on where the first ends.
 ghost use Rattle.std.specs.Prelude.{◌≡◌, ◌≤◌, IfSome};
 ghost use Rattle.exact_span.specs.PlayedPositions.{decoder_delay, latest_start, longest_rest};
-ghost use Rattle.exact_span.specs.Overlaps.{shared_of, IsOverlap, IsShort};
+ghost use Rattle.exact_span.specs.Overlaps.{shared_overlap, IsOverlap, IsOverlapShort};
 
 use frame_header::Class;
 
@@ -19,13 +19,13 @@ pub struct Overlap {
 /// positions of the file before it end, `rest` positions before the end of its last frame. `start` is at
 /// least 529, as in every file whose head counts. `None` exactly where the first `start + rest`
 /// positions aren't whole frames, or are more than there are.
-#[tactic(auto, unfolding(crate::specs::Overlaps::shared_of))]
+#[tactic(auto, unfolding(crate::specs::Overlaps::shared_overlap))]
 pub fn shared(class: Class, rest: u64, start: u64, frames: u32) -> Option<Overlap>
     requires late { decoder_delay ≤ start }
-    ensures shared { result ≡ shared_of class rest start frames }
+    ensures shared { result ≡ shared_overlap class rest start frames }
     ensures overlap { IfSome result IsOverlap }
     ensures within { IfSome result (λ o. o.frames ≤ frames) }
-    ensures short { start ≤ latest_start → rest ≤ longest_rest → IfSome result (IsShort class) }
+    ensures short { start ≤ latest_start → rest ≤ longest_rest → IfSome result (IsOverlapShort class) }
 {
     let samples = u64::from(class.samples());
     // No file has so many frames as a greater sum.

@@ -1,8 +1,8 @@
 //! The positions of a file that are played.
 ghost use Rattle.std.specs.Prelude.{◌≡◌, ◌<◌, ◌≤◌, option_copied, IfSome};
-ghost use Rattle.exact_span.specs.PlayedPositions.{end_by, played_of, counted_of, length_of_played, rest_of, AreCounted};
+ghost use Rattle.exact_span.specs.PlayedPositions.{counted_end, played_of, counted_positions, length_of_played, rest_of, AreCounted};
 
-use crate::extensions::{Counts, counts_of};
+use crate::extensions::{HeadCounts, counts_of};
 use frame_header::Class;
 use info_header::Info;
 
@@ -18,10 +18,10 @@ pub struct Played {
 }
 
 /// Where they end, by what the head counts.
-fn end_of(samples: u32, frames: u32, counts: Counts) -> u64
+fn end_of(samples: u32, frames: u32, counts: HeadCounts) -> u64
     requires samples { samples ≤ 1152 }
     requires padding { counts.padding < 4096 }
-    ensures { result ≡ end_by samples frames counts }
+    ensures { result ≡ counted_end samples frames counts }
 {
     let all = u64::from(frames) * u64::from(samples);
     if counts.frames < frames {
@@ -32,7 +32,7 @@ fn end_of(samples: u32, frames: u32, counts: Counts) -> u64
     all.min(end)
 }
 
-#[tactic(auto, unfolding(crate::specs::PlayedPositions::played_of, crate::specs::PlayedPositions::counted_of))]
+#[tactic(auto, unfolding(crate::specs::PlayedPositions::played_of, crate::specs::PlayedPositions::counted_positions))]
 impl Played {
     /// The played positions of a file with this head and so many frames after it, as players reckon
     /// them. Without a head that counts they are all positions. A head counts where it has a number
@@ -55,7 +55,7 @@ impl Played {
     /// The same where the head counts, else `None`. They begin at 529 to 4,624, and at most 3,566
     /// positions are after them.
     pub fn counted(info: Option<&Info>, class: Class, frames: u32) -> Option<Played>
-        ensures played { result ≡ counted_of (option_copied info.entry) class frames }
+        ensures played { result ≡ counted_positions (option_copied info.entry) class frames }
         ensures counted { IfSome result (AreCounted class frames) }
     {
         let counts = counts_of(info)?;

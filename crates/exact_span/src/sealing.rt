@@ -1,7 +1,7 @@
 //! Music length and tag CRC of an Info frame.
 ghost use Rattle.std.specs.Prelude.{◌≡◌, ◌+◌, ◌≤◌, ◌++◌, length, take, drop};
 ghost use Rattle.byteorder.specs.Endian.{big_bytes};
-ghost use Rattle.exact_span.specs.TagWord.{text_place, arc_of, with_music_length, with_tag_crc, sealed};
+ghost use Rattle.exact_span.specs.TagWord.{text_place, arc_of, with_music_length, with_tag_crc, sealed_frame};
 
 use crate::crc::arc;
 use arrayvec::ArrayVec;
@@ -43,7 +43,7 @@ fn put_crc(frame: &mut [u8], at: usize)
 #[tactic(auto, unfolding(crate::specs::TagWord::with_music_length, crate::specs::TagWord::with_tag_crc))]
 fn seal_bytes(class: Class, frame: &mut [u8])
     requires { text_place class + 156 ≤ length frame.old }
-    ensures { frame.new ≡ sealed class frame.old }
+    ensures { frame.new ≡ sealed_frame class frame.old }
 {
     let text = 4 + class.side_size() as usize;
     put_length(frame, text);
@@ -56,7 +56,7 @@ fn seal_bytes(class: Class, frame: &mut [u8])
 /// first. All else stays.
 pub fn seal(class: Class, frame: &mut ArrayVec<u8, 1441>)
     requires { text_place class + 156 ≤ length frame.old.items }
-    ensures { frame.new.items ≡ sealed class frame.old.items }
+    ensures { frame.new.items ≡ sealed_frame class frame.old.items }
 {
     seal_bytes(class, frame.as_mut_slice());
 }

@@ -1,9 +1,9 @@
 //! Times in words, to a thousandth of a second.
 ghost use Rattle.std.specs.Prelude.{◌≡◌, ◌≤◌, IfSome};
-ghost use Rattle.exact_span.specs.Places.{clock_of, behind_seconds as behind_seconds_lem, thousandths_of, fraction_of, millis_of, fine_millis_of};
+ghost use Rattle.exact_span.specs.Places.{clock_of, seconds_tail, thousandths_of, fraction_of, millis_of, fine_millis_of};
 
 use cue_sheet::digits::read_number;
-use cue_sheet::words::{behind, front_of};
+use cue_sheet::words::{text_after, text_before};
 
 /// Minutes and seconds with a dot between them, in seconds.
 #[tactic(auto, unfolding(crate::specs::Places::clock_of))]
@@ -11,17 +11,17 @@ fn read_clock(word: &[u8]) -> Option<u32>
     ensures clock { result ≡ clock_of word.now }
     ensures most { IfSome result (λ seconds. seconds ≤ 599999) }
 {
-    let minutes = read_number(front_of(word, b'.'), 1, 4, 9_999)?;
-    let seconds = read_number(front_of(behind(word, b'.'), b'.'), 1, 2, 59)?;
+    let minutes = read_number(text_before(word, b'.'), 1, 4, 9_999)?;
+    let seconds = read_number(text_before(text_after(word, b'.'), b'.'), 1, 2, 59)?;
     Some(60 * minutes + seconds)
 }
 
 /// What is after the seconds.
 fn behind_seconds(word: &[u8]) -> &[u8]
-    ensures { result.now ≡ behind_seconds_lem word.now }
+    ensures { result.now ≡ seconds_tail word.now }
 {
-    let rest = behind(word, b'.');
-    &rest[front_of(rest, b'.').len()..]
+    let rest = text_after(word, b'.');
+    &rest[text_before(rest, b'.').len()..]
 }
 
 /// A dot and three digits.

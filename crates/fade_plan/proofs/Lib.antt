@@ -1,8 +1,8 @@
 -- The lemmas of this crate.
-pub mod LowLaws
-pub mod SheetLaws
-pub mod CurveLaws
-pub mod StepsLaws
-pub mod WithinLaws
-pub mod EvenLaws
-pub mod OppositeLaws
+pub mod LowLemmas
+pub mod SheetLemmas
+pub mod CurveLemmas
+pub mod StepsLemmas
+pub mod WithinLemmas
+pub mod EvenLemmas
+pub mod OppositeLemmas

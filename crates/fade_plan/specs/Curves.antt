@@ -15,41 +15,42 @@ pub record CurvePoint : Type 0 where
 -- ---- the curve
 
 -- the frame of a point, by the class and the number of frames of the stream
-abbrev pub frame_of : ClassFields → ℕ → EnvelopePoint → ℕ
-frame_of class frames point = frame_at class frames point.place
+abbrev pub point_frame : ClassFields → ℕ → EnvelopePoint → ℕ
+point_frame class frames point = frame_at class frames point.place
 
 -- a point at the frame of its position
 abbrev pub curve_point : ClassFields → ℕ → EnvelopePoint → CurvePoint
-curve_point class frames point = record { frame = frame_of class frames point; steps = point.steps }
+curve_point class frames point =
+    record { frame = point_frame class frames point; steps = point.steps }
 
 -- the line of the first point whose frame isn't greater than that of the point before
-unfoldable pub not_rising : ClassFields → ℕ → List EnvelopePoint → Option ℕ
-not_rising class frames [] = None
-not_rising class frames (point ∷ []) = None
-not_rising class frames (point ∷ next ∷ more) =
-    if nat_lt (frame_of class frames point) (frame_of class frames next)
-    then not_rising class frames (next ∷ more)
+unfoldable pub line_not_rising : ClassFields → ℕ → List EnvelopePoint → Option ℕ
+line_not_rising class frames [] = None
+line_not_rising class frames (point ∷ []) = None
+line_not_rising class frames (point ∷ next ∷ more) =
+    if nat_lt (point_frame class frames point) (point_frame class frames next)
+    then line_not_rising class frames (next ∷ more)
     else Some next.line
 
 -- the points, unless a line doesn't rise
-abbrev pub unless_at : Option ℕ → List CurvePoint → Result (List CurvePoint) ℕ
-unless_at None points = Ok points
-unless_at (Some line) points = Err line
+abbrev pub line_or_curve : Option ℕ → List CurvePoint → Result (List CurvePoint) ℕ
+line_or_curve None points = Ok points
+line_or_curve (Some line) points = Err line
 
 -- the points at their frames, or the line that doesn't rise
 unfoldable pub curve_of : ClassFields → ℕ → List EnvelopePoint → Result (List CurvePoint) ℕ
 curve_of class frames points =
-    unless_at (not_rising class frames points) (map (curve_point class frames) points)
+    line_or_curve (line_not_rising class frames points) (map (curve_point class frames) points)
 
 -- ---- steps
 
 -- the last point at or before a frame
-abbrev pub last_up_to : List CurvePoint → ℕ → Option CurvePoint
-last_up_to points frame = find (λ point. nat_le point.frame frame) (reverse points)
+abbrev pub last_point_up_to : List CurvePoint → ℕ → Option CurvePoint
+last_point_up_to points frame = find (λ point. nat_le point.frame frame) (reverse points)
 
 -- the first point after a frame
-abbrev pub first_behind : List CurvePoint → ℕ → Option CurvePoint
-first_behind points frame = find (λ point. nat_lt frame point.frame) points
+abbrev pub first_point_after : List CurvePoint → ℕ → Option CurvePoint
+first_point_after points frame = find (λ point. nat_lt frame point.frame) points
 
 -- between two points the steps go evenly from those of
 -- the one to those of the other, rounded toward zero
@@ -60,15 +61,16 @@ steps_between p q frame =
 
 -- before the first point the steps are those of the first,
 -- and from the last point's frame on those of the last
-abbrev pub steps_by : Option CurvePoint → Option CurvePoint → ℕ → ℤ
-steps_by None None frame = pos 0
-steps_by None (Some q) frame = q.steps
-steps_by (Some p) None frame = p.steps
-steps_by (Some p) (Some q) frame = steps_between p q frame
+abbrev pub neighbour_steps : Option CurvePoint → Option CurvePoint → ℕ → ℤ
+neighbour_steps None None frame = pos 0
+neighbour_steps None (Some q) frame = q.steps
+neighbour_steps (Some p) None frame = p.steps
+neighbour_steps (Some p) (Some q) frame = steps_between p q frame
 
 -- the steps of a frame
 unfoldable pub steps_at : List CurvePoint → ℕ → ℤ
-steps_at points frame = steps_by (last_up_to points frame) (first_behind points frame) frame
+steps_at points frame =
+    neighbour_steps (last_point_up_to points frame) (first_point_after points frame) frame
 
 -- a fade that is taken back has the opposite steps
 abbrev pub steps_back : Bool → ℤ → ℤ

@@ -10,39 +10,39 @@ use Rattle.frame_header.specs.Fields.{ClassFields}
 -- ---- from point to point
 
 -- the frame of each point is greater than those of the points before
-abbrev pub AreRising : List CurvePoint → Type 0
-AreRising points = AllPairs (λ p q. p.frame < q.frame) points
+abbrev pub IsCurveRising : List CurvePoint → Type 0
+IsCurveRising points = AllPairs (λ p q. p.frame < q.frame) points
 
 -- the steps of a curve go evenly from each point to the next, and stay before the first and from
 -- the last on
 pub record CurvesGoEvenly : Type 0 where
   -- the points of a curve rise
   pub rising : (class : ClassFields) (frames : ℕ) (points : List EnvelopePoint)
-      (curve : List CurvePoint) → curve_of class frames points ≡ Ok curve → AreRising curve
+      (curve : List CurvePoint) → curve_of class frames points ≡ Ok curve → IsCurveRising curve
   -- before the first point its steps
-  pub before : (p : CurvePoint) (more : List CurvePoint) (frame : ℕ) → AreRising (p ∷ more)
+  pub before : (p : CurvePoint) (more : List CurvePoint) (frame : ℕ) → IsCurveRising (p ∷ more)
       → frame < p.frame → steps_at (p ∷ more) frame ≡ p.steps
   -- between a point and the next, from the frame of the one on, evenly from the one to the other
   pub between : (front back : List CurvePoint) (p q : CurvePoint) (frame : ℕ)
-      → AreRising (front ++ (p ∷ q ∷ back)) → p.frame ≤ frame → frame < q.frame
+      → IsCurveRising (front ++ (p ∷ q ∷ back)) → p.frame ≤ frame → frame < q.frame
       → steps_at (front ++ (p ∷ q ∷ back)) frame ≡ steps_between p q frame
   -- from the last point's frame on its steps
   pub behind : (front : List CurvePoint) (p : CurvePoint) (frame : ℕ)
-      → AreRising (front ++ (p ∷ [])) → p.frame ≤ frame
+      → IsCurveRising (front ++ (p ∷ [])) → p.frame ≤ frame
       → steps_at (front ++ (p ∷ [])) frame ≡ p.steps
 
 -- ---- how far
 
 -- from so many steps down to so many up
-abbrev pub is_within : ℕ → ℕ → ℤ → Bool
-is_within down up steps = int_le (neg_ℤ (pos down)) steps && int_le steps (pos up)
+abbrev pub is_step_within : ℕ → ℕ → ℤ → Bool
+is_step_within down up steps = int_le (neg_ℤ (pos down)) steps && int_le steps (pos up)
 
 -- no frame has steps outside those of the points
 pub record CurvesStayWithin : Type 0 where
   -- where the steps of all points are, those of every frame are
   pub all : (down up : ℕ) (points : List CurvePoint)
-      → All (λ p. IsTrue (is_within down up p.steps)) points
-      → (frame : ℕ) → IsTrue (is_within down up (steps_at points frame))
+      → All (λ p. IsTrue (is_step_within down up p.steps)) points
+      → (frame : ℕ) → IsTrue (is_step_within down up (steps_at points frame))
   -- every frame has the steps of a point that is the only one
   pub one : (p : CurvePoint) (frame : ℕ) → steps_at (p ∷ []) frame ≡ p.steps
 
@@ -53,8 +53,8 @@ abbrev pub opposite_point : EnvelopePoint → EnvelopePoint
 opposite_point point = record point { steps = neg_ℤ point.steps }
 
 -- the envelope with the opposite steps
-abbrev pub opposite : List EnvelopePoint → List EnvelopePoint
-opposite points = map opposite_point points
+abbrev pub opposite_envelope : List EnvelopePoint → List EnvelopePoint
+opposite_envelope points = map opposite_point points
 
 -- neither rises, by the same line, or both do and the steps of each frame are opposite
 abbrev pub AreOpposite : Result (List CurvePoint) ℕ → Result (List CurvePoint) ℕ → Type 0
@@ -67,4 +67,4 @@ AreOpposite (Ok points) (Ok others) =
 -- an envelope and the opposite one have opposite curves
 abbrev pub OppositeCurves : Type 0
 OppositeCurves = (class : ClassFields) (frames : ℕ) (points : List EnvelopePoint)
-    → AreOpposite (curve_of class frames points) (curve_of class frames (opposite points))
+    → AreOpposite (curve_of class frames points) (curve_of class frames (opposite_envelope points))

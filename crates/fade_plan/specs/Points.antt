@@ -6,25 +6,25 @@ use Rattle.fade_plan.specs.declared.point.Point.{Point}
 use Rattle.frame_header.specs.Fields.{ClassFields}
 
 -- what an envelope shows of a point
-abbrev pub in_envelope : Point → EnvelopePoint
-in_envelope point = record { line = point.line; place = point.place; steps = point.steps }
+abbrev pub envelope_point_of : Point → EnvelopePoint
+envelope_point_of point = record { line = point.line; place = point.place; steps = point.steps }
 
 -- what a curve shows of a point
-abbrev pub in_curve : Point → CurvePoint
-in_curve point = record { frame = point.frame; steps = point.steps }
+abbrev pub curve_point_of : Point → CurvePoint
+curve_point_of point = record { frame = point.frame; steps = point.steps }
 
 -- the bounds of every point that is kept, whether its frame is known or still 0
-pub record IsKept (point : Point) : Type 0 where
+pub record IsKeptPoint (point : Point) : Type 0 where
   pub sound : IsPoint point.place point.steps
   pub frame : point.frame < 2 ^ 48
 
 -- the point at the frame of its position
-abbrev pub placed : ClassFields → ℕ → Point → Point
-placed class frames point = record point { frame = frame_at class frames point.place }
+abbrev pub placed_point : ClassFields → ℕ → Point → Point
+placed_point class frames point = record point { frame = frame_at class frames point.place }
 
 -- the line of the first point whose frame isn't greater than that of the point before
-unfoldable pub first_low : List Point → Option ℕ
-first_low [] = None
-first_low (point ∷ []) = None
-first_low (point ∷ next ∷ more) =
-    if nat_lt point.frame next.frame then first_low (next ∷ more) else Some next.line
+unfoldable pub first_not_rising : List Point → Option ℕ
+first_not_rising [] = None
+first_not_rising (point ∷ []) = None
+first_not_rising (point ∷ next ∷ more) =
+    if nat_lt point.frame next.frame then first_not_rising (next ∷ more) else Some next.line

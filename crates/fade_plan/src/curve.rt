@@ -2,10 +2,10 @@
 ghost use Rattle.std.specs.Prelude.{◌≡◌, ◌<◌, ◌≤◌, ◌*◌, ◌^◌, ◌*ℤ◌, pos, int_div, length, map, true, false, nat_le, unsigned_abs};
 ghost use Rattle.std.specs.List.{All, AllWithin};
 ghost use Rattle.std.specs.List.Sorted.{IsNonDecreasingBy, IsPartitionPoint};
-ghost use Rattle.fade_plan.specs.Points.{IsKept, in_curve};
-ghost use Rattle.fade_plan.specs.Curves.{steps_at as steps_at_lem, steps_between, steps_back};
+ghost use Rattle.fade_plan.specs.Points.{IsKeptPoint, curve_point_of};
+ghost use Rattle.fade_plan.specs.Curves.{steps_at, steps_between, steps_back};
 
-use crate::point::{Point, opposite};
+use crate::point::{Point, opposite_steps};
 use std::marker::Model;
 
 /// How many points are at or before the frame.
@@ -20,7 +20,7 @@ fn count_up_to(points: &[Point], frame: u64) -> usize
 }
 
 /// Whether the first `count` points are all at or before the frame.
-fn are_up_to(points: &[Point], frame: u64, count: usize) -> bool
+fn all_up_to(points: &[Point], frame: u64, count: usize) -> bool
     requires rising { IsNonDecreasingBy (λ point. point.frame) points.now }
     requires within { count ≤ length points.now }
     ensures { result ≡ true →
@@ -33,7 +33,7 @@ fn are_up_to(points: &[Point], frame: u64, count: usize) -> bool
 }
 
 /// Whether all points after the first `count` are after the frame.
-fn are_behind(points: &[Point], frame: u64, count: usize) -> bool
+fn all_after(points: &[Point], frame: u64, count: usize) -> bool
     requires rising { IsNonDecreasingBy (λ point. point.frame) points.now }
     requires within { count ≤ length points.now }
     ensures { result ≡ true →
@@ -48,14 +48,14 @@ fn are_behind(points: &[Point], frame: u64, count: usize) -> bool
 /// How many points are at or before the frame. `near` is tried first, which saves the search where it is
 /// right.
 #[inline]
-fn count_near(points: &[Point], frame: u64, near: usize) -> usize
+fn count_from_hint(points: &[Point], frame: u64, near: usize) -> usize
     requires { IsNonDecreasingBy (λ point. point.frame) points.now }
     ensures parted { IsPartitionPoint
         (λ point. nat_le point.frame frame ≡ true) (λ point. nat_le point.frame frame ≡ false)
         points.now result }
     ensures within { result ≤ length points.now }
 {
-    if near <= points.len() && are_up_to(points, frame, near) && are_behind(points, frame, near) {
+    if near <= points.len() && all_up_to(points, frame, near) && all_after(points, frame, near) {
         near
     } else {
         count_up_to(points, frame)
@@ -72,7 +72,7 @@ fn weighted(steps: i16, frames: u64) -> i64
 }
 
 /// A sum of steps times frames, divided by the number of all the frames, and rounded toward zero.
-fn even(sum: i64, frames: u64) -> i16
+fn rounded_steps(sum: i64, frames: u64) -> i16
     requires some { 0 < frames }
     requires few { frames < 2 ^ 48 }
     requires small { unsigned_abs sum ≤ 255 * frames }
@@ -84,27 +84,27 @@ fn even(sum: i64, frames: u64) -> i16
 
 /// The steps of a frame that is at or after one point and before another.
 fn steps_of_both(before: &Point, behind: &Point, frame: u64) -> i16
-    requires kept { IsKept before.now }
-    requires behind_kept { IsKept behind.now }
+    requires kept { IsKeptPoint before.now }
+    requires behind_kept { IsKeptPoint behind.now }
     requires before { before.now.frame ≤ frame }
     requires behind { frame < behind.now.frame }
-    ensures steps { result ≡ steps_between (in_curve before.now) (in_curve behind.now) frame }
+    ensures steps { result ≡ steps_between (curve_point_of before.now) (curve_point_of behind.now) frame }
     ensures most { unsigned_abs result ≤ 255 }
 {
     let left = weighted(before.steps, behind.frame - frame);
     let passed = weighted(behind.steps, frame - before.frame);
-    even(left + passed, behind.frame - before.frame)
+    rounded_steps(left + passed, behind.frame - before.frame)
 }
 
 /// The steps of a frame, where `count` points are at or before it.
 #[inline]
 fn steps_at(points: &[Point], frame: u64, count: usize) -> i16
-    requires kept { All IsKept points.now }
+    requires kept { All IsKeptPoint points.now }
     requires parted { IsPartitionPoint
         (λ point. nat_le point.frame frame ≡ true) (λ point. nat_le point.frame frame ≡ false)
         points.now count }
     requires within { count ≤ length points.now }
-    ensures steps { result ≡ steps_at_lem (map in_curve points.now) frame }
+    ensures steps { result ≡ steps_at (map curve_point_of points.now) frame }
     ensures most { unsigned_abs result ≤ 255 }
 {
     let (up_to, behind) = points.split_at(count);
@@ -128,23 +128,23 @@ impl Model for Curve {
     ghost use Rattle.std.specs.List.{All};
     ghost use Rattle.std.specs.List.Sorted.{IsNonDecreasingBy};
     ghost use Rattle.fade_plan.specs.Curves.{CurvePoint};
-    ghost use Rattle.fade_plan.specs.Points.{IsKept, in_curve};
+    ghost use Rattle.fade_plan.specs.Points.{IsKeptPoint, curve_point_of};
 
     ghost Value = { List CurvePoint };
 
-    ghost view = { λ curve. map in_curve curve.points.items };
+    ghost view = { λ curve. map curve_point_of curve.points.items };
 
     ghost invariant = { λ curve.
-        All IsKept curve.points.items
+        All IsKeptPoint curve.points.items
         × IsNonDecreasingBy (λ point. point.frame) curve.points.items };
 }
 
 impl Curve {
     /// The curve of points whose frames are known and rise.
     pub(crate) fn of(points: Vec<Point>) -> Curve
-        requires kept { All IsKept points.items }
+        requires kept { All IsKeptPoint points.items }
         requires rising { IsNonDecreasingBy (λ point. point.frame) points.items }
-        ensures { result ≡ map in_curve points.items }
+        ensures { result ≡ map curve_point_of points.items }
     {
         Curve { points }
     }
@@ -154,7 +154,7 @@ impl Curve {
     /// from the one to the other, rounded toward zero. With `back` the steps have the opposite sign. It
     /// takes no memory.
     pub fn steps(&self, frame: u32, back: bool) -> i16
-        ensures steps { result ≡ steps_back back (steps_at_lem self.now frame) }
+        ensures steps { result ≡ steps_back back (steps_at self.now frame) }
         ensures most { unsigned_abs result ≤ 255 }
     {
         self.steps_near(frame, back, &mut 0)
@@ -165,12 +165,12 @@ impl Curve {
     /// the same.
     #[inline]
     pub fn steps_near(&self, frame: u32, back: bool, near: &mut usize) -> i16
-        ensures steps { result ≡ steps_back back (steps_at_lem self.now frame) }
+        ensures steps { result ≡ steps_back back (steps_at self.now frame) }
         ensures most { unsigned_abs result ≤ 255 }
     {
         let frame = u64::from(frame);
-        *near = count_near(&self.points, frame, *near);
+        *near = count_from_hint(&self.points, frame, *near);
         let steps = steps_at(&self.points, frame, *near);
-        if back { opposite(steps) } else { steps }
+        if back { opposite_steps(steps) } else { steps }
     }
 }

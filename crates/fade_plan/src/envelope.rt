@@ -2,15 +2,15 @@
 ghost use Rattle.std.specs.Prelude.{◌≡◌, ◌≤◌, ◌++◌, ◌⊎◌, length, map, IfOk, OnOk, MatchResult, Ok, Err};
 ghost use Rattle.std.specs.List.{All};
 ghost use Rattle.fade_plan.specs.declared.envelope_fault.EnvelopeFault.TheVariants.{Memory};
-ghost use Rattle.fade_plan.specs.Sheets.{IsEntry, is_at_fault as is_at_fault_lem, point_at, entries_from, envelope_in, envelope_of};
-ghost use Rattle.fade_plan.specs.Points.{IsKept, in_envelope};
+ghost use Rattle.fade_plan.specs.Sheets.{IsFadeEntry, is_at_fault, point_at, fade_entries_from, envelope_in, envelope_of};
+ghost use Rattle.fade_plan.specs.Points.{IsKeptPoint, envelope_point_of};
 ghost use Rattle.fade_plan.specs.Curves.{curve_of};
 ghost use Rattle.cue_sheet.specs.Limits.{longest_sheet};
 
 use crate::curve::Curve;
-use crate::entry::{Entry, read_entry};
+use crate::entry::{FadeEntry, read_entry};
 use crate::envelope_fault::EnvelopeFault;
-use crate::point::{Point, first_low, place_all};
+use crate::point::{Point, first_not_rising, place_all};
 use cue_sheet::words::{line_at, without_mark};
 use frame_header::Class;
 use std::alloc::{AllocError, Global};
@@ -20,13 +20,13 @@ use std::marker::Model;
 const MOST_POINTS: usize = 1_000;
 
 /// Whether a line is at fault after so many points.
-fn is_at_fault(points: usize, entry: Entry) -> bool
-    ensures { result ≡ is_at_fault_lem points entry }
+fn is_at_fault(points: usize, entry: FadeEntry) -> bool
+    ensures { result ≡ is_at_fault points entry }
 {
     match entry {
-        Entry::Passed => false,
-        Entry::At(_, _) => points >= MOST_POINTS,
-        Entry::Broken => true,
+        FadeEntry::Passed => false,
+        FadeEntry::At(_, _) => points >= MOST_POINTS,
+        FadeEntry::Broken => true,
     }
 }
 
@@ -34,14 +34,14 @@ fn is_at_fault(points: usize, entry: Entry) -> bool
 ///
 /// # Errors
 /// Where there is no memory.
-fn keep(points: &mut Vec<Point>, line: u32, entry: Entry) -> Result<(), AllocError>
-    requires sound { IsEntry entry }
-    requires kept { All IsKept points.old.items }
-    ensures points { OnOk result (map in_envelope points.new.items
-        ≡ map in_envelope points.old.items ++ point_at line entry) }
-    ensures kept { IfOk result (λ _. All IsKept points.new.items) }
+fn keep(points: &mut Vec<Point>, line: u32, entry: FadeEntry) -> Result<(), AllocError>
+    requires sound { IsFadeEntry entry }
+    requires kept { All IsKeptPoint points.old.items }
+    ensures points { OnOk result (map envelope_point_of points.new.items
+        ≡ map envelope_point_of points.old.items ++ point_at line entry) }
+    ensures kept { IfOk result (λ _. All IsKeptPoint points.new.items) }
 {
-    if let Entry::At(place, steps) = entry {
+    if let FadeEntry::At(place, steps) = entry {
         points.push(Point {
             frame: 0,
             place,
@@ -56,9 +56,9 @@ fn keep(points: &mut Vec<Point>, line: u32, entry: Entry) -> Result<(), AllocErr
 fn read_points(alloc: Global, text: &[u8]) -> Result<Vec<Point>, EnvelopeFault>
     requires { length text.now ≤ longest_sheet }
     ensures envelope { MatchResult result
-        (λ points. envelope_in (entries_from text.now 0) ≡ Ok (map in_envelope points.items))
-        (λ fault. (fault ≡ Memory) ⊎ (envelope_in (entries_from text.now 0) ≡ Err fault)) }
-    ensures kept { IfOk result (λ points. All IsKept points.items) }
+        (λ points. envelope_in (fade_entries_from text.now 0) ≡ Ok (map envelope_point_of points.items))
+        (λ fault. (fault ≡ Memory) ⊎ (envelope_in (fade_entries_from text.now 0) ≡ Err fault)) }
+    ensures kept { IfOk result (λ points. All IsKeptPoint points.items) }
 {
     let mut points = Vec::new(alloc);
     let mut line = 1;
@@ -92,13 +92,13 @@ impl Model for Envelope {
     ghost use Rattle.std.specs.Prelude.{List, map};
     ghost use Rattle.std.specs.List.{All};
     ghost use Rattle.fade_plan.specs.Sheets.{EnvelopePoint};
-    ghost use Rattle.fade_plan.specs.Points.{IsKept, in_envelope};
+    ghost use Rattle.fade_plan.specs.Points.{IsKeptPoint, envelope_point_of};
 
     ghost Value = { List EnvelopePoint };
 
-    ghost view = { λ envelope. map in_envelope envelope.points.items };
+    ghost view = { λ envelope. map envelope_point_of envelope.points.items };
 
-    ghost invariant = { λ envelope. All IsKept envelope.points.items };
+    ghost invariant = { λ envelope. All IsKeptPoint envelope.points.items };
 }
 
 impl Envelope {
@@ -133,7 +133,7 @@ impl Envelope {
     {
         let mut points = self.points;
         place_all(&mut points, class, frames);
-        match first_low(&points) {
+        match first_not_rising(&points) {
             Some(line) => Err(line),
             None => Ok(Curve::of(points)),
         }

@@ -2,7 +2,7 @@
 ghost use Rattle.std.specs.Prelude.{◌≡◌, ◌≤◌, map, None, neg_ℤ, unsigned_abs};
 ghost use Rattle.std.specs.List.{All};
 ghost use Rattle.std.specs.List.Sorted.{IsNonDecreasingBy};
-ghost use Rattle.fade_plan.specs.Points.{IsKept, placed, first_low as first_low_lem};
+ghost use Rattle.fade_plan.specs.Points.{IsKeptPoint, placed_point, first_not_rising};
 
 use cue_sheet::Place;
 use frame_header::Class;
@@ -21,7 +21,7 @@ pub(crate) struct Point {
 }
 
 /// The steps with the opposite sign.
-pub(crate) fn opposite(steps: i16) -> i16
+pub(crate) fn opposite_steps(steps: i16) -> i16
     requires { unsigned_abs steps ≤ 255 }
     ensures steps { result ≡ neg_ℤ steps }
     ensures most { unsigned_abs result ≤ 255 }
@@ -31,9 +31,9 @@ pub(crate) fn opposite(steps: i16) -> i16
 
 /// Gives every point its frame.
 pub(crate) fn place_all(points: &mut [Point], class: Class, frames: u32)
-    requires { All IsKept points.old }
-    ensures placed { points.new ≡ map (placed class frames) points.old }
-    ensures kept { All IsKept points.new }
+    requires { All IsKeptPoint points.old }
+    ensures placed { points.new ≡ map (placed_point class frames) points.old }
+    ensures kept { All IsKeptPoint points.new }
 {
     for point in points.iter_mut() {
         point.frame = point.place.frame_of(class, frames);
@@ -41,8 +41,8 @@ pub(crate) fn place_all(points: &mut [Point], class: Class, frames: u32)
 }
 
 /// The line of the first point whose frame isn't greater than that of the point before.
-pub(crate) fn first_low(points: &[Point]) -> Option<u32>
-    ensures line { result ≡ first_low_lem points.now }
+pub(crate) fn first_not_rising(points: &[Point]) -> Option<u32>
+    ensures line { result ≡ first_not_rising points.now }
     ensures rising { result ≡ None → IsNonDecreasingBy (λ point. point.frame) points.now }
 {
     let mut next = 1;

@@ -8,7 +8,7 @@ use std::alloc::AllocError;
 use std::process::Abort;
 use std::test::Fail;
 
-#[tactic(auto, using(outside::proofs::FilesLaws::emptied_there))]
+#[tactic(auto, using(outside::proofs::FilesLemmas::emptied_there))]
 fn copied<D: Folder>(folder: &mut D, from: &str, to: &str) -> Result<usize, Failed> {
     let mut bytes = [0; 16];
     folder.find(from)?;

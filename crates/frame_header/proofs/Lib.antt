@@ -1,6 +1,6 @@
-pub mod Lengths
-pub mod HeaderLaws
-pub mod ClassLaws
-pub mod SlotLaws
-pub mod Below
-mod Comparing
+pub mod LengthLemmas
+pub mod HeaderLemmas
+pub mod ClassLemmas
+pub mod SlotLemmas
+pub mod BelowLemmas
+mod ComparingLemmas

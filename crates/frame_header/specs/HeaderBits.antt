@@ -1,6 +1,6 @@
 -- The 32 bits that a header is written as (ISO/IEC 11172-3 and 13818-3, 2.4.1.3 and 2.4.2.3).
 use Rattle.std.specs.Prelude.{Bool, if◌then◌else◌, List, ℕ, [], ◌∷◌}
-use Rattle.bit_fields.specs.Groups.{spelled}
+use Rattle.bit_fields.specs.Groups.{group_bits}
 use Rattle.frame_header.specs.Fields.{HeaderFields, version_number}
 
 -- the width in bits of the first 11 bits of the syncword, its twelfth with
@@ -26,4 +26,4 @@ header_numbers h =
 
 -- the 32 bits of a header
 unfoldable pub header_bits : HeaderFields → List ℕ
-header_bits h = spelled header_widths (header_numbers h)
+header_bits h = group_bits header_widths (header_numbers h)

@@ -2,8 +2,8 @@
 use Rattle.frame_header.specs.{Fields.HeaderFields, declared.header.Header.TheInside.Inside}
 
 -- the fields of the code's header
-abbrev pub fields_of : Inside → HeaderFields
-fields_of h = record {
+abbrev pub header_view : Inside → HeaderFields
+header_view h = record {
   version = h.version;
   protected = h.protected;
   slot = h.slot;
@@ -17,8 +17,8 @@ fields_of h = record {
 }
 
 -- the code's header with these fields
-abbrev pub inside_of : HeaderFields → Inside
-inside_of h = record {
+abbrev pub header_inside : HeaderFields → Inside
+header_inside h = record {
   version = h.version;
   protected = h.protected;
   slot = h.slot;

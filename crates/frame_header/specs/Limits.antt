@@ -7,8 +7,8 @@ abbrev pub most_frames : ℕ
 most_frames = 2900000
 
 -- the most frames of an output: these, and a lead-in before the frames of each of at most 64 inputs
-abbrev pub most_placed : ℕ
-most_placed = 2900064
+abbrev pub most_output_frames : ℕ
+most_output_frames = 2900064
 
 -- the greatest length of a frame in bytes
 abbrev pub most_frame_length : ℕ

@@ -2,7 +2,7 @@
 ghost use Rattle.std.specs.Prelude.{◌≡◌, ◌+◌, ◌<◌, ◌≤◌, ◌↔◌, Bool, false, IsTrue, Contains, AllPairs};
 ghost use Rattle.frame_header.specs.declared.version.Version.TheVariants.{One};
 ghost use Rattle.frame_header.specs.Fields.{SlotFields, IsSlot, same_class};
-ghost use Rattle.frame_header.specs.Tables.{rate_of, frequency_of, samples_of, side_size_of, window_of, version_place as version_place_lem, length_of, overhead_of, area_of};
+ghost use Rattle.frame_header.specs.Tables.{rate_of, frequency_of, samples_of, side_size_of, window_of, version_place, length_of, overhead_of, area_of};
 ghost use Rattle.frame_header.specs.Slots.{all_slots, areas_of, largest_slot};
 ghost use Rattle.frame_header.specs.Limits.{most_frame_length, most_front};
 
@@ -193,7 +193,7 @@ impl Class {
 
 /// The place of a version among the versions.
 fn version_place(version: Version) -> usize
-    ensures { result ≡ version_place_lem version }
+    ensures { result ≡ version_place version }
 {
     match version {
         Version::One => 0,

@@ -3,7 +3,7 @@ ghost use Rattle.std.specs.Prelude.{◌≡◌, ℕ, ◌+◌, ◌^◌, ◌<◌, �
 ghost use Rattle.bit_fields.specs.Bits.{bits, bits_of, AreBytes};
 ghost use Rattle.bit_fields.specs.Groups.{group};
 ghost use Rattle.frame_header.specs.Tables.{class_of, length_of, overhead_of, area_of};
-ghost use Rattle.frame_header.specs.Reading.{header_at, header_in, rate_bits, frequency_bits, header_of_class, is_readable as is_readable_lem, version_of as version_of_lem};
+ghost use Rattle.frame_header.specs.Reading.{header_at, header_in, rate_bits, frequency_bits, header_of_class, is_readable, version_of};
 ghost use Rattle.frame_header.specs.Fields.{HeaderFields, version_number};
 ghost use Rattle.frame_header.specs.HeaderBits.{header_bits};
 ghost use Rattle.frame_header.specs.Limits.{most_frame_length, most_front};
@@ -44,7 +44,7 @@ fn is_set(word: u32, at: u32) -> bool
 /// and the bit rate isn't the forbidden one nor the frequency the reserved one.
 #[tactic(auto, unfolding(crate::specs::Reading::is_readable))]
 fn is_readable(word: u32) -> bool
-    ensures { result ≡ is_readable_lem (bits_of 32 word) }
+    ensures { result ≡ is_readable (bits_of 32 word) }
 {
     group_of(word, 0, 11) == 0x7ff
         && group_of(word, 11, 2) != 1
@@ -84,18 +84,18 @@ impl Model for Header {
 
     ghost Value = { HeaderFields };
 
-    ghost use Rattle.frame_header.specs.HeaderView.{fields_of, inside_of};
+    ghost use Rattle.frame_header.specs.HeaderView.{header_view, header_inside};
 
-    ghost view = { fields_of };
+    ghost view = { header_view };
 
-    ghost invariant = { λ h. IsHeader (fields_of h) };
+    ghost invariant = { λ h. IsHeader (header_view h) };
 
-    ghost inverse = { inside_of };
+    ghost inverse = { header_inside };
 }
 
 /// The version by the twelfth bit of a header and ID.
 fn version_of(word: u32) -> Version
-    ensures { result ≡ version_of_lem (bits_of 32 word) }
+    ensures { result ≡ version_of (bits_of 32 word) }
 {
     match group_of(word, 11, 2) {
         3 => Version::One,
@@ -108,11 +108,11 @@ fn version_of(word: u32) -> Version
 #[inline(always)]
 #[tactic(auto, unfolding(crate::specs::Reading::header_in, crate::specs::Reading::header_fields))]
 fn header_of(word: u32, version: Version, frequency_index: u8) -> Header
-    requires readable { is_readable_lem (bits_of 32 word) ≡ true }
+    requires readable { is_readable (bits_of 32 word) ≡ true }
     requires some { 1 ≤ rate_bits (bits_of 32 word) }
     requires most { rate_bits (bits_of 32 word) ≤ 14 }
     requires index { frequency_index ≤ 2 }
-    requires version { version ≡ version_of_lem (bits_of 32 word) }
+    requires version { version ≡ version_of (bits_of 32 word) }
     requires frequency { frequency_index ≡ frequency_bits (bits_of 32 word) }
     ensures { header_in (bits_of 32 word) ≡ Ok result }
 {
@@ -153,12 +153,12 @@ fn read_word(word: u32) -> Result<Header, NotHeader>
 
 /// Whether these are the bits of a header with this version and sampling frequency, and not free format.
 #[inline(always)]
-#[tactic(auto, using(crate::proofs::HeaderLaws::says_class), unfolding(crate::specs::Reading::is_readable))]
+#[tactic(auto, using(crate::proofs::HeaderLemmas::says_class), unfolding(crate::specs::Reading::is_readable))]
 fn is_header_of(class: Class, word: u32) -> bool
-    ensures readable { result ≡ true → is_readable_lem (bits_of 32 word) ≡ true }
+    ensures readable { result ≡ true → is_readable (bits_of 32 word) ≡ true }
     ensures some { result ≡ true → 1 ≤ rate_bits (bits_of 32 word) }
     ensures most { result ≡ true → rate_bits (bits_of 32 word) ≤ 14 }
-    ensures version { result ≡ true → class.version ≡ version_of_lem (bits_of 32 word) }
+    ensures version { result ≡ true → class.version ≡ version_of (bits_of 32 word) }
     ensures frequency { result ≡ true → class.frequency_index ≡ frequency_bits (bits_of 32 word) }
     ensures all { (h : HeaderFields) → header_in (bits_of 32 word) ≡ Ok h
         → h.version ≡ class.version → h.frequency_index ≡ class.frequency_index → result ≡ true }

@@ -1,5 +1,5 @@
 -- The lemmas of this crate.
-pub mod LaidLaws
-pub mod FrameLaws
-pub mod WritingLaws
-pub mod BytesLaws
+pub mod LaidLemmas
+pub mod FrameLemmas
+pub mod WritingLemmas
+pub mod BytesLemmas

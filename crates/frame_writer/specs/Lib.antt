@@ -7,9 +7,9 @@ pub mod Laws
 pub use Rattle.bit_fields.specs.Bits
 pub use Rattle.frame_header.specs.Fields
 pub use Rattle.frame_header.specs.Tables
+pub use Rattle.outside.specs.BufferOutput
 pub use Rattle.outside.specs.Counts
 pub use Rattle.outside.specs.Files
-pub use Rattle.outside.specs.Passed
 pub use Rattle.side_info.specs.Frame
 pub use Rattle.side_info.specs.FrameFields
 pub use Rattle.side_info.specs.Side

@@ -1,9 +1,9 @@
 //! The areas that wait, over a queue of bytes.
 ghost use Rattle.std.specs.Prelude.{◌≡◌, ℕ, ◌+◌, ◌-◌, ◌≤◌, min, List, [], ◌∷◌, ◌++◌, length, take, drop, IfOk, OnOk, OnErr};
-ghost use Rattle.outside.specs.Files.{IsThere};
-ghost use Rattle.outside.specs.Passed.{PassedOn, AppendedPrefix};
+ghost use Rattle.outside.specs.Files.{IsFileThere};
+ghost use Rattle.outside.specs.BufferOutput.{AppendsWaiting, AppendedPrefix};
 ghost use Rattle.outside.specs.Counts.{OnlyWrites};
-ghost use Rattle.frame_writer.specs.Laid.{Piece, Waiting, zeros, laid_behind, AreLaid, most_waiting};
+ghost use Rattle.frame_writer.specs.Laid.{FrameData, WaitingAreas, zeros, areas_after_laying, AreAreasLaid, most_waiting};
 ghost use Rattle.frame_writer.specs.Writing.{WriteFailed};
 ghost use Rattle.outside.specs.Answers.{PassAnswer};
 ghost use Rattle.reservoir.specs.Window.{window_size};
@@ -32,9 +32,9 @@ pub struct Areas {
 
 impl Model for Areas {
     ghost use Rattle.std.specs.Prelude.{◌+◌, ◌≤◌, ◌++◌, length};
-    ghost use Rattle.frame_writer.specs.Laid.{Waiting, zeros};
+    ghost use Rattle.frame_writer.specs.Laid.{WaitingAreas, zeros};
 
-    ghost Value = { Waiting };
+    ghost Value = { WaitingAreas };
 
     ghost view = { λ a. record { bytes = a.queue ++ zeros a.free; free = a.free } };
 
@@ -48,7 +48,7 @@ impl Areas {
     /// Where there is no memory.
     pub fn new(alloc: Global) -> Result<Areas, AllocError>
         ensures none { IfOk result (λ areas. areas ≡ record { bytes = []; free = 0 }) }
-        ensures laid { IfOk result (λ areas. AreLaid [] areas []) }
+        ensures laid { IfOk result (λ areas. AreAreasLaid [] areas []) }
     {
         Ok(Areas {
             queue: ByteQueue::new(alloc)?,
@@ -90,11 +90,11 @@ impl Areas {
         requires within { length payload.now ≤ begin + area }
         requires room { length self.old.bytes + area ≤ most_waiting }
         requires few { length payload.now ≤ window_size }
-        ensures put { self.new.bytes ≡ laid_behind self.old payload.now begin area }
+        ensures put { self.new.bytes ≡ areas_after_laying self.old payload.now begin area }
         ensures free { self.new.free + length payload.now ≡ begin + area }
         ensures long { length self.new.bytes ≡ length self.old.bytes + area }
-        ensures laid { (given : List ℕ) (ps : List Piece) → AreLaid given self.old ps →
-            AreLaid given self.new
+        ensures laid { (given : List ℕ) (ps : List FrameData) → AreAreasLaid given self.old ps →
+            AreAreasLaid given self.new
             (ps ++ record { payload = payload.now; begin = begin; area = area } ∷ []) }
     {
         let gap = self.free - begin;
@@ -115,7 +115,7 @@ impl Areas {
         name: &str,
         unsent: &mut WriteBuffer,
     ) -> Result<(), Failed>
-        requires there { IsThere (D.seen folder.old).files name.now }
+        requires there { IsFileThere (D.seen folder.old).files name.now }
         requires within { count ≤ length self.now.bytes }
         ensures { PassAnswer name.now unsent.old (take count self.now.bytes) unsent.new
             (D.seen folder.old) (D.seen folder.new) result }
@@ -133,8 +133,8 @@ impl Areas {
         requires { count ≤ length self.old.bytes }
         ensures left { self.new.bytes ≡ drop count self.old.bytes }
         ensures free { self.new.free ≡ min self.old.free (length self.new.bytes) }
-        ensures laid { (given : List ℕ) (ps : List Piece) → AreLaid given self.old ps →
-            AreLaid (given ++ take count self.old.bytes) self.new ps }
+        ensures laid { (given : List ℕ) (ps : List FrameData) → AreAreasLaid given self.old ps →
+            AreAreasLaid (given ++ take count self.old.bytes) self.new ps }
     {
         let stored = count.min(self.queue.len());
         self.queue.drop_first(stored);
@@ -144,7 +144,7 @@ impl Areas {
     /// Forgets all that waits.
     pub(crate) fn clear(&mut self)
         ensures none { self.new ≡ record { bytes = []; free = 0 } }
-        ensures laid { AreLaid [] self.new [] }
+        ensures laid { AreAreasLaid [] self.new [] }
     {
         self.queue.clear();
         self.free = 0;
@@ -208,7 +208,7 @@ fn add_zeros<D: Folder>(
     name: &str,
     unsent: &mut WriteBuffer,
 ) -> Result<(), Failed>
-    requires there { IsThere (D.seen folder.old).files name.now }
+    requires there { IsFileThere (D.seen folder.old).files name.now }
     requires few { count ≤ most_waiting }
     ensures { PassAnswer name.now unsent.old (zeros count) unsent.new (D.seen folder.old)
         (D.seen folder.new) result }

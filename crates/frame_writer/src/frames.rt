@@ -3,11 +3,11 @@ ghost use Rattle.std.specs.Prelude.{◌≡◌, ◌≤◌, ◌++◌, length, take
 ghost use Rattle.frame_header.specs.Fields.{IsHeader};
 ghost use Rattle.frame_header.specs.Tables.{class_of};
 ghost use Rattle.side_info.specs.Side.{SideFits};
-ghost use Rattle.side_info.specs.Frame.{front_of};
-ghost use Rattle.outside.specs.Files.{IsThere};
-ghost use Rattle.outside.specs.Passed.{PassedOn, AppendedPrefix};
+ghost use Rattle.side_info.specs.Frame.{frame_front_bytes};
+ghost use Rattle.outside.specs.Files.{IsFileThere};
+ghost use Rattle.outside.specs.BufferOutput.{AppendsWaiting, AppendedPrefix};
 ghost use Rattle.outside.specs.Counts.{OnlyWrites};
-ghost use Rattle.frame_writer.specs.Frames.{area_in, first_bytes};
+ghost use Rattle.frame_writer.specs.Frames.{frame_area, first_bytes};
 ghost use Rattle.frame_writer.specs.Writing.{WriteFailed};
 ghost use Rattle.outside.specs.Answers.{PassAnswer};
 ghost use Rattle.frame_header.specs.Limits.{most_frame_length, most_front};
@@ -31,22 +31,22 @@ impl Model for SizedFront {
     ghost use Rattle.std.specs.Prelude.{◌≡◌};
     ghost use Rattle.frame_header.specs.Fields.{IsHeader};
     ghost use Rattle.side_info.specs.FrameFields.{FrameFields};
-    ghost use Rattle.frame_writer.specs.Frames.{area_in};
+    ghost use Rattle.frame_writer.specs.Frames.{frame_area};
 
     ghost Value = { FrameFields };
 
     ghost view = { λ s. s.front };
 
-    ghost invariant = { λ s. IsHeader s.front.header × (s.area ≡ area_in s.front) };
+    ghost invariant = { λ s. IsHeader s.front.header × (s.area ≡ frame_area s.front) };
 
-    ghost inverse = { λ f. record { front = f; area = area_in f } };
+    ghost inverse = { λ f. record { front = f; area = frame_area f } };
 }
 
 impl SizedFront {
     /// Of a frame whose area has `area` bytes.
     #[inline(always)]
     fn new(front: &FrameFront, area: u32) -> SizedFront
-        requires { area ≡ area_in front.now }
+        requires { area ≡ frame_area front.now }
         ensures { result ≡ front.now }
     {
         // The class says that the header is one of the standard's, by which the area is short.
@@ -60,7 +60,7 @@ impl SizedFront {
     /// How many bytes the area has, from 1 to 1,441.
     #[inline(always)]
     pub fn area(&self) -> u32
-        ensures area { result ≡ area_in self.now }
+        ensures area { result ≡ frame_area self.now }
         ensures some { 1 ≤ result }
         ensures most { result ≤ most_frame_length }
         ensures header { IsHeader self.now.header }
@@ -85,7 +85,7 @@ impl SizedFront {
         requires class { class ≡ class_of self.now.header }
         requires room { most_front ≤ length room.old }
         ensures size { result ≤ most_front }
-        ensures front { take result room.new ≡ front_of self.now.header self.now.side }
+        ensures front { take result room.new ≡ frame_front_bytes self.now.header self.now.side }
     {
         self.front.put_in(class, room)
     }
@@ -101,13 +101,13 @@ pub struct Frame<'f, 'a> {
 
 impl<'f, 'a> Model for Frame<'f, 'a> {
     ghost use Rattle.std.specs.Prelude.{◌≡◌};
-    ghost use Rattle.frame_writer.specs.Frames.{Frame, area_in};
+    ghost use Rattle.frame_writer.specs.Frames.{Frame, frame_area};
 
     ghost Value = { Frame };
 
     ghost view = { λ f. record { kept = f.front.now; payload = f.payload } };
 
-    ghost invariant = { λ f. f.area ≡ area_in f.front.now };
+    ghost invariant = { λ f. f.area ≡ frame_area f.front.now };
 }
 
 impl<'f, 'a> Frame<'f, 'a> {
@@ -122,7 +122,7 @@ impl<'f, 'a> Frame<'f, 'a> {
     /// The same, where it is known how many bytes the area of the frame has.
     #[inline(always)]
     pub fn with_area(front: &'f FrameFront, area: u32, payload: Payload<'a>) -> Frame<'f, 'a>
-        requires { area ≡ area_in front.now }
+        requires { area ≡ frame_area front.now }
         ensures { result ≡ record { kept = front.now; payload = payload.entry } }
     {
         Frame {
@@ -154,9 +154,9 @@ pub(crate) fn add_frame<D: Folder>(
     name: &str,
     unsent: &mut WriteBuffer,
 ) -> Result<(), Failed>
-    requires there { IsThere (D.seen folder.old).files name.now }
+    requires there { IsFileThere (D.seen folder.old).files name.now }
     requires class { class ≡ class_of first.now.header }
-    requires within { area_in first.now ≤ length areas.now.bytes }
+    requires within { frame_area first.now ≤ length areas.now.bytes }
     ensures { PassAnswer name.now unsent.old (first_bytes first.now areas.now.bytes) unsent.new
         (D.seen folder.old) (D.seen folder.new) result }
 {

@@ -1,12 +1,12 @@
 //! Frames that wait until no later main data can reach their areas.
 ghost use Rattle.std.specs.Prelude.{◌≡◌, ℕ, ◌+◌, ◌-◌, ◌<◌, ◌≤◌, ◌↔◌, List, [], ◌∷◌, ◌++◌, length, drop, min, IsTrue, IfOk, OnOk, OnErr};
 ghost use Rattle.frame_header.specs.Tables.{class_of};
-ghost use Rattle.outside.specs.Files.{IsThere};
-ghost use Rattle.outside.specs.Passed.{PassedOn, AppendedPrefix};
+ghost use Rattle.outside.specs.Files.{IsFileThere};
+ghost use Rattle.outside.specs.BufferOutput.{AppendsWaiting, AppendedPrefix};
 ghost use Rattle.outside.specs.Counts.{OnlyWrites};
-ghost use Rattle.frame_writer.specs.Frames.{held_bytes, first_area, area_in, areas_with, Frame, EndsInArea, IsNextSettled, reach_of, reach_with, AreWritten};
-ghost use Rattle.frame_writer.specs.Writing.{writing, waiting_bytes, bytes_with, IsNew, HandedOn, HandedPart, WritesOn, WritesPart, GoesOn, WriteFailed};
-ghost use Rattle.frame_writer.specs.Answers.{FrameAnswer, QueueFinish, HandOn, TakeFirst};
+ghost use Rattle.frame_writer.specs.Frames.{held_bytes, first_area, frame_area, areas_with_frame, Frame, EndsInArea, IsNextSettled, reach_of, reach_after_frame, AreFramesWritten};
+ghost use Rattle.frame_writer.specs.Writing.{writing_of, waiting_bytes, bytes_with_frame, IsNewQueue, ForwardsFrames, ForwardsPart, AcceptsFrame, WritesPart, ForwardsBytes, WriteFailed};
+ghost use Rattle.frame_writer.specs.Answers.{FrameAnswer, QueueFinish, HandOnAnswer, TakeFirstAnswer};
 ghost use Rattle.reservoir.specs.Window.{window_size};
 
 use crate::areas::Areas;
@@ -32,14 +32,14 @@ pub struct FrameQueue {
 
 impl Model for FrameQueue {
     ghost use Rattle.std.specs.Prelude.{◌≡◌, ◌≤◌, length};
-    ghost use Rattle.frame_writer.specs.Frames.{Held, AreOf, areas_in};
+    ghost use Rattle.frame_writer.specs.Frames.{WaitingFrames, AreFieldsOfClass, areas_length};
 
-    ghost Value = { Held };
+    ghost Value = { WaitingFrames };
 
     ghost view = { λ w. record { class = w.class; kept = w.kept.items; waiting = w.areas } };
 
     ghost invariant = { λ w. (w.kept.capacity ≡ 256) × (length w.kept.items ≤ 256)
-        × (areas_in w.kept.items ≡ length w.areas.bytes) × AreOf w.class w.kept.items };
+        × (areas_length w.kept.items ≡ length w.areas.bytes) × AreFieldsOfClass w.class w.kept.items };
 }
 
 impl FrameQueue {
@@ -48,7 +48,7 @@ impl FrameQueue {
     /// # Errors
     /// Where there is no memory.
     pub fn new(alloc: Global, class: Class) -> Result<FrameQueue, AllocError>
-        ensures { IfOk result (IsNew class) }
+        ensures { IfOk result (IsNewQueue class) }
     {
         Ok(FrameQueue {
             class,
@@ -59,7 +59,7 @@ impl FrameQueue {
 
     /// Begins again, with frames of this class. What waits is forgotten.
     pub fn restart(&mut self, class: Class)
-        ensures { IsNew class self.new }
+        ensures { IsNewQueue class self.new }
     {
         self.class = class;
         self.kept.clear();
@@ -108,14 +108,14 @@ impl FrameQueue {
         name: &str,
         unsent: &mut WriteBuffer,
     ) -> Result<(), Failed>
-        requires there { IsThere (D.seen folder.old).files name.now }
+        requires there { IsFileThere (D.seen folder.old).files name.now }
         requires class { class_of frame.now.kept.header ≡ self.old.class }
         requires start { frame.now.kept.side.main_data_begin ≤ self.old.waiting.free }
         requires within { EndsInArea frame.now }
         requires few { length frame.now.payload ≤ window_size }
         requires unsettled { IsNextSettled self.old → ⊥ }
-        ensures answer { FrameAnswer name.now frame.now (writing self.old unsent.old)
-            (writing self.new unsent.new) (D.seen folder.old) (D.seen folder.new) result }
+        ensures answer { FrameAnswer name.now frame.now (writing_of self.old unsent.old)
+            (writing_of self.new unsent.new) (D.seen folder.old) (D.seen folder.new) result }
         ensures unsettled { OnOk result (IsNextSettled self.new → ⊥) }
     {
         self.push(frame);
@@ -132,8 +132,8 @@ impl FrameQueue {
         name: &str,
         unsent: &mut WriteBuffer,
     ) -> Result<(), Failed>
-        requires there { IsThere (D.seen folder.old).files name.now }
-        ensures { QueueFinish name.now (writing self.old unsent.old) (writing self.new unsent.new)
+        requires there { IsFileThere (D.seen folder.old).files name.now }
+        ensures { QueueFinish name.now (writing_of self.old unsent.old) (writing_of self.new unsent.new)
             (D.seen folder.old) (D.seen folder.new) result }
     {
         while self.count() > 0 {
@@ -150,8 +150,8 @@ impl FrameQueue {
         name: &str,
         unsent: &mut WriteBuffer,
     ) -> Result<(), Failed>
-        requires there { IsThere (D.seen folder.old).files name.now }
-        ensures { HandOn name.now (writing self.old unsent.old) (writing self.new unsent.new)
+        requires there { IsFileThere (D.seen folder.old).files name.now }
+        ensures { HandOnAnswer name.now (writing_of self.old unsent.old) (writing_of self.new unsent.new)
             (D.seen folder.old) (D.seen folder.new) result }
     {
         while self.is_next_settled() {
@@ -173,10 +173,10 @@ impl FrameQueue {
         ensures class { self.new.class ≡ self.old.class }
         ensures kept { self.new.kept ≡ self.old.kept ++ frame.now.kept ∷ [] }
         ensures free { self.new.waiting.free + length frame.now.payload ≡
-            frame.now.kept.side.main_data_begin + area_in frame.now.kept }
-        ensures put { self.new.waiting.bytes ≡ areas_with self.old.waiting frame.now }
-        ensures written { (taken : List ℕ) (fs : List Frame) → AreWritten taken self.old fs →
-            AreWritten taken self.new (fs ++ frame.now ∷ []) }
+            frame.now.kept.side.main_data_begin + frame_area frame.now.kept }
+        ensures put { self.new.waiting.bytes ≡ areas_with_frame self.old.waiting frame.now }
+        ensures written { (taken : List ℕ) (fs : List Frame) → AreFramesWritten taken self.old fs →
+            AreFramesWritten taken self.new (fs ++ frame.now ∷ []) }
     {
         let front = frame.front();
         let area = front.area();
@@ -198,9 +198,9 @@ impl FrameQueue {
         name: &str,
         unsent: &mut WriteBuffer,
     ) -> Result<(), Failed>
-        requires there { IsThere (D.seen folder.old).files name.now }
+        requires there { IsFileThere (D.seen folder.old).files name.now }
         requires some { 0 < length self.old.kept }
-        ensures { TakeFirst name.now (writing self.old unsent.old) (writing self.new unsent.new)
+        ensures { TakeFirstAnswer name.now (writing_of self.old unsent.old) (writing_of self.new unsent.new)
             (D.seen folder.old) (D.seen folder.new) result }
     {
         let first = self.kept.front().unwrap();

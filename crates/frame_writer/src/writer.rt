@@ -2,12 +2,12 @@
 ghost use Rattle.std.specs.Prelude.{◌≡◌, ◌+◌, ◌≤◌, ◌↔◌, [], ◌++◌, length, IsTrue, IfOk, OnOk, OnErr};
 ghost use Rattle.frame_header.specs.Tables.{class_of};
 ghost use Rattle.side_info.specs.Side.{SideFits};
-ghost use Rattle.outside.specs.Files.{IsThere, appended};
-ghost use Rattle.outside.specs.Passed.{PassedOn, AppendedPrefix};
+ghost use Rattle.outside.specs.Files.{IsFileThere, with_appended_bytes};
+ghost use Rattle.outside.specs.BufferOutput.{AppendsWaiting, AppendedPrefix};
 ghost use Rattle.outside.specs.Counts.{OnlyWrites};
-ghost use Rattle.frame_writer.specs.Frames.{held_bytes, frame_of, EndsInArea, reach_of, reach_with};
-ghost use Rattle.frame_writer.specs.Writing.{writing, bytes_with, IsNew, WritesOn, WritesPart, WriteFailed};
-ghost use Rattle.frame_writer.specs.Answers.{FrameAnswer, WriterFinish, Takes};
+ghost use Rattle.frame_writer.specs.Frames.{held_bytes, frame_with_data, EndsInArea, reach_of, reach_after_frame};
+ghost use Rattle.frame_writer.specs.Writing.{writing_of, bytes_with_frame, IsNewQueue, AcceptsFrame, WritesPart, WriteFailed};
+ghost use Rattle.frame_writer.specs.Answers.{FrameAnswer, WriterFinish, CanTakeFrame};
 ghost use Rattle.reservoir.specs.Window.{window_size};
 
 use crate::frames::Frame;
@@ -42,13 +42,13 @@ pub struct Writer {
 }
 
 impl Model for Writer {
-    ghost use Rattle.frame_writer.specs.Writer.{Writer, IsSettled};
+    ghost use Rattle.frame_writer.specs.Writer.{Writer, IsWriterSettled};
 
     ghost Value = { Writer };
 
     ghost view = { λ w. record { held = w.queue; state = w.state } };
 
-    ghost invariant = { λ w. IsSettled w.state w.queue w.unsent };
+    ghost invariant = { λ w. IsWriterSettled w.state w.queue w.unsent };
 }
 
 impl Writer {
@@ -59,7 +59,7 @@ impl Writer {
     /// # Errors
     /// Where there is no memory.
     pub fn new(alloc: Global, class: Class) -> Result<Writer, AllocError>
-        ensures new { IfOk result (λ writer. IsNew class writer.held) }
+        ensures new { IfOk result (λ writer. IsNewQueue class writer.held) }
         ensures ready { IfOk result (λ writer. writer.state ≡ State.Open) }
     {
         Ok(Writer {
@@ -113,12 +113,12 @@ impl Writer {
         folder: &mut D,
         name: &str,
     ) -> Result<(), Failed>
-        requires there { IsThere (D.seen folder.old).files name.now }
+        requires there { IsFileThere (D.seen folder.old).files name.now }
         requires ready { self.old.state ≡ State.Open }
-        requires takes { Takes self.old.held (frame_of header.now side.now payload.now) }
+        requires takes { CanTakeFrame self.old.held (frame_with_data header.now side.now payload.now) }
         requires fits { SideFits self.old.held.class side.now }
-        ensures answer { FrameAnswer name.now (frame_of header.now side.now payload.now)
-            (writing self.old.held []) (writing self.new.held []) (D.seen folder.old)
+        ensures answer { FrameAnswer name.now (frame_with_data header.now side.now payload.now)
+            (writing_of self.old.held []) (writing_of self.new.held []) (D.seen folder.old)
             (D.seen folder.new) result }
         ensures ready { OnOk result (self.new.state ≡ State.Open) }
         ensures ended { OnErr result (self.new.state ≡ State.Failed) }
@@ -137,7 +137,7 @@ impl Writer {
     /// # Errors
     /// Where a write failed. Then a prefix of what waited was appended, and the writer has failed.
     pub fn finish<D: Folder>(&mut self, folder: &mut D, name: &str) -> Result<(), Failed>
-        requires there { IsThere (D.seen folder.old).files name.now }
+        requires there { IsFileThere (D.seen folder.old).files name.now }
         requires ready { self.old.state ≡ State.Open }
         ensures { WriterFinish name.now self.old.held self.new.held self.new.state
             (D.seen folder.old) (D.seen folder.new) result }

@@ -1,12 +1,12 @@
 -- The lemmas of this crate.
-pub mod Refusals
-pub mod Proper
-pub mod RangeAgain
-pub mod OppositeSteps
-pub mod UndoneGains
-pub mod KeptGains
-pub mod FadeLaws
-pub mod FadeProper
-pub mod ExactLaws
-mod TakenBack
-mod KeptFade
+pub mod RefusalLemmas
+pub mod ProperLemmas
+pub mod RangeAgainLemmas
+pub mod OppositeStepLemmas
+pub mod UndoneGainLemmas
+pub mod KeptGainLemmas
+pub mod FadeLemmas
+pub mod FadeProperLemmas
+pub mod ExactLemmas
+mod TakenBackLemmas
+mod KeptFadeLemmas

@@ -16,17 +16,17 @@ abbrev pub is_joint : Row → Bool
 is_joint row = row.header.mode == 1
 
 -- the refusal of such a frame
-abbrev pub joint_at : Row → Option Refusal
-joint_at row = if is_joint row then Some (Joint row.offset) else None
+abbrev pub joint_refusal : Row → Option Refusal
+joint_refusal row = if is_joint row then Some (Joint row.offset) else None
 
 -- the first such frame, be it silent or lost
 abbrev pub joint_fault : List Row → Option Refusal
-joint_fault rows = first_refusal joint_at rows
+joint_fault rows = first_refusal joint_refusal rows
 
 -- why one channel alone can't change: there is only one, or the two of a frame are coded jointly
-abbrev pub apart_fault : SurveyFields → Option Refusal
-apart_fault s = if s.class.channels == 1 then Some Mono else joint_fault s.frames
+abbrev pub single_channel_fault : SurveyFields → Option Refusal
+single_channel_fault s = if s.class.channels == 1 then Some Mono else joint_fault s.frames
 
 -- why these channels of the file can't change
 abbrev pub channel_fault : Shift → SurveyFields → Option Refusal
-channel_fault shift s = if are_both shift.channels then None else apart_fault s
+channel_fault shift s = if are_both shift.channels then None else single_channel_fault s

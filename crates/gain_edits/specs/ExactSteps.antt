@@ -2,15 +2,15 @@
 -- that move.
 use Rattle.std.specs.Prelude.{All, Bool, Err, false, if◌then◌else◌, is_ok, IsTrue, length, List}
 use Rattle.std.specs.Prelude.{None, not, Ok, Option, Result, Some, true, ℕ, ℤ, [], ◌∷◌, ◌≡◌, ◌≤◌}
-use Rattle.commands.specs.{One.most_frames, declared.fault.EditFault.EditFault}
+use Rattle.commands.specs.{SingleOutput.most_frames, declared.fault.EditFault.EditFault}
 use Rattle.commands.specs.declared.fault.{EditFault.TheVariants.Refused, Refusal.Refusal}
 use Rattle.commands.specs.declared.fault.Refusal.TheVariants.{GainRange}
 use Rattle.cue_sheet.specs.Limits.{longest_sheet}
 use Rattle.fade_plan.specs.Sheets.{envelope_of, EnvelopePoint}
-use Rattle.gain_edits.specs.{Change.changed_file, Channels.apart_fault, Fade.fade_change}
+use Rattle.gain_edits.specs.{Change.change_result, Channels.single_channel_fault, Fade.fade_change}
 use Rattle.gain_edits.specs.Gain.{gain_change}
-use Rattle.moved_gains.specs.GainExtremes.{extremes_of, extremes_of_both, takes, takes_back}
-use Rattle.moved_gains.specs.declared.gain_extremes.Gains.{Gains}
+use Rattle.moved_gains.specs.GainExtremes.{extremes_of, extremes_of_both, takes_steps}
+use Rattle.moved_gains.specs.{GainExtremes.takes_steps_back, declared.gain_extremes.Gains.Gains}
 use Rattle.requests.specs.declared.shift.Channels.{Channels, TheVariants.{Both, Left, Right}}
 use Rattle.requests.specs.declared.shift.Shift.{Shift}
 use Rattle.sync_survey.specs.{Faults.SurveyFields, Survey.survey_of}
@@ -18,13 +18,13 @@ use Rattle.sync_survey.specs.{Faults.SurveyFields, Survey.survey_of}
 -- ---- refusals since a gain would leave the range
 
 -- the refusal is that of a gain which would leave its range
-abbrev pub is_of_range : Refusal → Bool
-is_of_range (GainRange offset granule channel gain) = true
-is_of_range _ = false
+abbrev pub is_range_refusal : Refusal → Bool
+is_range_refusal (GainRange offset granule channel gain) = true
+is_range_refusal _ = false
 
 -- the fault is such a refusal
 abbrev pub is_range_fault : EditFault → Bool
-is_range_fault (Refused refusal) = is_of_range refusal
+is_range_fault (Refused refusal) = is_range_refusal refusal
 is_range_fault _ = false
 
 -- the answer is such a fault
@@ -33,60 +33,63 @@ leaves_range (Ok made) = false
 leaves_range (Err fault) = is_range_fault fault
 
 -- what is made of a file is so refused exactly where the steps aren't taken, and else it is made
-pub record IsMadeWhere (taken : Bool) (made : Result (List ℕ) EditFault) : Type 0 where
+pub record IsMadeIfTaken (taken : Bool) (made : Result (List ℕ) EditFault) : Type 0 where
   pub refused : leaves_range made ≡ not taken
   pub accepted : is_ok made ≡ taken
 
 -- ---- the commands
 
 -- so many steps on these channels, without wrap
-abbrev pub strict : Channels → ℤ → Shift
-strict channels steps = record { channels = channels; steps = steps; wrap = false }
+abbrev pub strict_shift : Channels → ℤ → Shift
+strict_shift channels steps = record { channels = channels; steps = steps; wrap = false }
 
 -- what `gain` makes of a file, with or without a note in its tag
-abbrev pub gained : Shift → Bool → List ℕ → Result (List ℕ) EditFault
-gained shift tags file = changed_file (gain_change shift tags) file
+abbrev pub gain_result : Shift → Bool → List ℕ → Result (List ℕ) EditFault
+gain_result shift tags file = change_result (gain_change shift tags) file
 
 -- what `fade` makes of it by a sheet of these bytes, with or without `--back`
-abbrev pub faded_by_sheet : List ℕ → Bool → List ℕ → Result (List ℕ) EditFault
-faded_by_sheet sheet back file = changed_file (fade_change (Some sheet) back) file
+abbrev pub fade_result : List ℕ → Bool → List ℕ → Result (List ℕ) EditFault
+fade_result sheet back file = change_result (fade_change (Some sheet) back) file
 
 -- a point's steps are taken: with `--back` as many the other way are
 abbrev pub takes_point : Option Gains → Bool → ℤ → Bool
-takes_point gains back steps = if back then takes_back gains steps else takes gains steps
+takes_point gains back steps =
+    if back then takes_steps_back gains steps else takes_steps gains steps
 
 -- ---- the law
 
 -- The steps that a file with this survey takes: the gains that move tell them.
 pub record TakesExactly (file : List ℕ) (s : SurveyFields) : Type 0 where
   -- on both channels: those of the gains of both together
-  pub both : (steps : ℤ) → IsMadeWhere (takes (extremes_of_both s.frames) steps)
-      (gained (strict Both steps) false file)
+  pub both : (steps : ℤ) → IsMadeIfTaken (takes_steps (extremes_of_both s.frames) steps)
+      (gain_result (strict_shift Both steps) false file)
   -- which are those of the one channel where there is only one
   pub mono : s.class.channels ≡ 1 → extremes_of_both s.frames ≡ extremes_of 0 s.frames
   -- on one channel alone, if it may change alone: those of its gains
-  pub left : apart_fault s ≡ None → (steps : ℤ)
-      → IsMadeWhere (takes (extremes_of 0 s.frames) steps) (gained (strict Left steps) false file)
-  pub right : apart_fault s ≡ None → (steps : ℤ)
-      → IsMadeWhere (takes (extremes_of 1 s.frames) steps) (gained (strict Right steps) false file)
+  pub left : single_channel_fault s ≡ None → (steps : ℤ)
+      → IsMadeIfTaken (takes_steps (extremes_of 0 s.frames) steps)
+      (gain_result (strict_shift Left steps) false file)
+  pub right : single_channel_fault s ≡ None → (steps : ℤ)
+      → IsMadeIfTaken (takes_steps (extremes_of 1 s.frames) steps)
+      (gain_result (strict_shift Right steps) false file)
   -- noted in the tag, no other steps are refused for the range
-  pub noted : (shift : Shift) → leaves_range (gained shift true file) ≡ true
-      → leaves_range (gained shift false file) ≡ true
+  pub noted : (shift : Shift) → leaves_range (gain_result shift true file) ≡ true
+      → leaves_range (gain_result shift false file) ≡ true
   -- nor any with wrap, or where no gain moves
   pub wrap : (shift : Shift) (tags : Bool) → shift.wrap ≡ true
-      → leaves_range (gained shift tags file) ≡ false
+      → leaves_range (gain_result shift tags file) ≡ false
   pub still : extremes_of_both s.frames ≡ None → (shift : Shift) (tags : Bool)
-      → leaves_range (gained shift tags file) ≡ false
+      → leaves_range (gain_result shift tags file) ≡ false
   -- a fade all of whose points have steps that are taken isn't refused for the range
   pub fade : (sheet : List ℕ) (back : Bool) (points : List EnvelopePoint)
       → envelope_of sheet ≡ Ok points
       → All (λ point. IsTrue (takes_point (extremes_of_both s.frames) back point.steps)) points
-      → leaves_range (faded_by_sheet sheet back file) ≡ false
+      → leaves_range (fade_result sheet back file) ≡ false
   -- and one of a single point is so refused exactly where its steps aren't taken
   pub fade_of_one : (sheet : List ℕ) (back : Bool) (point : EnvelopePoint)
       → length sheet ≤ longest_sheet → envelope_of sheet ≡ Ok (point ∷ [])
-      → IsMadeWhere (takes_point (extremes_of_both s.frames) back point.steps)
-      (faded_by_sheet sheet back file)
+      → IsMadeIfTaken (takes_point (extremes_of_both s.frames) back point.steps)
+      (fade_result sheet back file)
 
 -- of every well-formed file
 abbrev pub StepsAreExact : Type 0

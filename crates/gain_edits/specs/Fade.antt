@@ -3,16 +3,17 @@
 use Rattle.std.specs.List.{enumerate_from}
 use Rattle.std.specs.Prelude.{Bool, Err, false, length, List, map, None, Ok, Option, Result, true}
 use Rattle.std.specs.Prelude.{unwrap_or, ℕ, [], ◌||◌, ◌∷◌}
-use Rattle.commands.specs.{Command.Command, One.{made_where, most_frames, one_command, Task}}
-use Rattle.commands.specs.{Refusing.{then_made, unless}, Sheet.{sheet_in, sheet_refuses}}
+use Rattle.commands.specs.{Command.Command, Refusing.{refusal_or, then_made}}
+use Rattle.commands.specs.Sheet.{sheet_in, sheet_refuses}
+use Rattle.commands.specs.SingleOutput.{input_result, most_frames, one_command, Task}
 use Rattle.commands.specs.declared.fault.EditFault.{EditFault, TheVariants.{Memory, Refused}}
 use Rattle.commands.specs.declared.fault.Refusal.{Refusal}
 use Rattle.commands.specs.declared.fault.Refusal.TheVariants.{Curve, CurveNotRising, GainRange}
 use Rattle.fade_plan.specs.{Curves.{curve_of, CurvePoint}, Sheets.{envelope_of, EnvelopePoint}}
 use Rattle.fade_plan.specs.declared.envelope_fault.EnvelopeFault.{EnvelopeFault}
 use Rattle.fade_plan.specs.declared.envelope_fault.EnvelopeFault.TheVariants.{Memory as NoRoom}
-use Rattle.gain_edits.specs.{Change.{Changing, changing}, GainRange.range_fault}
-use Rattle.moved_gains.specs.{Change.Change, Course.{steps_in, steps_over}}
+use Rattle.gain_edits.specs.{Change.{change_making, Changing}, GainRange.range_fault}
+use Rattle.moved_gains.specs.{Change.FileChange, Course.{course_steps, steps_at_offset}}
 use Rattle.moved_gains.specs.Streams.{moved_stream_frame, stream_in}
 use Rattle.moved_gains.specs.declared.course.Course.TheVariants.{Along}
 use Rattle.requests.specs.declared.shift.Steps.{Steps}
@@ -22,52 +23,53 @@ use Rattle.sync_survey.specs.declared.survey_fault.SurveyFault.{SurveyFault}
 -- ---- the curve
 
 -- the points of a sheet, or its fault
-abbrev pub points_read : Result (List EnvelopePoint) EnvelopeFault
+abbrev pub points_result : Result (List EnvelopePoint) EnvelopeFault
     → Result (List EnvelopePoint) EditFault
-points_read (Ok points) = Ok points
-points_read (Err NoRoom) = Err Memory
-points_read (Err fault) = Err (Refused (Curve fault))
+points_result (Ok points) = Ok points
+points_result (Err NoRoom) = Err Memory
+points_result (Err fault) = Err (Refused (Curve fault))
 
 -- the points that the bytes of a sheet say, or their fault
 abbrev pub points_in : List ℕ → Result (List EnvelopePoint) EditFault
-points_in sheet = points_read (envelope_of sheet)
+points_in sheet = points_result (envelope_of sheet)
 
 -- the points at their frames, or the line that doesn't rise
-abbrev pub curve_read : Result (List CurvePoint) ℕ → Result (List CurvePoint) EditFault
-curve_read (Ok curve) = Ok curve
-curve_read (Err line) = Err (Refused (CurveNotRising line))
+abbrev pub curve_result : Result (List CurvePoint) ℕ → Result (List CurvePoint) EditFault
+curve_result (Ok curve) = Ok curve
+curve_result (Err line) = Err (Refused (CurveNotRising line))
 
 -- the curve of these points on a file with this survey
-abbrev pub curve_on : SurveyFields → List EnvelopePoint → Result (List CurvePoint) EditFault
-curve_on s points = curve_read (curve_of s.class (length s.frames) points)
+abbrev pub points_curve : SurveyFields → List EnvelopePoint → Result (List CurvePoint) EditFault
+points_curve s points = curve_result (curve_of s.class (length s.frames) points)
 
 -- the curve that the bytes of a sheet give a file with this survey; it is
 -- refused where the sheet is at fault, or else where a point doesn't rise
-abbrev pub curve_by : SurveyFields → List ℕ → Result (List CurvePoint) EditFault
-curve_by s sheet = then_made (points_in sheet) (curve_on s)
+abbrev pub sheet_curve : SurveyFields → List ℕ → Result (List CurvePoint) EditFault
+sheet_curve s sheet = then_made (points_in sheet) (points_curve s)
 
 -- ---- the change
 
 -- each frame moves by the steps of the curve at its number,
 -- and no tag changes; or a gain would leave the range
-abbrev pub faded_by : (ℕ → Steps) → SurveyFields → Result Change EditFault
-faded_by steps s = unless (range_fault steps s.frames) (record { steps = steps; tag = None })
+abbrev pub steps_change : (ℕ → Steps) → SurveyFields → Result FileChange EditFault
+steps_change steps s =
+    refusal_or (range_fault steps s.frames) (record { steps = steps; tag = None })
 
 -- the change of a file along this curve, or the other way
-abbrev pub faded : Bool → SurveyFields → List CurvePoint → Result Change EditFault
-faded back s curve = faded_by (steps_over (Along curve back) s.frames) s
+abbrev pub curve_change : Bool → SurveyFields → List CurvePoint → Result FileChange EditFault
+curve_change back s curve = steps_change (steps_at_offset (Along curve back) s.frames) s
 
 -- what the bytes of a sheet change in a file with this survey
-unfoldable pub fade_in : List ℕ → Bool → SurveyFields → Result Change EditFault
-fade_in sheet back s = then_made (curve_by s sheet) (faded back s)
+unfoldable pub sheet_change : List ℕ → Bool → SurveyFields → Result FileChange EditFault
+sheet_change sheet back s = then_made (sheet_curve s sheet) (curve_change back s)
 
 -- what a sheet changes; it is refused where the sheet isn't there or is too large
-abbrev pub fade_of : Option (List ℕ) → Bool → SurveyFields → Result Change EditFault
-fade_of sheet back s = then_made (sheet_in sheet) (λ bytes. fade_in bytes back s)
+abbrev pub input_sheet_change : Option (List ℕ) → Bool → SurveyFields → Result FileChange EditFault
+input_sheet_change sheet back s = then_made (sheet_in sheet) (λ bytes. sheet_change bytes back s)
 
 -- what a fade changes, by the sheet where it is there
 abbrev pub fade_change : Option (List ℕ) → Bool → Changing
-fade_change sheet back file s = fade_of sheet back s
+fade_change sheet back file s = input_sheet_change sheet back s
 
 -- ---- the stream
 
@@ -77,33 +79,34 @@ moved_frames steps frames =
     map (λ (p : ℕ × StreamFrame). moved_stream_frame (steps p.0) p.1) (enumerate_from 0 frames)
 
 -- a stream with its gains moved along the curve; as it was where there is none
-abbrev pub stream_along : Bool → List StreamFrame → Result (List CurvePoint) EditFault
+abbrev pub curve_stream : Bool → List StreamFrame → Result (List CurvePoint) EditFault
     → List StreamFrame
-stream_along back frames (Ok curve) = moved_frames (steps_in (Along curve back)) frames
-stream_along back frames (Err fault) = frames
+curve_stream back frames (Ok curve) = moved_frames (course_steps (Along curve back)) frames
+curve_stream back frames (Err fault) = frames
 
 -- that of a file with this survey; as it was where the file has a fault
-abbrev pub stream_by : Option (List ℕ) → Bool → List StreamFrame → Result SurveyFields SurveyFault
-    → List StreamFrame
-stream_by sheet back frames (Ok s) =
-    stream_along back frames (then_made (sheet_in sheet) (curve_by s))
-stream_by sheet back frames (Err fault) = frames
+abbrev pub surveyed_fade_stream : Option (List ℕ) → Bool → List StreamFrame
+    → Result SurveyFields SurveyFault → List StreamFrame
+surveyed_fade_stream sheet back frames (Ok s) =
+    curve_stream back frames (then_made (sheet_in sheet) (sheet_curve s))
+surveyed_fade_stream sheet back frames (Err fault) = frames
 
 -- the stream of a file with the gains of each frame moved by the steps of the curve at its number
 abbrev pub faded_stream : Option (List ℕ) → Bool → List ℕ → List StreamFrame
-faded_stream sheet back file = stream_by sheet back (stream_in file) (survey_of file most_frames)
+faded_stream sheet back file =
+    surveyed_fade_stream sheet back (stream_in file) (survey_of file most_frames)
 
 -- ---- the command
 
 -- the fault is one of the sheet's bytes
-abbrev pub is_of_sheet : EnvelopeFault → Bool
-is_of_sheet NoRoom = false
-is_of_sheet _ = true
+abbrev pub is_envelope_fault : EnvelopeFault → Bool
+is_envelope_fault NoRoom = false
+is_envelope_fault _ = true
 
 -- the refusals that the bytes of the sheet and the gains may cause
 abbrev pub choice_refuses : Refusal → Bool
 choice_refuses (GainRange offset granule channel gain) = true
-choice_refuses (Curve fault) = is_of_sheet fault
+choice_refuses (Curve fault) = is_envelope_fault fault
 choice_refuses (CurveNotRising line) = true
 choice_refuses _ = false
 
@@ -117,7 +120,7 @@ fade_task sheet back input = record {
   source = input;
   inputs = input ∷ sheet ∷ [];
   sources = input ∷ [];
-  makes = λ files. made_where (changing (fade_change (files sheet) back)) (files input);
+  makes = λ files. input_result (change_making (fade_change (files sheet) back)) (files input);
   stream = λ files. faded_stream (files sheet) back (unwrap_or (files input) []);
   refuses = fade_refuses;
 }

@@ -1,8 +1,8 @@
 -- What a fade keeps of a file.
 use Rattle.std.specs.Prelude.{Bool, List, Ok, Option, ℕ, ◌≡◌}
 use Rattle.bit_fields.specs.Bits.{AreBytes}
-use Rattle.commands.specs.One.{most_frames}
-use Rattle.gain_edits.specs.{Change.changed_file, Fade.fade_change}
+use Rattle.commands.specs.SingleOutput.{most_frames}
+use Rattle.gain_edits.specs.{Change.change_result, Fade.fade_change}
 use Rattle.moved_gains.specs.Kept.{KeepsAll}
 use Rattle.sync_survey.specs.{Faults.SurveyFields, Survey.survey_of}
 
@@ -11,5 +11,5 @@ use Rattle.sync_survey.specs.{Faults.SurveyFields, Survey.survey_of}
 abbrev pub FadeKeepsAll : Type 0
 FadeKeepsAll =
     (sheet : Option (List ℕ)) (back : Bool) (file new : List ℕ) (s : SurveyFields) → AreBytes file
-    → survey_of file most_frames ≡ Ok s → changed_file (fade_change sheet back) file ≡ Ok new
+    → survey_of file most_frames ≡ Ok s → change_result (fade_change sheet back) file ≡ Ok new
     → KeepsAll (λ tag. ⊥) file s new

@@ -1,15 +1,17 @@
 -- The gain command: how it changes a file, and when it refuses it.
 use Rattle.std.specs.Prelude.{Bool, false, if◌then◌else◌, List, None, Result, Some, true, ℕ}
-use Rattle.commands.specs.{Command.Command, One.one_command, Refusing.{or_else, then_made, unless}}
-use Rattle.commands.specs.declared.fault.{EditFault.EditFault, Refusal.Refusal}
+use Rattle.commands.specs.{Command.Command, Refusing.{or_else, refusal_or, then_made}}
+use Rattle.commands.specs.{SingleOutput.one_command, declared.fault.EditFault.EditFault}
+use Rattle.commands.specs.declared.fault.Refusal.{Refusal}
 use Rattle.commands.specs.declared.fault.Refusal.TheVariants.{BadTag, BadUndo, GainRange, Joint}
 use Rattle.commands.specs.declared.fault.Refusal.TheVariants.{Mono, OutputTooLong, TagTooLarge}
 use Rattle.commands.specs.declared.fault.Refusal.TheVariants.{UndoRange}
 use Rattle.gain_edits.specs.{Change.{change_task, Changing}, Channels.channel_fault}
 use Rattle.gain_edits.specs.GainRange.{range_fault}
-use Rattle.gain_edits.specs.UndoItem.{next_undo, noted_undo, output_fault, size_fault, tag_read}
-use Rattle.gain_edits.specs.UndoItem.{tag_with, undo_fault}
-use Rattle.moved_gains.specs.{Change.Change, Course.even, TagPlace.tag_at, TagReading.file_tag}
+use Rattle.gain_edits.specs.UndoItem.{next_undo, noted_undo, output_fault, size_fault, tag_result}
+use Rattle.gain_edits.specs.UndoItem.{tag_with_undo, undo_fault}
+use Rattle.moved_gains.specs.{Change.FileChange, Course.constant_steps, TagPlace.tag_offset}
+use Rattle.moved_gains.specs.TagReading.{file_tag}
 use Rattle.requests.specs.{Shifts.steps_of, declared.shift.Shift.Shift}
 use Rattle.sync_survey.specs.Faults.{SurveyFields}
 use Rattle.tag_blocks.specs.{Tags.{tag_bytes, TagFields}, UndoItems.undo_from}
@@ -17,31 +19,33 @@ use Rattle.tag_blocks.specs.declared.undo.Undo.{Undo}
 
 -- Tags are neither read nor written. It is refused where one channel
 -- can't change alone, or else where a gain would leave the range.
-abbrev pub plain_change : Shift → SurveyFields → Result Change EditFault
+abbrev pub plain_change : Shift → SurveyFields → Result FileChange EditFault
 plain_change shift s =
-    unless (or_else (channel_fault shift s) (range_fault (even (steps_of shift)) s.frames))
-    (record { steps = even (steps_of shift); tag = None })
+    refusal_or (or_else (channel_fault shift s)
+    (range_fault (constant_steps (steps_of shift)) s.frames))
+    (record { steps = constant_steps (steps_of shift); tag = None })
 
 -- The change is noted in this tag, whose undo item says this. It is refused where one
 -- channel can't change alone, or else where a number of the next undo item is too large, or
 -- else the new tag, or else the file with it, or else where a gain would leave the range.
-abbrev pub noted_change : Shift → SurveyFields → TagFields → Undo → Result Change EditFault
+abbrev pub noted_change : Shift → SurveyFields → TagFields → Undo → Result FileChange EditFault
 noted_change shift s tag undo =
     let next = next_undo shift undo in
-    let bytes = tag_bytes (tag_with next tag) in
-    unless (or_else (channel_fault shift s) (or_else (undo_fault next) (or_else (size_fault bytes)
-    (or_else (output_fault s bytes) (range_fault (even (steps_of shift)) s.frames)))))
-    (record { steps = even (steps_of shift); tag = Some bytes })
+    let bytes = tag_bytes (tag_with_undo next tag) in
+    refusal_or (or_else (channel_fault shift s)
+    (or_else (undo_fault next) (or_else (size_fault bytes)
+    (or_else (output_fault s bytes) (range_fault (constant_steps (steps_of shift)) s.frames)))))
+    (record { steps = constant_steps (steps_of shift); tag = Some bytes })
 
 -- the change is noted in this tag of the file, unless its undo item is at fault
-abbrev pub noted_in : Shift → SurveyFields → TagFields → Result Change EditFault
-noted_in shift s tag =
-    then_made (noted_undo (tag_at s) (undo_from 32 tag.items)) (noted_change shift s tag)
+abbrev pub noted_tag_change : Shift → SurveyFields → TagFields → Result FileChange EditFault
+noted_tag_change shift s tag =
+    then_made (noted_undo (tag_offset s) (undo_from 32 tag.items)) (noted_change shift s tag)
 
 -- the change is noted in the file's tag; it is refused
 -- where the tag is at fault, or else its undo item
-abbrev pub tagged_change : Shift → List ℕ → SurveyFields → Result Change EditFault
-tagged_change shift file s = then_made (tag_read (file_tag file s)) (noted_in shift s)
+abbrev pub tagged_change : Shift → List ℕ → SurveyFields → Result FileChange EditFault
+tagged_change shift file s = then_made (tag_result (file_tag file s)) (noted_tag_change shift s)
 
 -- what a change of gains changes, with a note in the tag or without one
 unfoldable pub gain_change : Shift → Bool → Changing

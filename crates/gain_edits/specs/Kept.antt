@@ -1,8 +1,8 @@
 -- What the commands that change gains keep of a file.
 use Rattle.std.specs.Prelude.{Bool, List, Ok, true, ℕ, ◌≡◌}
 use Rattle.bit_fields.specs.Bits.{AreBytes}
-use Rattle.commands.specs.One.{most_frames}
-use Rattle.gain_edits.specs.{Change.changed_file, Gain.gain_change, Undo.undo_change}
+use Rattle.commands.specs.SingleOutput.{most_frames}
+use Rattle.gain_edits.specs.{Change.change_result, Gain.gain_change, Undo.undo_change}
 use Rattle.moved_gains.specs.{Kept.KeepsAll, TagPlace.IsTagBytes}
 use Rattle.requests.specs.declared.shift.Shift.{Shift}
 use Rattle.sync_survey.specs.{Faults.SurveyFields, Survey.survey_of}
@@ -12,7 +12,7 @@ use Rattle.sync_survey.specs.{Faults.SurveyFields, Survey.survey_of}
 abbrev pub GainKeepsAll : Type 0
 GainKeepsAll =
     (shift : Shift) (tags : Bool) (file new : List ℕ) (s : SurveyFields) → AreBytes file
-    → survey_of file most_frames ≡ Ok s → changed_file (gain_change shift tags) file ≡ Ok new
+    → survey_of file most_frames ≡ Ok s → change_result (gain_change shift tags) file ≡ Ok new
     → KeepsAll (λ tag. (tags ≡ true) × IsTagBytes tag) file s new
 
 -- what `gain -u` makes of a file that it accepts differs from
@@ -20,4 +20,4 @@ GainKeepsAll =
 abbrev pub UndoKeepsAll : Type 0
 UndoKeepsAll =
     (file new : List ℕ) (s : SurveyFields) → AreBytes file → survey_of file most_frames ≡ Ok s
-    → changed_file undo_change file ≡ Ok new → KeepsAll IsTagBytes file s new
+    → change_result undo_change file ≡ Ok new → KeepsAll IsTagBytes file s new

@@ -1,19 +1,20 @@
 -- What is made ready for a change of gains, and the file that is written.
 use Rattle.std.specs.Prelude.{List, Ok, ℕ, ◌≡◌}
-use Rattle.commands.specs.One.{most_frames}
-use Rattle.gain_edits.specs.declared.work.Work.{Work}
-use Rattle.moved_gains.specs.{Buffers.AreFresh, Change.{change_in, changed}}
-use Rattle.outside.specs.Files.{Files, Holds, IsThere}
-use Rattle.sync_survey.specs.{Faults.tells, Survey.{IsLaidOut, survey_of}}
+use Rattle.commands.specs.SingleOutput.{most_frames}
+use Rattle.gain_edits.specs.declared.work.GainWork.{GainWork}
+use Rattle.moved_gains.specs.{Buffers.IsPassingFresh, Change.{change_in, file_with_change}}
+use Rattle.outside.specs.Files.{Files, Holds, IsFileThere}
+use Rattle.sync_survey.specs.{Faults.survey_view, Survey.{IsSurveyLaidOut, survey_of}}
 
 -- The input is there and was surveyed, and the buffers are new.
-pub record IsMovable (input : List ℕ) (work : Work) (files : Files) : Type 0 where
-  pub there : IsThere files input
-  pub laid : IsLaidOut (tells work.survey)
+pub record IsMovable (input : List ℕ) (work : GainWork) (files : Files) : Type 0 where
+  pub there : IsFileThere files input
+  pub laid : IsSurveyLaidOut (survey_view work.survey)
   pub surveyed : (bytes : List ℕ) → Holds files input bytes
-      → survey_of bytes most_frames ≡ Ok (tells work.survey)
-  pub fresh : (others : Files) (name : List ℕ) → AreFresh work.buffers others name
+      → survey_of bytes most_frames ≡ Ok (survey_view work.survey)
+  pub fresh : (others : Files) (name : List ℕ) → IsPassingFresh work.buffers others name
 
 -- the changed file
-abbrev pub moved_file : Work → List ℕ → List ℕ
-moved_file work file = changed (change_in work.change (tells work.survey)) file (tells work.survey)
+abbrev pub moved_file : GainWork → List ℕ → List ℕ
+moved_file work file = file_with_change (change_in work.change (survey_view work.survey)) file
+    (survey_view work.survey)

@@ -13,7 +13,7 @@ use Rattle.moved_gains.specs.declared.tag_fault.FileTagFault.TheVariants.{Bad as
 use Rattle.moved_gains.specs.declared.tag_fault.FileTagFault.TheVariants.{Memory as NoRoom, Read}
 use Rattle.moved_gains.specs.declared.tag_fault.FileTagFault.TheVariants.{TooLarge}
 use Rattle.requests.specs.{Shifts.steps_of, declared.shift.{Shift.Shift, Steps.Steps}}
-use Rattle.sync_survey.specs.{Faults.{longest_file, SurveyFields}, Kinds.of_read}
+use Rattle.sync_survey.specs.{Faults.{longest_file, SurveyFields}, SurveyFaultKinds.survey_fault_of}
 use Rattle.tag_blocks.specs.{Tags.{tag_bytes, TagFields}, UndoItems.{with_undo, without_undo}}
 use Rattle.tag_blocks.specs.declared.undo.{Undo.Undo, UndoItem.UndoItem}
 use Rattle.tag_blocks.specs.declared.undo.UndoItem.TheVariants.{Bad, Found, Missing}
@@ -21,16 +21,16 @@ use Rattle.tag_blocks.specs.declared.undo.UndoItem.TheVariants.{Bad, Found, Miss
 -- ---- the tag of the file
 
 -- why the tag isn't read, as a fault of the command
-abbrev pub of_tag : FileTagFault → EditFault
-of_tag (TooLarge size) = Refused (TagTooLarge size)
-of_tag (BadBlock at) = Refused (BadTag at)
-of_tag (Read fault) = Input 0 (of_read fault)
-of_tag NoRoom = Memory
+abbrev pub tag_edit_fault : FileTagFault → EditFault
+tag_edit_fault (TooLarge size) = Refused (TagTooLarge size)
+tag_edit_fault (BadBlock at) = Refused (BadTag at)
+tag_edit_fault (Read fault) = Input 0 (survey_fault_of fault)
+tag_edit_fault NoRoom = Memory
 
 -- the tag, or why it isn't read
-abbrev pub tag_read : Result TagFields FileTagFault → Result TagFields EditFault
-tag_read (Ok tag) = Ok tag
-tag_read (Err fault) = Err (of_tag fault)
+abbrev pub tag_result : Result TagFields FileTagFault → Result TagFields EditFault
+tag_result (Ok tag) = Ok tag
+tag_result (Err fault) = Err (tag_edit_fault fault)
 
 -- ---- its undo item
 
@@ -76,12 +76,12 @@ undo_fault undo = or_else (number_fault undo.left) (number_fault undo.right)
 -- ---- the new tag
 
 -- the tag with this undo
-abbrev pub tag_with : Undo → TagFields → TagFields
-tag_with undo tag = record tag { items = with_undo undo tag.items }
+abbrev pub tag_with_undo : Undo → TagFields → TagFields
+tag_with_undo undo tag = record tag { items = with_undo undo tag.items }
 
 -- the tag without an undo item
-abbrev pub tag_without : TagFields → TagFields
-tag_without tag = record tag { items = without_undo tag.items }
+abbrev pub tag_without_undo : TagFields → TagFields
+tag_without_undo tag = record tag { items = without_undo tag.items }
 
 -- the bytes of a tag; a tag without items isn't written
 abbrev pub bytes_unless_empty : TagFields → List ℕ

@@ -1,12 +1,12 @@
 //! What the commands of this crate change in a file.
 ghost use Rattle.std.specs.Prelude.{◌≡◌, List, ℕ, Ok};
-ghost use Rattle.outside.specs.Files.{IsThere};
+ghost use Rattle.outside.specs.Files.{IsFileThere};
 ghost use Rattle.outside.specs.Seen.{OnFile};
-ghost use Rattle.sync_survey.specs.Faults.{tells};
-ghost use Rattle.sync_survey.specs.Survey.{survey_of, IsLaidOut};
-ghost use Rattle.commands.specs.One.{most_frames};
-ghost use Rattle.gain_edits.specs.Change.{IsDecided};
-ghost use Rattle.gain_edits.specs.Changes.{are_noted, decided_by, IsDecision};
+ghost use Rattle.sync_survey.specs.Faults.{survey_view};
+ghost use Rattle.sync_survey.specs.Survey.{survey_of, IsSurveyLaidOut};
+ghost use Rattle.commands.specs.SingleOutput.{most_frames};
+ghost use Rattle.gain_edits.specs.Change.{IsChangeDecided};
+ghost use Rattle.gain_edits.specs.Changes.{are_noted, decided_change, IsDecision};
 
 use crate::gain_change::{noted_in, plain_change};
 use crate::undo_change::undone_in;
@@ -41,8 +41,8 @@ impl<'a> Changes<'a> {
 
     /// What changes in a surveyed file that has this tag, or of which no tag was read.
     fn decide(&self, alloc: Global, survey: &Survey, tag: Option<Tag>) -> Result<Change, EditFault>
-        requires { IsLaidOut (tells survey.now) }
-        ensures { IsDecided (tells survey.now) (decided_by self.now (tells survey.now) tag) result }
+        requires { IsSurveyLaidOut (survey_view survey.now) }
+        ensures { IsChangeDecided (survey_view survey.now) (decided_change self.now (survey_view survey.now) tag) result }
     {
         match (*self, tag) {
             (Changes::Move(shift, _), None) => plain_change(survey, shift),
@@ -63,12 +63,12 @@ impl<'a> Changes<'a> {
         name: &str,
         survey: &Survey,
     ) -> Result<Change, EditFault>
-        requires there { IsThere (D.seen folder.old).files name.now }
-        requires laid { IsLaidOut (tells survey.now) }
+        requires there { IsFileThere (D.seen folder.old).files name.now }
+        requires laid { IsSurveyLaidOut (survey_view survey.now) }
         requires surveyed { OnFile (D.seen folder.old) name.now
-            (λ bytes. survey_of bytes most_frames ≡ Ok (tells survey.now)) }
+            (λ bytes. survey_of bytes most_frames ≡ Ok (survey_view survey.now)) }
         ensures { IsDecision self.now name.now (D.seen folder.old)
-            (D.seen folder.new) (tells survey.now) result }
+            (D.seen folder.new) (survey_view survey.now) result }
     {
         let noted = self.are_noted();
         if !noted {

@@ -1,7 +1,7 @@
 //! Why one channel of a file can't change alone.
 ghost use Rattle.std.specs.Prelude.{◌≡◌, ◌==◌};
-ghost use Rattle.sync_survey.specs.Faults.{tells};
-ghost use Rattle.gain_edits.specs.Channels.{are_both, joint_at as joint_at_lem, joint_fault as joint_fault_lem, channel_fault as channel_fault_lem};
+ghost use Rattle.sync_survey.specs.Faults.{survey_view};
+ghost use Rattle.gain_edits.specs.Channels.{are_both, joint_refusal, joint_fault, channel_fault};
 
 use commands::Refusal;
 use requests::{Channels, Shift};
@@ -21,7 +21,7 @@ fn are_both(channels: Channels) -> bool
 
 /// The fault of a frame whose two channels are coded jointly.
 fn joint_at(row: &Row) -> Option<Refusal>
-    ensures { result ≡ joint_at_lem row.now }
+    ensures { result ≡ joint_refusal row.now }
 {
     if row.header().mode == JOINT {
         Some(Refusal::Joint(u64::from(row.offset())))
@@ -32,7 +32,7 @@ fn joint_at(row: &Row) -> Option<Refusal>
 
 /// The first frame whose two channels are coded jointly.
 fn joint_fault(rows: &[Row]) -> Option<Refusal>
-    ensures { result ≡ joint_fault_lem rows.now }
+    ensures { result ≡ joint_fault rows.now }
 {
     for row in rows {
         if let Some(fault) = joint_at(row) {
@@ -45,7 +45,7 @@ fn joint_fault(rows: &[Row]) -> Option<Refusal>
 /// Why one channel alone can't change: `Mono` where the file has only one, else `Joint` with the offset in bytes of the
 /// first frame whose two are coded jointly. None where both are to change.
 pub(crate) fn channel_fault(shift: &Shift, survey: &Survey) -> Option<Refusal>
-    ensures { result ≡ channel_fault_lem shift.now (tells survey.now) }
+    ensures { result ≡ channel_fault shift.now (survey_view survey.now) }
 {
     if are_both(shift.channels) {
         return None;

@@ -1,10 +1,10 @@
 //! The commands of this crate as cases of the one body.
-ghost use Rattle.gain_edits.specs.Changes.{task_of};
+ghost use Rattle.gain_edits.specs.Changes.{task_of_changes};
 
 use crate::changes::Changes;
-use crate::work::Work;
+use crate::work::GainWork;
 use commands::{Edit, EditFault, Inputs, MOST_FRAMES, survey_at};
-use moved_gains::Buffers;
+use moved_gains::GainBuffers;
 use outside::Folder;
 use std::alloc::Global;
 
@@ -16,9 +16,9 @@ pub struct GainEdit<'a> {
 }
 
 impl<'a> Edit for GainEdit<'a> {
-    type Work = Work;
+    type Work = GainWork;
 
-    ghost task = { λ edit. task_of edit.changes edit.input.now };
+    ghost task = { λ edit. task_of_changes edit.changes edit.input.now };
 
     ghost IsLegal = { λ edit. Unit {0} };
 
@@ -26,11 +26,11 @@ impl<'a> Edit for GainEdit<'a> {
         Inputs::one(self.input)
     }
 
-    fn prepare<D: Folder>(&self, alloc: Global, folder: &mut D) -> Result<Work, EditFault> {
+    fn prepare<D: Folder>(&self, alloc: Global, folder: &mut D) -> Result<GainWork, EditFault> {
         let survey = survey_at(alloc, folder, self.input, 0, MOST_FRAMES)?;
         let change = self.changes.find(alloc, folder, self.input, &survey)?;
-        let buffers = Buffers::new(alloc)?;
-        Ok(Work {
+        let buffers = GainBuffers::new(alloc)?;
+        Ok(GainWork {
             survey,
             change,
             buffers,

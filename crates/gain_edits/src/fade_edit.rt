@@ -1,10 +1,10 @@
 //! The command of this crate as a case of the one body.
 ghost use Rattle.gain_edits.specs.Fade.{fade_task};
 
-use crate::Work;
+use crate::GainWork;
 use crate::fade_change::fade_change;
 use commands::{Edit, EditFault, Inputs, MOST_FRAMES, survey_at};
-use moved_gains::Buffers;
+use moved_gains::GainBuffers;
 use outside::Folder;
 use std::alloc::Global;
 
@@ -17,7 +17,7 @@ pub struct FadeEdit<'a> {
 }
 
 impl<'a> Edit for FadeEdit<'a> {
-    type Work = Work;
+    type Work = GainWork;
 
     ghost task = { λ edit. fade_task edit.sheet.now edit.back edit.input.now };
 
@@ -30,11 +30,11 @@ impl<'a> Edit for FadeEdit<'a> {
         }
     }
 
-    fn prepare<D: Folder>(&self, alloc: Global, folder: &mut D) -> Result<Work, EditFault> {
+    fn prepare<D: Folder>(&self, alloc: Global, folder: &mut D) -> Result<GainWork, EditFault> {
         let survey = survey_at(alloc, folder, self.input, 0, MOST_FRAMES)?;
         let change = fade_change(alloc, folder, self.sheet, self.back, &survey)?;
-        let buffers = Buffers::new(alloc)?;
-        Ok(Work {
+        let buffers = GainBuffers::new(alloc)?;
+        Ok(GainWork {
             survey,
             change,
             buffers,

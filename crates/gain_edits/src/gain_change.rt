@@ -1,13 +1,13 @@
 //! What a move of gains changes in a file.
 ghost use Rattle.std.specs.Prelude.{◌≡◌, ◌≤◌, ◌+◌, ◌-◌};
-ghost use Rattle.sync_survey.specs.Faults.{tells};
-ghost use Rattle.sync_survey.specs.Survey.{IsLaidOut};
+ghost use Rattle.sync_survey.specs.Faults.{survey_view};
+ghost use Rattle.sync_survey.specs.Survey.{IsSurveyLaidOut};
 ghost use Rattle.moved_gains.specs.TagPlace.{tag_length};
-ghost use Rattle.gain_edits.specs.Change.{IsDecided};
-ghost use Rattle.gain_edits.specs.Gain.{plain_change as plain_change_lem, noted_change as noted_change_lem, noted_in as noted_in_lem};
+ghost use Rattle.gain_edits.specs.Change.{IsChangeDecided};
+ghost use Rattle.gain_edits.specs.Gain.{plain_change, noted_change, noted_tag_change};
 
 use crate::channels::channel_fault;
-use crate::gain_range::even_fault;
+use crate::gain_range::constant_steps_fault;
 use crate::undo_item::{next_undo, noted_undo};
 use commands::{EditFault, LONGEST_FILE, LONGEST_TAG, Refusal};
 use moved_gains::{Change, Course, tag_place};
@@ -18,11 +18,11 @@ use tag_blocks::{Tag, Undo};
 
 /// A change without a note in the tag.
 pub(crate) fn plain_change(survey: &Survey, shift: &Shift) -> Result<Change, EditFault>
-    requires { IsLaidOut (tells survey.now) }
-    ensures { IsDecided (tells survey.now) (plain_change_lem shift.now (tells survey.now)) result }
+    requires { IsSurveyLaidOut (survey_view survey.now) }
+    ensures { IsChangeDecided (survey_view survey.now) (plain_change shift.now (survey_view survey.now)) result }
 {
     let steps = shift.each();
-    match channel_fault(shift, survey).or(even_fault(steps, survey)) {
+    match channel_fault(shift, survey).or(constant_steps_fault(steps, survey)) {
         Some(refusal) => Err(refusal.into()),
         None => Ok(Change {
             course: Course::Even(steps),
@@ -33,11 +33,11 @@ pub(crate) fn plain_change(survey: &Survey, shift: &Shift) -> Result<Change, Edi
 
 /// The length in bytes of the output with a tag of `tag` bytes: the file without its junk and its old tag, and this one.
 fn output_length(survey: &Survey, tag: u64) -> u64
-    requires laid { IsLaidOut (tells survey.now) }
+    requires laid { IsSurveyLaidOut (survey_view survey.now) }
     requires few { tag ≤ 2097088 }
-    ensures { result ≡ (tells survey.now).length
-        - ((tells survey.now).first - (tells survey.now).junk) - tag_length
-        (tells survey.now) + tag }
+    ensures { result ≡ (survey_view survey.now).length
+        - ((survey_view survey.now).first - (survey_view survey.now).junk) - tag_length
+        (survey_view survey.now) + tag }
 {
     let (_, junk) = survey.junk();
     (survey.length() - junk).saturating_sub(tag_place(survey).length) + tag
@@ -52,9 +52,9 @@ fn noted_change(
     tag: Tag,
     undo: &Undo,
 ) -> Result<Change, EditFault>
-    requires { IsLaidOut (tells survey.now) }
-    ensures { IsDecided (tells survey.now)
-        (noted_change_lem shift.now (tells survey.now) tag undo.now) result }
+    requires { IsSurveyLaidOut (survey_view survey.now) }
+    ensures { IsChangeDecided (survey_view survey.now)
+        (noted_change shift.now (survey_view survey.now) tag undo.now) result }
 {
     let mut tag = tag;
     if let Some(refusal) = channel_fault(shift, survey) {
@@ -71,7 +71,7 @@ fn noted_change(
         return Err(Refusal::OutputTooLong(length).into());
     }
     let steps = shift.each();
-    if let Some(refusal) = even_fault(steps, survey) {
+    if let Some(refusal) = constant_steps_fault(steps, survey) {
         return Err(refusal.into());
     }
     let bytes = tag.write(alloc)?;
@@ -88,8 +88,8 @@ pub(crate) fn noted_in(
     shift: &Shift,
     tag: Tag,
 ) -> Result<Change, EditFault>
-    requires { IsLaidOut (tells survey.now) }
-    ensures { IsDecided (tells survey.now) (noted_in_lem shift.now (tells survey.now) tag) result }
+    requires { IsSurveyLaidOut (survey_view survey.now) }
+    ensures { IsChangeDecided (survey_view survey.now) (noted_tag_change shift.now (survey_view survey.now) tag) result }
 {
     let undo = noted_undo(survey, &tag)?;
     noted_change(alloc, survey, shift, tag, &undo)

@@ -12,7 +12,7 @@ pub fn undo_gives_back()
 
 /// A law and no work: after a change of gains without a note, with or without wrap, the opposite change is accepted. It gives
 /// the file from before the first, byte for byte, except its junk. A proof that needs it calls this function.
-#[tactic(auto, using(crate::proofs::OppositeSteps::steps_back))]
+#[tactic(auto, using(crate::proofs::OppositeStepLemmas::steps_back))]
 pub fn opposite_gives_back()
     ensures { OppositeGivesBack }
 {}

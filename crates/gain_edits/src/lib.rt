@@ -26,4 +26,4 @@ pub use fade_laws::{fade_gives_back, fade_keeps_all};
 pub use gain_range::range_fault;
 pub use laws::{gains_keep_all, opposite_gives_back, undo_gives_back};
 pub use steps_laws::steps_are_exact;
-pub use work::Work;
+pub use work::GainWork;

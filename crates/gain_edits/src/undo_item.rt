@@ -1,11 +1,11 @@
 //! How a change of gains is noted in the undo item of the tag.
 ghost use Rattle.std.specs.Prelude.{◌≡◌, ◌≤◌, ◌-ℤ◌, None, Some, unsigned_abs, MatchResult, IfOk, IfErr};
-ghost use Rattle.tag_blocks.specs.UndoText.{FitsText};
+ghost use Rattle.tag_blocks.specs.UndoText.{UndoFitsText};
 ghost use Rattle.tag_blocks.specs.UndoItems.{undo_from};
-ghost use Rattle.moved_gains.specs.TagPlace.{tag_at};
-ghost use Rattle.sync_survey.specs.Faults.{tells};
-ghost use Rattle.sync_survey.specs.Survey.{IsLaidOut};
-ghost use Rattle.gain_edits.specs.UndoItem.{of_tag as of_tag_lem, undo_or as undo_or_lem, noted_undo as noted_undo_lem, found_undo as found_undo_lem, undo_steps as undo_steps_lem, next_undo as next_undo_lem, number_fault, undo_fault};
+ghost use Rattle.moved_gains.specs.TagPlace.{tag_offset};
+ghost use Rattle.sync_survey.specs.Faults.{survey_view};
+ghost use Rattle.sync_survey.specs.Survey.{IsSurveyLaidOut};
+ghost use Rattle.gain_edits.specs.UndoItem.{tag_edit_fault, undo_or, noted_undo, found_undo, undo_steps, next_undo, number_fault, undo_fault};
 
 use commands::{EditFault, Refusal};
 use moved_gains::{FileTagFault, tag_place};
@@ -18,7 +18,7 @@ const LARGEST_NUMBER: u32 = 999;
 
 /// Why the tag of the one input isn't read, as a fault of the command.
 pub(crate) fn of_tag(fault: FileTagFault) -> EditFault
-    ensures { result ≡ of_tag_lem fault }
+    ensures { result ≡ tag_edit_fault fault }
 {
     match fault {
         FileTagFault::TooLarge(size) => Refusal::TagTooLarge(size).into(),
@@ -31,8 +31,8 @@ pub(crate) fn of_tag(fault: FileTagFault) -> EditFault
 /// What the undo item of the file's tag says, and this where there is none. `BadUndo` with the offset in bytes of the item
 /// where its value isn't of the form.
 fn undo_or(survey: &Survey, tag: &Tag, missing: Result<Undo, EditFault>) -> Result<Undo, EditFault>
-    requires { IsLaidOut (tells survey.now) }
-    ensures { result ≡ undo_or_lem missing (tag_at (tells survey.now))
+    requires { IsSurveyLaidOut (survey_view survey.now) }
+    ensures { result ≡ undo_or missing (tag_offset (survey_view survey.now))
         (undo_from 32 tag.now.items) }
 {
     let at = tag_place(survey).offset;
@@ -47,8 +47,8 @@ fn undo_or(survey: &Survey, tag: &Tag, missing: Result<Undo, EditFault>) -> Resu
 
 /// What the undo item says; 0 steps where there is none.
 pub(crate) fn noted_undo(survey: &Survey, tag: &Tag) -> Result<Undo, EditFault>
-    requires { IsLaidOut (tells survey.now) }
-    ensures { result ≡ noted_undo_lem (tag_at (tells survey.now)) (undo_from 32 tag.now.items) }
+    requires { IsSurveyLaidOut (survey_view survey.now) }
+    ensures { result ≡ noted_undo (tag_offset (survey_view survey.now)) (undo_from 32 tag.now.items) }
 {
     let none = Undo {
         left: 0,
@@ -60,15 +60,15 @@ pub(crate) fn noted_undo(survey: &Survey, tag: &Tag) -> Result<Undo, EditFault>
 
 /// The same where there has to be one: `NoUndo` where there is none.
 pub(crate) fn found_undo(survey: &Survey, tag: &Tag) -> Result<Undo, EditFault>
-    requires { IsLaidOut (tells survey.now) }
-    ensures { result ≡ found_undo_lem (tag_at (tells survey.now)) (undo_from 32 tag.now.items) }
+    requires { IsSurveyLaidOut (survey_view survey.now) }
+    ensures { result ≡ found_undo (tag_offset (survey_view survey.now)) (undo_from 32 tag.now.items) }
 {
     undo_or(survey, tag, Err(Refusal::NoUndo.into()))
 }
 
 /// The steps that the item lists: those that undo the changes.
 pub(crate) fn undo_steps(undo: &Undo) -> Steps
-    ensures { result ≡ undo_steps_lem undo.now }
+    ensures { result ≡ undo_steps undo.now }
 {
     Steps {
         left: undo.left,
@@ -102,9 +102,9 @@ fn number(steps: i16, taken: i16) -> Result<i16, Refusal>
 /// change wraps. `UndoRange` with the first number, the left one first, that isn't from -999 to 999.
 pub(crate) fn next_undo(shift: &Shift, undo: &Undo) -> Result<Undo, Refusal>
     ensures undo { MatchResult result
-        (λ next. (next ≡ next_undo_lem shift.now undo.now) × (undo_fault next ≡ None))
-        (λ fault. undo_fault (next_undo_lem shift.now undo.now) ≡ Some fault) }
-    ensures fits { IfOk result FitsText }
+        (λ next. (next ≡ next_undo shift.now undo.now) × (undo_fault next ≡ None))
+        (λ fault. undo_fault (next_undo shift.now undo.now) ≡ Some fault) }
+    ensures fits { IfOk result UndoFitsText }
 {
     let steps = shift.each();
     Ok(Undo {

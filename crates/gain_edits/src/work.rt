@@ -2,31 +2,31 @@
 ghost use Rattle.gain_edits.specs.Movable.{moved_file, IsMovable};
 
 use commands::OutputPass;
-use moved_gains::{Buffers, Change, write_changed};
+use moved_gains::{Change, GainBuffers, write_changed};
 use outside::{Folder, PassFault};
 use sync_survey::Survey;
 
 /// What is known of the input, what changes in it, and the memory of the pass.
 #[derive(Drop)]
-pub struct Work {
+pub struct GainWork {
     pub survey: Survey,
     pub change: Change,
-    pub buffers: Buffers,
+    pub buffers: GainBuffers,
 }
 
-impl OutputPass for Work {
+impl OutputPass for GainWork {
     ghost file_of = { λ work. moved_file work };
 
     ghost IsReady = { λ work input files. IsMovable input work files };
 
-    #[tactic(auto, using(outside::proofs::FilesLaws::emptied_there, outside::proofs::FilesLaws::emptied_keeps, outside::proofs::FilesLaws::emptied_held_other))]
+    #[tactic(auto, using(outside::proofs::FilesLemmas::emptied_there, outside::proofs::FilesLemmas::emptied_keeps, outside::proofs::FilesLemmas::emptied_held_other))]
     fn append<D: Folder>(
         &mut self,
         folder: &mut D,
         input: &str,
         output: &str,
     ) -> Result<(), PassFault> {
-        let Work {
+        let GainWork {
             survey,
             change,
             buffers,

@@ -1,4 +1,4 @@
-pub mod HeadTextLaws
-pub mod InfoLaws
-pub mod FrameLaws
-pub mod OverLaws
+pub mod HeadTextLemmas
+pub mod InfoLemmas
+pub mod FrameLemmas
+pub mod FileInfoLemmas

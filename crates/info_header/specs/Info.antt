@@ -44,8 +44,8 @@ number_of None = None
 number_of (Some four) = Some (big_number 4 four)
 
 -- so many bytes, with zeros after them where there are fewer
-abbrev pub padded : ℕ → List ℕ → List ℕ
-padded n bytes = take n (bytes ++ replicate n 0)
+abbrev pub padded_bytes : ℕ → List ℕ → List ℕ
+padded_bytes n bytes = take n (bytes ++ replicate n 0)
 
 -- the fields of the head whose bytes these are, from
 -- its text on; `Xing` says that the bit rate changes
@@ -56,14 +56,14 @@ info_in bytes = let flags = flags_in bytes in record {
   bytes = number_of (field_in flags 1 bytes);
   table = field_in flags 2 bytes;
   quality = number_of (field_in flags 3 bytes);
-  extension = padded 36 (drop (field_place flags 4) bytes);
+  extension = padded_bytes 36 (drop (field_place flags 4) bytes);
 }
 
 -- ---- what is written
 
 -- the text of a head, which says whether the bit rate changes
-abbrev pub text_of : Bool → List ℕ
-text_of vbr = if vbr then codes "Xing" else codes "Info"
+abbrev pub vbr_text : Bool → List ℕ
+vbr_text vbr = if vbr then codes "Xing" else codes "Info"
 
 -- a number, 0 where there is none
 abbrev pub number_or_zero : Option ℕ → ℕ
@@ -78,12 +78,12 @@ table_or_zeros (Some table) = table
 -- the bytes of a head: text, all four flags, the four fields and the extension, 156 bytes
 unfoldable pub info_bytes : Info → List ℕ
 info_bytes info =
-    text_of info.vbr ++ (big_bytes 4 15
+    vbr_text info.vbr ++ (big_bytes 4 15
     ++ (big_bytes 4 (number_or_zero info.frames) ++ (big_bytes 4 (number_or_zero info.bytes)
     ++ (table_or_zeros info.table
     ++ (big_bytes 4 (number_or_zero info.quality) ++ info.extension)))))
 
 -- the entry of the table for a frame at an offset, of so many bytes in
 -- all: how many 256th parts are before it, rounded down, at most 255
-abbrev pub entry_of : ℕ → ℕ → ℕ
-entry_of offset bytes = min (256 * offset / bytes) 255
+abbrev pub seek_table_entry : ℕ → ℕ → ℕ
+seek_table_entry offset bytes = min (256 * offset / bytes) 255

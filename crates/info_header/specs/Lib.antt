@@ -1,7 +1,7 @@
 pub mod HeadText
 pub mod Info
 pub mod InfoFrame
-pub mod Over
+pub mod FileInfo
 pub use Rattle.bit_fields.specs.Bits
 pub use Rattle.frame_header.specs.Fields
 pub use Rattle.frame_header.specs.HeaderBits

@@ -1,7 +1,7 @@
 //! The fields of a head.
 ghost use Rattle.std.specs.Prelude.{◌≡◌, ◌+◌, ◌<◌, ◌≤◌, ◌==◌, drop};
 ghost use Rattle.std.specs.Int.{bit_at};
-ghost use Rattle.info_header.specs.Info.{flags_in, field_size, field_place, field_in, number_of, padded, info_in, entry_of};
+ghost use Rattle.info_header.specs.Info.{flags_in, field_size, field_place, field_in, number_of, padded_bytes, info_in, seek_table_entry};
 
 use byteorder::{BigEndian, ByteOrder};
 
@@ -117,7 +117,7 @@ fn bytes_from(bytes: &[u8], at: usize) -> &[u8]
 
 /// The 36 bytes from byte `at` on, with zeros for those that aren't there.
 fn extension_at(bytes: &[u8], at: usize) -> [u8; 36]
-    ensures { result ≡ padded 36 (drop at bytes.now) }
+    ensures { result ≡ padded_bytes 36 (drop at bytes.now) }
 {
     let mut extension = [0; EXTENSION];
     let behind = bytes_from(bytes, at);
@@ -156,7 +156,7 @@ impl Info {
 /// at most.
 pub fn entry(offset: u32, bytes: u32) -> u8
     requires { 0 < bytes }
-    ensures { result ≡ entry_of offset bytes }
+    ensures { result ≡ seek_table_entry offset bytes }
 {
     (256 * u64::from(offset) / u64::from(bytes)).min(255) as u8
 }

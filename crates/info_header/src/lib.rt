@@ -12,11 +12,11 @@
 #![tactic(auto)]
 
 mod fields;
-mod over;
+mod file_info;
 mod text;
 mod writing;
 
 pub use fields::{Info, entry};
-pub use over::{InSlot, info_over};
+pub use file_info::{InSlot, info_over};
 pub use text::head_text;
 pub use writing::{info_slot, write_info};

@@ -1,6 +1,6 @@
 //! Where the text of a head is.
 ghost use Rattle.std.specs.Prelude.{◌≡◌, ◌+◌, ◌≤◌, length, IsTrue, IfSome};
-ghost use Rattle.info_header.specs.HeadText.{has_text as has_text_lem, head_text_of};
+ghost use Rattle.info_header.specs.HeadText.{has_text, head_text_of};
 
 use frame_header::Header;
 
@@ -13,7 +13,7 @@ const CHECK_WORD_SIZE: u32 = 2;
 /// Whether `Xing` or `Info` is at byte `at` of a frame.
 #[tactic(auto, unfolding(crate::specs::HeadText::has_text))]
 fn has_text(at: u32, frame: &[u8]) -> bool
-    ensures text { result ≡ has_text_lem at frame.now }
+    ensures text { result ≡ has_text at frame.now }
     ensures within { IsTrue result → at + 4 ≤ length frame.now }
 {
     let at = at as usize;

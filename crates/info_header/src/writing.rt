@@ -3,8 +3,8 @@ ghost use Rattle.std.specs.Prelude.{◌≡◌, ◌+◌, ◌≤◌, ◌++◌, fal
 ghost use Rattle.byteorder.specs.Endian.{big_bytes};
 ghost use Rattle.frame_header.specs.Fields.{SlotFields, IsSlot};
 ghost use Rattle.frame_header.specs.Tables.{class_of, area_of};
-ghost use Rattle.info_header.specs.Info.{text_of, number_or_zero, table_or_zeros, info_bytes};
-ghost use Rattle.info_header.specs.InfoFrame.{first_with_room as first_with_room_lem, info_slot_of, info_frame};
+ghost use Rattle.info_header.specs.Info.{vbr_text, number_or_zero, table_or_zeros, info_bytes};
+ghost use Rattle.info_header.specs.InfoFrame.{first_with_room, info_slot_of, info_frame};
 ghost use Rattle.frame_header.specs.Limits.{most_frame_length};
 
 use crate::fields::Info;
@@ -89,7 +89,7 @@ fn append_table(into: &mut ArrayVec<u8, 1441>, table: &Option<[u8; 100]>)
 /// Appends the text.
 fn append_text(into: &mut ArrayVec<u8, 1441>, vbr: bool)
     requires { length into.old.items + 4 ≤ most_frame_length }
-    ensures bytes { into.new.items ≡ into.old.items ++ text_of vbr }
+    ensures bytes { into.new.items ≡ into.old.items ++ vbr_text vbr }
     ensures length { length into.new.items ≡ length into.old.items + 4 }
 {
     if vbr {
@@ -134,7 +134,7 @@ pub fn write_info(first: &Header, info: &Info, into: &mut ArrayVec<u8, 1441>)
 
 /// The first slot whose area has room for the fields, and the largest slot of all where none has.
 fn first_with_room(class: Class, slots: &[Slot]) -> Slot
-    ensures { result ≡ first_with_room_lem class slots.now }
+    ensures { result ≡ first_with_room class slots.now }
 {
     for slot in slots {
         if class.area_of(*slot, false) >= FIELDS {

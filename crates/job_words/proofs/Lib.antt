@@ -1,7 +1,7 @@
 -- The lemmas of this crate.
-pub mod Lists
-pub mod Orders
-pub mod Follow
-pub mod Places
-pub mod Reading
-pub mod Sound
+pub mod ListLemmas
+pub mod OrderLemmas
+pub mod FollowLemmas
+pub mod PlaceLemmas
+pub mod ReadingLemmas
+pub mod SoundLemmas

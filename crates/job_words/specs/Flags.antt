@@ -40,14 +40,15 @@ abbrev pub is_given : List Flag → Flag → Bool
 is_given given flag = list_any (begins_flag (first_word flag)) given
 
 -- those that aren't this flag
-abbrev pub without : Flag → List Flag → List Flag
-without flag flags = filter (λ other. not (begins_flag (first_word flag) other)) flags
+abbrev pub without_flag : Flag → List Flag → List Flag
+without_flag flag flags = filter (λ other. not (begins_flag (first_word flag) other)) flags
 
 -- all lists of at most n of the flags, each at most once
 abbrev pub orders_up_to : ℕ → List Flag → List (List Flag)
 orders_up_to zero flags = [] ∷ []
 orders_up_to (suc n) flags =
-    [] ∷ flat_map (λ flag. map (λ rest. flag ∷ rest) (orders_up_to n (without flag flags))) flags
+    []
+    ∷ flat_map (λ flag. map (λ rest. flag ∷ rest) (orders_up_to n (without_flag flag flags))) flags
 
 -- all lists of flags, each at most once and in any order
 abbrev pub orders : List Flag → List (List Flag)
@@ -66,11 +67,12 @@ flag_first None rest = []
 flag_first (Some flag) rest = flag ∷ rest flag
 
 -- at most n of the flags, with which the words begin
-abbrev pub given_up_to : ℕ → List Flag → List (List ℕ) → List Flag
-given_up_to zero flags words = []
-given_up_to (suc n) flags words = flag_first (next_flag flags words)
-    (λ flag. given_up_to n (without flag flags) (drop (length (flag_words flag)) words))
+abbrev pub leading_flags_up_to : ℕ → List Flag → List (List ℕ) → List Flag
+leading_flags_up_to zero flags words = []
+leading_flags_up_to (suc n) flags words = flag_first (next_flag flags words)
+    (λ flag. leading_flags_up_to n (without_flag flag flags)
+    (drop (length (flag_words flag)) words))
 
 -- the flags with which the words begin, each at most once
-abbrev pub given_in : List Flag → List (List ℕ) → List Flag
-given_in flags words = given_up_to (length flags) flags words
+abbrev pub leading_flags : List Flag → List (List ℕ) → List Flag
+leading_flags flags words = leading_flags_up_to (length flags) flags words

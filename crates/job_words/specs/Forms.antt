@@ -3,20 +3,21 @@
 use Rattle.std.specs.List.{flat_map, list_all}
 use Rattle.std.specs.Prelude.{Bool, codes, drop, false, length, List, map, min, not, replicate}
 use Rattle.std.specs.Prelude.{slice_index_or, true, ℕ, [], ◌++◌, ◌+◌, ◌-◌, ◌∷◌, ◌≡◌, ◌≤◌}
-use Rattle.job_words.specs.Asked.{Asked, Cut, CutExact, Drill, Fade, Gain, Help, InfoFile, Join}
-use Rattle.job_words.specs.Asked.{ListFile, Pack, Salvage, SplitAt, SplitBy, SplitExact, Undo}
-use Rattle.job_words.specs.{Asked.Version, Flags.{first_word, given_kinds, is_given, orders}}
-use Rattle.job_words.specs.Kinds.{Channel, channels_said, Count, count_said, Exact, exact_said}
+use Rattle.job_words.specs.Flags.{first_word, given_kinds, is_given, orders}
+use Rattle.job_words.specs.Kinds.{Channel, channel_said, Count, count_said, Exact, exact_said}
 use Rattle.job_words.specs.Kinds.{fits_kind, Fixed, Kind, Name, name_at, Place, place_said, Rate}
 use Rattle.job_words.specs.Kinds.{rate_said, Said, said_at, Seed, seed_said, Steps, steps_said}
-use Rattle.job_words.specs.{Kinds.values_of, declared.flags.Flag.Flag}
+use Rattle.job_words.specs.Kinds.{values_of}
+use Rattle.job_words.specs.Request.{Cut, CutExact, Drill, Fade, Gain, Help, InfoFile, Join}
+use Rattle.job_words.specs.Request.{ListFile, Pack, Request, Salvage, SplitAt, SplitBy, SplitExact}
+use Rattle.job_words.specs.{Request.{Undo, Version}, declared.flags.Flag.Flag}
 use Rattle.job_words.specs.declared.flags.Flag.TheVariants.{Back, Least, Seamless, Tagless}
-use Rattle.job_words.specs.declared.{flags.Flag.TheVariants.Wrapping, forms.Asks.Asks}
+use Rattle.job_words.specs.declared.{flags.Flag.TheVariants.Wrapping, forms.FormKind.FormKind}
 use Rattle.requests.specs.declared.mode.PackMode.{PackMode}
 use Rattle.requests.specs.declared.mode.PackMode.TheVariants.{Best, Constant, Floor}
 use Rattle.requests.specs.declared.mode.PackMode.TheVariants.{Least as LeastMode}
 use Rattle.requests.specs.declared.shift.Channels.{Channels, TheVariants.Both}
-use Rattle.job_words.specs.declared.forms.Asks.TheVariants as asks
+use Rattle.job_words.specs.declared.forms.FormKind.TheVariants as asks
 
 -- the command's word, the flags that may be after it, the kinds of the words after
 -- those, how many further words of the last kind there may be, and what is asked for
@@ -25,19 +26,20 @@ pub record Form : Type 0 where
   pub flags : List Flag
   pub kinds : List Kind
   pub more : ℕ
-  pub asks : Asks
+  pub asks : FormKind
 
 -- `--help`
-abbrev pub help : Form
-help = record { command = codes "--help"; flags = []; kinds = []; more = 0; asks = asks.Help }
+abbrev pub help_form : Form
+help_form = record { command = codes "--help"; flags = []; kinds = []; more = 0; asks = asks.Help }
 
 -- `-h`
-abbrev pub short_help : Form
-short_help = record { command = codes "-h"; flags = []; kinds = []; more = 0; asks = asks.Help }
+abbrev pub short_help_form : Form
+short_help_form =
+    record { command = codes "-h"; flags = []; kinds = []; more = 0; asks = asks.Help }
 
 -- `--version`
-abbrev pub version : Form
-version =
+abbrev pub version_form : Form
+version_form =
     record { command = codes "--version"; flags = []; kinds = []; more = 0; asks = asks.Version }
 
 -- `list IN`
@@ -229,7 +231,8 @@ salvage_form = record {
 -- all of them
 abbrev pub forms : List Form
 forms =
-    help ∷ short_help ∷ version ∷ list_form ∷ info_form ∷ gain_form ∷ channel_form ∷ undo_form
+    help_form ∷ short_help_form ∷ version_form ∷ list_form ∷ info_form ∷ gain_form ∷ channel_form
+    ∷ undo_form
     ∷ cut_form ∷ exact_form ∷ pack_form
     ∷ constant_form ∷ floor_form ∷ best_form ∷ split_form ∷ exact_split_form ∷ sheet_form
     ∷ exact_sheet_form ∷ join_form ∷ drill_form ∷ fade_form ∷ salvage_form ∷ []
@@ -259,8 +262,8 @@ last_kind kinds = slice_index_or kinds (length kinds - 1) Name
 
 -- the kinds of `count` words after the flags: the last is
 -- repeated for the words that are left, as often as it may be
-abbrev pub kinds_behind : Form → ℕ → List Kind
-kinds_behind form count =
+abbrev pub form_kinds : Form → ℕ → List Kind
+form_kinds form count =
     form.kinds ++ replicate (min form.more (count - length form.kinds)) (last_kind form.kinds)
 
 -- the command's word and those of the flags
@@ -268,19 +271,20 @@ abbrev pub front_kinds : List ℕ → List Flag → List Kind
 front_kinds command given = Fixed command ∷ given_kinds given
 
 -- the kinds of a shape's command and flags
-abbrev pub front_of : Shape → List Kind
-front_of shape = front_kinds shape.form.command shape.given
+abbrev pub front_kinds_of : Shape → List Kind
+front_kinds_of shape = front_kinds shape.form.command shape.given
 
 -- the kinds of `count` words
 abbrev pub kinds_for : Shape → ℕ → List Kind
-kinds_for shape count = front_of shape ++ kinds_behind shape.form (count - length (front_of shape))
+kinds_for shape count =
+    front_kinds_of shape ++ form_kinds shape.form (count - length (front_kinds_of shape))
 
 -- ---- what is asked for
 
 -- a change of gains of these channels: the values from
 -- this place on are its steps, its input and its output
-abbrev pub gain_asked : Channels → List Flag → List Said → ℕ → Asked
-gain_asked channels given values place =
+abbrev pub gain_request : Channels → List Flag → List Said → ℕ → Request
+gain_request channels given values place =
     Gain (record {
       channels = channels;
       steps = steps_said (said_at values place);
@@ -289,70 +293,70 @@ gain_asked channels given values place =
     (not (is_given given Tagless)) (name_at values (place + 1)) (name_at values (place + 2))
 
 -- a packing in this mode: the values from this place on are its input and its output
-abbrev pub pack_asked : PackMode → List Said → ℕ → Asked
-pack_asked mode values place = Pack mode (name_at values place) (name_at values (place + 1))
+abbrev pub pack_request : PackMode → List Said → ℕ → Request
+pack_request mode values place = Pack mode (name_at values place) (name_at values (place + 1))
 
 -- a split by a cue sheet: the values from this place on
 -- are its input, its prefix, a fixed word and the sheet
-abbrev pub sheet_asked : Bool → List Said → ℕ → Asked
-sheet_asked exact values place =
+abbrev pub sheet_request : Bool → List Said → ℕ → Request
+sheet_request exact values place =
     SplitBy exact (name_at values place) (name_at values (place + 1)) (name_at values (place + 3))
 
 -- what is asked for by the flags that are given, by what
 -- the words after them say, and by these words themselves
-abbrev pub reads_of : Asks → List Flag → List Said → List (List ℕ) → Asked
-reads_of asks.Help given values words = Help
-reads_of asks.Version given values words = Version
-reads_of asks.List given values words = ListFile (name_at values 0)
-reads_of asks.Info given values words = InfoFile (name_at values 0)
-reads_of asks.Gain given values words = gain_asked Both given values 1
-reads_of asks.ChannelGain given values words =
-    gain_asked (channels_said (said_at values 1)) given values 2
-reads_of asks.Undo given values words = Undo (name_at values 1) (name_at values 2)
-reads_of asks.Cut given values words =
+abbrev pub form_request : FormKind → List Flag → List Said → List (List ℕ) → Request
+form_request asks.Help given values words = Help
+form_request asks.Version given values words = Version
+form_request asks.List given values words = ListFile (name_at values 0)
+form_request asks.Info given values words = InfoFile (name_at values 0)
+form_request asks.Gain given values words = gain_request Both given values 1
+form_request asks.ChannelGain given values words =
+    gain_request (channel_said (said_at values 1)) given values 2
+form_request asks.Undo given values words = Undo (name_at values 1) (name_at values 2)
+form_request asks.Cut given values words =
     Cut (place_said (said_at values 1)) (place_said (said_at values 2)) (is_given given Least)
     (name_at values 0) (name_at values 3)
-reads_of asks.CutExact given values words =
+form_request asks.CutExact given values words =
     CutExact (name_at values 1) (exact_said (said_at values 2)) (exact_said (said_at values 3))
     (name_at values 4)
-reads_of asks.Pack given values words = pack_asked LeastMode values 0
-reads_of asks.ConstantPack given values words =
-    pack_asked (Constant (rate_said (said_at values 1))) values 2
-reads_of asks.FloorPack given values words =
-    pack_asked (Floor (rate_said (said_at values 1))) values 2
-reads_of asks.BestPack given values words = pack_asked Best values 1
-reads_of asks.SplitAt given values words =
+form_request asks.Pack given values words = pack_request LeastMode values 0
+form_request asks.ConstantPack given values words =
+    pack_request (Constant (rate_said (said_at values 1))) values 2
+form_request asks.FloorPack given values words =
+    pack_request (Floor (rate_said (said_at values 1))) values 2
+form_request asks.BestPack given values words = pack_request Best values 1
+form_request asks.SplitAt given values words =
     SplitAt (name_at values 0) (name_at values 1) (map place_said (drop 2 values))
-reads_of asks.SplitExact given values words =
+form_request asks.SplitExact given values words =
     SplitExact (name_at values 1) (name_at values 2) (map exact_said (drop 3 values))
-reads_of asks.SplitBy given values words = sheet_asked false values 0
-reads_of asks.SplitExactBy given values words = sheet_asked true values 1
-reads_of asks.Join given values words =
+form_request asks.SplitBy given values words = sheet_request false values 0
+form_request asks.SplitExactBy given values words = sheet_request true values 1
+form_request asks.Join given values words =
     Join (is_given given Seamless) (name_at values 0) (drop 1 words)
-reads_of asks.Drill given values words =
+form_request asks.Drill given values words =
     Drill (seed_said (said_at values 0)) (count_said (said_at values 1))
-reads_of asks.Fade given values words =
+form_request asks.Fade given values words =
     Fade (is_given given Back) (name_at values 0) (name_at values 1) (name_at values 2)
-reads_of asks.Salvage given values words = Salvage (name_at values 0) (name_at values 1)
+form_request asks.Salvage given values words = Salvage (name_at values 0) (name_at values 1)
 
 -- what words of a shape ask for
-abbrev pub asked_of : Shape → List (List ℕ) → Asked
-asked_of shape words =
-    reads_of shape.form.asks shape.given (drop (length (front_of shape))
+abbrev pub shape_request : Shape → List (List ℕ) → Request
+shape_request shape words =
+    form_request shape.form.asks shape.given (drop (length (front_kinds_of shape))
     (values_of (kinds_for shape (length words)) words))
-    (drop (length (front_of shape)) words)
+    (drop (length (front_kinds_of shape)) words)
 
 -- ---- what holds of each form
 
 -- the most words after the flags that may be read for
 -- what is asked: 100 places, and those before them
-abbrev pub most_values : Asks → ℕ
+abbrev pub most_values : FormKind → ℕ
 most_values asks.SplitExact = 103
 most_values _ = 102
 
 -- no flag's first word can be the first word after the flags
-abbrev pub is_clear : Form → Bool
-is_clear form = list_all
+abbrev pub has_clear_flags : Form → Bool
+has_clear_flags form = list_all
     (λ flag. not (fits_kind (slice_index_or form.kinds 0 Name) (first_word flag))) form.flags
 
 -- the form is small, and its flags can't be taken for its other words
@@ -361,4 +365,4 @@ pub record IsReadable (form : Form) : Type 0 where
   pub kinds : length form.kinds ≤ 5
   pub more : form.more ≤ 98
   pub words : length form.kinds + form.more ≤ most_values form.asks
-  pub clear : is_clear form ≡ true
+  pub clear : has_clear_flags form ≡ true

@@ -74,20 +74,20 @@ pub data Said : Type 0 where
   CountSaid : ℕ → Said
 
 -- what a word of the kind says; none for a word that isn't of the kind
-abbrev pub said : Kind → List ℕ → Option Said
-said (Fixed text) word = if bytes_eq word text then Some Itself else None
-said Name word = if is_name word then Some (NameSaid word) else None
-said Steps word = option_map StepsSaid (steps_in word)
-said Channel word = option_map ChannelSaid (channel_of word)
-said Place word = option_map PlaceSaid (place_of word)
-said Exact word = option_map ExactSaid (exact_place_of word)
-said Rate word = option_map RateSaid (rate_in word)
-said Seed word = option_map SeedSaid (seed_in word)
-said Count word = option_map CountSaid (count_in word)
+abbrev pub word_value : Kind → List ℕ → Option Said
+word_value (Fixed text) word = if bytes_eq word text then Some Itself else None
+word_value Name word = if is_name word then Some (NameSaid word) else None
+word_value Steps word = option_map StepsSaid (steps_in word)
+word_value Channel word = option_map ChannelSaid (channel_of word)
+word_value Place word = option_map PlaceSaid (place_of word)
+word_value Exact word = option_map ExactSaid (exact_place_of word)
+word_value Rate word = option_map RateSaid (rate_in word)
+word_value Seed word = option_map SeedSaid (seed_in word)
+word_value Count word = option_map CountSaid (count_in word)
 
 -- the word is of the kind
 abbrev pub fits_kind : Kind → List ℕ → Bool
-fits_kind kind word = is_some (said kind word)
+fits_kind kind word = is_some (word_value kind word)
 
 -- the name that a value says; empty where it says another thing
 abbrev pub name_said : Said → List ℕ
@@ -100,9 +100,9 @@ steps_said (StepsSaid steps) = steps
 steps_said _ = pos 0
 
 -- the channel that a value says, else both
-abbrev pub channels_said : Said → Channels
-channels_said (ChannelSaid channel) = channel
-channels_said _ = Both
+abbrev pub channel_said : Said → Channels
+channel_said (ChannelSaid channel) = channel
+channel_said _ = Both
 
 -- the position that a value says, else the end
 abbrev pub place_said : Said → StreamPlace
@@ -136,7 +136,7 @@ said_first (Some value) rest = value ∷ rest
 
 -- what the first words say, up to the first that isn't of its kind
 abbrev pub values_of : List Kind → List (List ℕ) → List Said
-values_of (kind ∷ kinds) (word ∷ words) = said_first (said kind word) (values_of kinds words)
+values_of (kind ∷ kinds) (word ∷ words) = said_first (word_value kind word) (values_of kinds words)
 values_of kinds words = []
 
 -- the value at a place of the list, counted from 0

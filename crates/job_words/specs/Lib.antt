@@ -1,5 +1,5 @@
 -- What the contracts of this crate cite.
-pub mod Asked
+pub mod Request
 pub mod Code
 pub mod Flags
 pub mod Forms

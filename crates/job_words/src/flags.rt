@@ -1,6 +1,6 @@
 //! The flags of a form: words before its other words that may be left out, each at most once and in any order.
 ghost use Rattle.std.specs.Prelude.{◌≡◌, ◌≤◌, length, map, drop, string_bytes, find};
-ghost use Rattle.job_words.specs.Flags.{flag_words, begins_flag, is_given as is_given_lem, without as without_lem, next_flag as next_flag_lem, given_in as given_in_lem};
+ghost use Rattle.job_words.specs.Flags.{flag_words, begins_flag, is_given, without_flag, next_flag, leading_flags};
 
 use arrayvec::ArrayVec;
 
@@ -58,7 +58,7 @@ impl Flag {
 
 /// Whether the flag is among those that are given.
 pub(crate) fn is_given(given: &[Flag], flag: Flag) -> bool
-    ensures { result ≡ is_given_lem given.now flag }
+    ensures { result ≡ is_given given.now flag }
 {
     for other in given {
         if other.begins(flag.words()[0]) {
@@ -69,9 +69,9 @@ pub(crate) fn is_given(given: &[Flag], flag: Flag) -> bool
 }
 
 // Those that aren't this flag.
-fn without(flags: &[Flag], flag: Flag) -> Flags
+fn without_flag(flags: &[Flag], flag: Flag) -> Flags
     requires { length flags.now ≤ 4 }
-    ensures { result.items ≡ without_lem flag flags.now }
+    ensures { result.items ≡ without_flag flag flags.now }
 {
     let mut others = Flags::new();
     for other in flags {
@@ -96,7 +96,7 @@ fn flag_with(flags: &[Flag], word: &str) -> Option<Flag>
 
 // The flag whose first word is the first of these.
 fn next_flag(flags: &[Flag], words: &[String]) -> Option<Flag>
-    ensures { result ≡ next_flag_lem flags.now (map string_bytes words.now) }
+    ensures { result ≡ next_flag flags.now (map string_bytes words.now) }
 {
     match words {
         [] => None,
@@ -105,29 +105,29 @@ fn next_flag(flags: &[Flag], words: &[String]) -> Option<Flag>
 }
 
 /// The values of a list after the first `count`.
-pub(crate) fn behind<T>(items: &[T], count: usize) -> &[T]
+pub(crate) fn skip<T>(items: &[T], count: usize) -> &[T]
     ensures { result.now ≡ drop count items.now }
 {
     &items[count.min(items.len())..]
 }
 
 /// The flags with which the words after the first begin, each at most once.
-pub(crate) fn given_in(flags: &[Flag], words: &[String]) -> Flags
+pub(crate) fn leading_flags(flags: &[Flag], words: &[String]) -> Flags
     requires { length flags.now ≤ 4 }
-    ensures given { result.items ≡ given_in_lem flags.now (drop 1 (map string_bytes words.now)) }
+    ensures given { result.items ≡ leading_flags flags.now (drop 1 (map string_bytes words.now)) }
     ensures few { length result.items ≤ 4 }
 {
     let mut given = Flags::new();
     let mut left = Flags::new();
     left.try_extend_from_slice(flags).unwrap();
-    let mut rest = behind(words, 1);
+    let mut rest = skip(words, 1);
     for _ in 0..flags.len() {
         let Some(flag) = next_flag(left.as_slice(), rest) else {
             break;
         };
         given.push(flag);
-        left = without(left.as_slice(), flag);
-        rest = behind(rest, flag.words().len());
+        left = without_flag(left.as_slice(), flag);
+        rest = skip(rest, flag.words().len());
     }
     given
 }

@@ -1,12 +1,12 @@
 //! The forms that the program's words have.
 ghost use Rattle.std.specs.Prelude.{◌≡◌, ◌≤◌, ◌+◌, ◌++◌, length, map, replicate, string_bytes, IfErr};
-ghost use Rattle.job_words.specs.Kinds.{said_at, name_at as name_at_lem, place_said, exact_said, values_of};
+ghost use Rattle.job_words.specs.Kinds.{said_at, name_at, place_said, exact_said, values_of};
 ghost use Rattle.job_words.specs.Flags.{flag_kinds};
-ghost use Rattle.job_words.specs.Forms.{shapes_of, last_kind, kinds_behind, front_kinds as front_kinds_lem, gain_asked, pack_asked, sheet_asked, reads_of, most_values, IsReadable};
-ghost use Rattle.job_words.specs.Words.{reading};
-ghost use Rattle.job_words.specs.Code.{word_kind, value_said, form_given, asked, answer};
+ghost use Rattle.job_words.specs.Forms.{shapes_of, last_kind, form_kinds, front_kinds, gain_request, pack_request, sheet_request, form_request, most_values, IsReadable};
+ghost use Rattle.job_words.specs.Words.{table_reading};
+ghost use Rattle.job_words.specs.Code.{word_kind, value_said, form_given, job_request, request_result};
 
-use crate::flags::{Flag, behind, given_in, is_given};
+use crate::flags::{Flag, is_given, leading_flags, skip};
 use crate::jobs::Job;
 use crate::kinds::{Value, WordKind};
 use arrayvec::ArrayVec;
@@ -16,7 +16,7 @@ use requests::{Channels, PackMode, Shift};
 
 /// What the words of a form ask for.
 #[derive(Clone, Copy)]
-pub(crate) enum Asks {
+pub(crate) enum FormKind {
     Help,
     Version,
     List,
@@ -46,7 +46,7 @@ pub(crate) struct Form {
     pub(crate) flags: &'static [Flag],
     pub(crate) kinds: &'static [WordKind],
     pub(crate) more: usize,
-    pub(crate) asks: Asks,
+    pub(crate) asks: FormKind,
 }
 
 /// What a form asks for, the command's word, flags, the kinds of the other words, and how many more of the last there may be.
@@ -57,7 +57,7 @@ macro_rules! form {
             flags: &[$(Flag::$flag),*],
             kinds: &[$(WordKind::$kind $(($word))?),*],
             more: $more,
-            asks: Asks::$asks,
+            asks: FormKind::$asks,
         }
     };
 }
@@ -153,7 +153,7 @@ fn value_at<'a>(values: &[Value<'a>], place: usize) -> Value<'a>
 
 // The name at a place, counted from 0.
 fn name_at<'a>(values: &[Value<'a>], place: usize) -> &'a str
-    ensures { result.now ≡ name_at_lem (map value_said values.now) place }
+    ensures { result.now ≡ name_at (map value_said values.now) place }
 {
     value_at(values, place).name()
 }
@@ -161,7 +161,7 @@ fn name_at<'a>(values: &[Value<'a>], place: usize) -> &'a str
 // A change of gains of these channels: the values from this place on, counted from 0, are its steps, its input and its output.
 fn gain<'a>(channels: Channels, given: &[Flag], values: &[Value<'a>], place: usize) -> Job<'a>
     requires { place ≤ 2 }
-    ensures { asked result ≡ gain_asked channels given.now (map value_said values.now) place }
+    ensures { job_request result ≡ gain_request channels given.now (map value_said values.now) place }
 {
     Job::Gain {
         shift: Shift {
@@ -178,7 +178,7 @@ fn gain<'a>(channels: Channels, given: &[Flag], values: &[Value<'a>], place: usi
 // A packing in this mode: the values from this place on, counted from 0, are its input and its output.
 fn pack<'a>(mode: PackMode, values: &[Value<'a>], place: usize) -> Job<'a>
     requires { place ≤ 2 }
-    ensures { asked result ≡ pack_asked mode (map value_said values.now) place }
+    ensures { job_request result ≡ pack_request mode (map value_said values.now) place }
 {
     Job::Pack {
         mode,
@@ -190,7 +190,7 @@ fn pack<'a>(mode: PackMode, values: &[Value<'a>], place: usize) -> Job<'a>
 // A split by a cue sheet: the values from this place on, counted from 0, are its input and its prefix, a fixed word and the sheet.
 fn split_by<'a>(exact: bool, values: &[Value<'a>], place: usize) -> Job<'a>
     requires { place ≤ 2 }
-    ensures { asked result ≡ sheet_asked exact (map value_said values.now) place }
+    ensures { job_request result ≡ sheet_request exact (map value_said values.now) place }
 {
     Job::SplitBy {
         exact,
@@ -200,7 +200,7 @@ fn split_by<'a>(exact: bool, values: &[Value<'a>], place: usize) -> Job<'a>
     }
 }
 
-impl Asks {
+impl FormKind {
     /// What is asked for by these flags, by what the words after them say, and by these words themselves.
     pub(crate) fn job<'a>(
         self,
@@ -209,69 +209,73 @@ impl Asks {
         words: &'a [String],
     ) -> Job<'a>
         requires { length values.now ≤ most_values self }
-        ensures { asked result ≡ reads_of self given.now (map value_said values.now)
+        ensures { job_request result ≡ form_request self given.now (map value_said values.now)
             (map string_bytes words.now) }
     {
         match self {
-            Asks::Help => Job::Help,
-            Asks::Version => Job::Version,
-            Asks::List => Job::List {
+            FormKind::Help => Job::Help,
+            FormKind::Version => Job::Version,
+            FormKind::List => Job::List {
                 input: name_at(values, 0),
             },
-            Asks::Info => Job::Info {
+            FormKind::Info => Job::Info {
                 input: name_at(values, 0),
             },
-            Asks::Gain => gain(Channels::Both, given, values, 1),
-            Asks::ChannelGain => gain(value_at(values, 1).channels(), given, values, 2),
-            Asks::Undo => Job::Undo {
+            FormKind::Gain => gain(Channels::Both, given, values, 1),
+            FormKind::ChannelGain => gain(value_at(values, 1).channels(), given, values, 2),
+            FormKind::Undo => Job::Undo {
                 input: name_at(values, 1),
                 output: name_at(values, 2),
             },
-            Asks::Cut => Job::Cut {
+            FormKind::Cut => Job::Cut {
                 from: value_at(values, 1).place(),
                 to: value_at(values, 2).place(),
                 least: is_given(given, Flag::Least),
                 input: name_at(values, 0),
                 output: name_at(values, 3),
             },
-            Asks::CutExact => Job::CutExact {
+            FormKind::CutExact => Job::CutExact {
                 input: name_at(values, 1),
                 from: value_at(values, 2).exact(),
                 to: value_at(values, 3).exact(),
                 output: name_at(values, 4),
             },
-            Asks::Pack => pack(PackMode::Least, values, 0),
-            Asks::ConstantPack => pack(PackMode::Constant(value_at(values, 1).rate()), values, 2),
-            Asks::FloorPack => pack(PackMode::Floor(value_at(values, 1).rate()), values, 2),
-            Asks::BestPack => pack(PackMode::Best, values, 1),
-            Asks::SplitAt => Job::SplitAt {
+            FormKind::Pack => pack(PackMode::Least, values, 0),
+            FormKind::ConstantPack => pack(
+                PackMode::Constant(value_at(values, 1).rate()),
+                values,
+                2,
+            ),
+            FormKind::FloorPack => pack(PackMode::Floor(value_at(values, 1).rate()), values, 2),
+            FormKind::BestPack => pack(PackMode::Best, values, 1),
+            FormKind::SplitAt => Job::SplitAt {
                 input: name_at(values, 0),
                 prefix: name_at(values, 1),
-                places: places_of(behind(values, 2)),
+                places: places_of(skip(values, 2)),
             },
-            Asks::SplitExact => Job::SplitExact {
+            FormKind::SplitExact => Job::SplitExact {
                 input: name_at(values, 1),
                 prefix: name_at(values, 2),
-                places: exact_places_of(behind(values, 3)),
+                places: exact_places_of(skip(values, 3)),
             },
-            Asks::SplitBy => split_by(false, values, 0),
-            Asks::SplitExactBy => split_by(true, values, 1),
-            Asks::Join => Job::Join {
+            FormKind::SplitBy => split_by(false, values, 0),
+            FormKind::SplitExactBy => split_by(true, values, 1),
+            FormKind::Join => Job::Join {
                 seamless: is_given(given, Flag::Seamless),
                 output: name_at(values, 0),
-                inputs: behind(words, 1),
+                inputs: skip(words, 1),
             },
-            Asks::Drill => Job::Drill {
+            FormKind::Drill => Job::Drill {
                 seed: value_at(values, 0).seed(),
                 count: value_at(values, 1).count(),
             },
-            Asks::Fade => Job::Fade {
+            FormKind::Fade => Job::Fade {
                 back: is_given(given, Flag::Back),
                 input: name_at(values, 0),
                 output: name_at(values, 1),
                 sheet: name_at(values, 2),
             },
-            Asks::Salvage => Job::Salvage {
+            FormKind::Salvage => Job::Salvage {
                 input: name_at(values, 0),
                 output: name_at(values, 1),
             },
@@ -323,7 +327,7 @@ fn append_flag(kinds: &mut Kinds, flag: Flag)
 // The command's word, and those of the flags.
 fn front_kinds(command: &'static str, given: &[Flag]) -> Kinds
     requires { length given.now ≤ 4 }
-    ensures items { map word_kind result.items ≡ front_kinds_lem command.now given.now }
+    ensures items { map word_kind result.items ≡ front_kinds command.now given.now }
     ensures few { length result.items ≤ 9 }
 {
     let mut kinds = Kinds::new();
@@ -340,7 +344,7 @@ impl Form {
         requires front { length kinds.old.items ≤ 9 }
         requires readable { IsReadable (form_given self.now) }
         ensures { map word_kind kinds.new.items ≡ map word_kind kinds.old.items
-            ++ kinds_behind (form_given self.now) count }
+            ++ form_kinds (form_given self.now) count }
     {
         let more = self.more.min(count.saturating_sub(self.kinds.len()));
         append(kinds, self.kinds);
@@ -350,16 +354,16 @@ impl Form {
     /// What the words ask for by this form, or the place of the first word, counted from 1, that it doesn't take.
     pub(crate) fn read<'a>(&self, words: &'a [String]) -> Result<Job<'a>, usize>
         requires { IsReadable (form_given self.now) }
-        ensures answer { answer result ≡ reading (shapes_of (form_given self.now))
+        ensures answer { request_result result ≡ table_reading (shapes_of (form_given self.now))
             (map string_bytes words.now) }
         ensures few { IfErr result (λ place. place ≤ 113) }
     {
-        let flags = given_in(self.flags, words);
+        let flags = leading_flags(self.flags, words);
         let given = flags.as_slice();
         let mut kinds = front_kinds(self.command, given);
         let front = kinds.len();
         self.append_behind(&mut kinds, words.len().saturating_sub(front));
-        let read = follow(words, kinds.as_slice());
+        let read = read_while_fits(words, kinds.as_slice());
         let values = read.as_slice();
         let count = values.len();
         if count < words.len() || count < kinds.len() {
@@ -367,13 +371,13 @@ impl Form {
         }
         Ok(
             self.asks
-                .job(given, behind(values, front), behind(words, front)),
+                .job(given, skip(values, front), skip(words, front)),
         )
     }
 }
 
 // What the first words say, up to the first that isn't of its kind.
-fn follow<'a>(words: &'a [String], kinds: &[WordKind]) -> ArrayVec<Value<'a>, MOST_KINDS>
+fn read_while_fits<'a>(words: &'a [String], kinds: &[WordKind]) -> ArrayVec<Value<'a>, MOST_KINDS>
     requires { length kinds.now ≤ 112 }
     ensures { map value_said result.items ≡ values_of (map word_kind kinds.now)
         (map string_bytes words.now) }

@@ -1,6 +1,6 @@
 //! What a single word can be, and what it says.
 ghost use Rattle.std.specs.Prelude.{◌≡◌, option_map};
-ghost use Rattle.job_words.specs.Kinds.{is_name, channel_of, rate_in, seed_in, count_in, said, name_said, steps_said, channels_said, place_said, exact_said, rate_said, seed_said, count_said};
+ghost use Rattle.job_words.specs.Kinds.{is_name, channel_of, rate_in, seed_in, count_in, word_value, name_said, steps_said, channel_said, place_said, exact_said, rate_said, seed_said, count_said};
 ghost use Rattle.job_words.specs.Code.{word_kind, value_said};
 
 use cue_sheet::Place;
@@ -111,7 +111,7 @@ fn read_count(word: &str) -> Option<u32>
 impl WordKind {
     /// What a word of this kind says. `None` for a word that isn't of the kind.
     pub(crate) fn read<'a>(&self, word: &'a str) -> Option<Value<'a>>
-        ensures { option_map value_said result ≡ said (word_kind self.now) word.now }
+        ensures { option_map value_said result ≡ word_value (word_kind self.now) word.now }
     {
         match self {
             WordKind::Fixed(text) if word == *text => Some(Value::Fixed),
@@ -151,7 +151,7 @@ impl<'a> Value<'a> {
 
     /// The channel; both for any other value.
     pub(crate) fn channels(self) -> Channels
-        ensures { result ≡ channels_said (value_said self.entry) }
+        ensures { result ≡ channel_said (value_said self.entry) }
     {
         match self {
             Value::Channel(channel) => channel,

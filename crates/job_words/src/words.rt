@@ -1,8 +1,8 @@
 //! What the program's words ask for.
 ghost use Rattle.std.specs.Prelude.{◌≡◌, map, string_bytes, IfOk, IfErr, All};
 ghost use Rattle.job_words.specs.Forms.{shapes, IsReadable};
-ghost use Rattle.job_words.specs.Words.{reading, job_of, IsReading, IsBadWord, IsSound};
-ghost use Rattle.job_words.specs.Code.{form_given, asked, answer};
+ghost use Rattle.job_words.specs.Words.{table_reading, job_of, IsReadingOf, IsBadWord, IsSoundRequest};
+ghost use Rattle.job_words.specs.Code.{form_given, job_request, request_result};
 
 use crate::forms::{FORMS, Form};
 use crate::jobs::Job;
@@ -10,7 +10,7 @@ use crate::jobs::Job;
 // What the words ask for by the first of these forms that they have, or the place, counted from 1, of the first word that none takes.
 fn read_by<'a>(forms: &[Form], words: &'a [String]) -> Result<Job<'a>, u32>
     requires { All IsReadable (map form_given forms.now) }
-    ensures { answer result ≡ reading (shapes (map form_given forms.now))
+    ensures { request_result result ≡ table_reading (shapes (map form_given forms.now))
         (map string_bytes words.now) }
 {
     let mut place = 1;
@@ -39,14 +39,14 @@ fn read_by<'a>(forms: &[Form], words: &'a [String]) -> Result<Job<'a>, u32>
 /// Where the words have no form, the place, counted from 1, of the first word that no form takes, or the number of words plus
 /// 1 where a word is missing.
 pub fn job(words: &[String]) -> Result<Job<'_>, u32>
-    ensures exact { answer result ≡ job_of (map string_bytes words.now) }
+    ensures exact { request_result result ≡ job_of (map string_bytes words.now) }
 
     // The same as relations: the form that the words have, and the longest prefix of the words that follows a form.
-    ensures read { IfOk result (λ job. IsReading (map string_bytes words.now) (asked job)) }
+    ensures read { IfOk result (λ job. IsReadingOf (map string_bytes words.now) (job_request job)) }
     ensures bad { IfErr result (IsBadWord (map string_bytes words.now)) }
 
     // What is asked for is in range, as the commands require.
-    ensures sound { IfOk result (λ job. IsSound (asked job)) }
+    ensures sound { IfOk result (λ job. IsSoundRequest (job_request job)) }
 {
     read_by(&FORMS, words)
 }

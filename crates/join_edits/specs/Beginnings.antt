@@ -6,13 +6,14 @@ use Rattle.outside.specs.Files.{Files, Holds}
 use Rattle.sync_survey.specs.Faults.{SurveyFields}
 
 -- so this input begins, by its survey before the head is set apart
-pub record IsBegun (files : Files) (name : List ℕ) (s : SurveyFields) (b : Beginning) : Type 0 where
+pub record IsBeginning (files : Files) (name : List ℕ) (s : SurveyFields)
+    (b : Beginning) : Type 0 where
   pub head : (file : List ℕ) → Holds files name file → b.head ≡ fields_of_head file s.head
   pub blank : b.blank ≡ begins_blank s.frames
 
 -- so each of these inputs begins
-abbrev pub AreBegun : Files → List (List ℕ) → List SurveyFields → List Beginning → Type 0
-AreBegun files [] [] [] = Unit {0}
-AreBegun files (name ∷ names) (s ∷ ss) (b ∷ bs) =
-    IsBegun files name s b × AreBegun files names ss bs
-AreBegun files _ _ _ = ⊥
+abbrev pub AreBeginnings : Files → List (List ℕ) → List SurveyFields → List Beginning → Type 0
+AreBeginnings files [] [] [] = Unit {0}
+AreBeginnings files (name ∷ names) (s ∷ ss) (b ∷ bs) =
+    IsBeginning files name s b × AreBeginnings files names ss bs
+AreBeginnings files _ _ _ = ⊥

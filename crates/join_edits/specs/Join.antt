@@ -2,15 +2,15 @@
 use Rattle.std.specs.Prelude.{Bool, Err, false, flat_map, if◌then◌else◌, length, List, map, nat_lt}
 use Rattle.std.specs.Prelude.{None, Ok, Option, Result, slice_get, Some, true, unwrap_or, ℕ, []}
 use Rattle.std.specs.Prelude.{◌&&◌, ◌+◌, ◌-◌, ◌∷◌}
-use Rattle.commands.specs.{Command.Command, One.{first_input, most_frames, one_command, Task}}
-use Rattle.commands.specs.{Refusing.then_made, declared.fault.EditFault.EditFault}
-use Rattle.commands.specs.declared.fault.{EditFault.TheVariants.{Input, Refused}, Refusal.Refusal}
-use Rattle.commands.specs.declared.fault.Refusal.TheVariants.{Differ}
+use Rattle.commands.specs.{Command.Command, Refusing.then_made}
+use Rattle.commands.specs.SingleOutput.{first_input, most_frames, one_command, Task}
+use Rattle.commands.specs.declared.fault.EditFault.{EditFault, TheVariants.{Input, Refused}}
+use Rattle.commands.specs.declared.fault.Refusal.{Refusal, TheVariants.Differ}
 use Rattle.frame_header.specs.{Fields.{ClassFields, same_class}, Tables.window_of}
 use Rattle.frame_writer.specs.Frames.{Frame}
 use Rattle.laying.specs.{LaidFiles.laid_file, NeedsFit.own_choice}
-use Rattle.laying.specs.Relaid.{frames_in, needs_in, Part, relaid, stream_in, with_lead_ins}
-use Rattle.laying.specs.Written.{front_blocks, plain_info}
+use Rattle.laying.specs.Relaid.{FilePart, part_frames, part_needs, part_stream, relaid_frames}
+use Rattle.laying.specs.{Relaid.stream_with_lead_ins, Written.{front_blocks, plain_info}}
 use Rattle.outside.specs.Files.{Contents}
 use Rattle.slot_plan.specs.{LeastPlan.least_plan, declared.needs.Placed.Placed}
 use Rattle.sync_survey.specs.{Faults.SurveyFields, MainData.StreamFrame, Row.Row, Survey.survey_of}
@@ -19,77 +19,78 @@ use Rattle.sync_survey.specs.declared.survey_fault.SurveyFault.{SurveyFault, The
 -- ---- the inputs
 
 -- all frames of a file with this survey
-abbrev pub whole_part : List ℕ → SurveyFields → Part
+abbrev pub whole_part : List ℕ → SurveyFields → FilePart
 whole_part file s = record { file = file; survey = s; from = 0; to = length s.frames }
 
 -- an input of this class may follow: any where there is
 -- no input before it, else one of the first input's class
-abbrev pub may_follow : Option ClassFields → ClassFields → Bool
-may_follow None class = true
-may_follow (Some first) class = same_class class first
+abbrev pub may_join : Option ClassFields → ClassFields → Bool
+may_join None class = true
+may_join (Some first) class = same_class class first
 
 -- all frames of the input with this number, by its survey, or why it is refused
-abbrev pub part_by : ℕ → Option ClassFields → List ℕ → Result SurveyFields SurveyFault
-    → Result Part EditFault
-part_by place first file (Err fault) = Err (Input place fault)
-part_by place first file (Ok s) =
-    if may_follow first s.class then Ok (whole_part file s) else Err (Refused (Differ place))
+abbrev pub surveyed_part : ℕ → Option ClassFields → List ℕ → Result SurveyFields SurveyFault
+    → Result FilePart EditFault
+surveyed_part place first file (Err fault) = Err (Input place fault)
+surveyed_part place first file (Ok s) =
+    if may_join first s.class then Ok (whole_part file s) else Err (Refused (Differ place))
 
 -- All frames of the input with this number, counted from 0, of which `allowed`
 -- frames are allowed. It is refused where it isn't there, or else is at fault,
 -- or else its frames are of another class than those of the first.
-abbrev pub part_of : ℕ → Option ClassFields → ℕ → Option (List ℕ) → Result Part EditFault
-part_of place first allowed None = Err (Input place Absent)
-part_of place first allowed (Some file) = part_by place first file (survey_of file allowed)
+abbrev pub join_part : ℕ → Option ClassFields → ℕ → Option (List ℕ) → Result FilePart EditFault
+join_part place first allowed None = Err (Input place Absent)
+join_part place first allowed (Some file) = surveyed_part place first file (survey_of file allowed)
 
 -- the inputs from this number on, or the first refusal; together they may have `allowed` frames
-unfoldable pub parts_from : ℕ → Option ClassFields → ℕ → Contents → List (List ℕ)
-    → Result (List Part) EditFault
-parts_from place first allowed files [] = Ok []
-parts_from place first allowed files (name ∷ names) =
-    then_made (part_of place first allowed (files name))
-    (λ part. then_made (parts_from (place + 1) (Some (unwrap_or first part.survey.class))
+unfoldable pub join_parts_from : ℕ → Option ClassFields → ℕ → Contents → List (List ℕ)
+    → Result (List FilePart) EditFault
+join_parts_from place first allowed files [] = Ok []
+join_parts_from place first allowed files (name ∷ names) =
+    then_made (join_part place first allowed (files name))
+    (λ part. then_made (join_parts_from (place + 1) (Some (unwrap_or first part.survey.class))
     (allowed - length part.survey.frames) files names) (λ parts. Ok (part ∷ parts)))
 
 -- the inputs of these names, or the first refusal
-abbrev pub parts_of : Contents → List (List ℕ) → Result (List Part) EditFault
-parts_of files names = parts_from 0 None most_frames files names
+abbrev pub join_parts : Contents → List (List ℕ) → Result (List FilePart) EditFault
+join_parts files names = join_parts_from 0 None most_frames files names
 
 -- ---- the file of them
 
 -- the slots of their plan: of all lists of their own slots the first for
 -- which there is a layout, with the lead-in that each part has alone
-abbrev pub plan_of : ClassFields → List Part → List Placed
-plan_of class parts = least_plan (window_of class.version) own_choice (map needs_in parts)
+abbrev pub joined_plan : ClassFields → List FilePart → List Placed
+joined_plan class parts = least_plan (window_of class.version) own_choice (map part_needs parts)
 
 -- all frames with all main data, in these slots
-abbrev pub joined_frames : ClassFields → List Part → List Frame
-joined_frames class parts = relaid (flat_map frames_in parts) (plan_of class parts)
+abbrev pub joined_frames : ClassFields → List FilePart → List Frame
+joined_frames class parts = relaid_frames (flat_map part_frames parts) (joined_plan class parts)
 
 -- The ID3v2 blocks before the first frame of the first input, an Info frame with the header of this
 -- first frame, and the frames, with no other block of any input; of no frames there is no file.
-abbrev pub joined_from : Option Row → Part → List Part → List ℕ
-joined_from None part parts = []
-joined_from (Some first) part parts =
+abbrev pub joined_row_file : Option Row → FilePart → List FilePart → List ℕ
+joined_row_file None part parts = []
+joined_row_file (Some first) part parts =
     laid_file (front_blocks part.file part.survey)
     first.header (plain_info part.survey.class (joined_frames part.survey.class parts))
     (joined_frames part.survey.class parts) []
 
 -- the file of all frames of these inputs
-unfoldable pub joined_file : List Part → List ℕ
+unfoldable pub joined_file : List FilePart → List ℕ
 joined_file [] = []
-joined_file (part ∷ parts) = joined_from (slice_get part.survey.frames 0) part (part ∷ parts)
+joined_file (part ∷ parts) = joined_row_file (slice_get part.survey.frames 0) part (part ∷ parts)
 
 -- its stream: the lead-ins, and all frames as they are in the streams of the parts
-unfoldable pub joined_stream : List Part → List StreamFrame
+unfoldable pub joined_stream : List FilePart → List StreamFrame
 joined_stream [] = []
 joined_stream (part ∷ parts) =
-    with_lead_ins (plan_of part.survey.class (part ∷ parts)) (flat_map stream_in (part ∷ parts))
+    stream_with_lead_ins (joined_plan part.survey.class (part ∷ parts))
+    (flat_map part_stream (part ∷ parts))
 
 -- ---- the command
 
 -- that of the inputs; empty where they are refused
-abbrev pub join_stream : Result (List Part) EditFault → List StreamFrame
+abbrev pub join_stream : Result (List FilePart) EditFault → List StreamFrame
 join_stream (Err fault) = []
 join_stream (Ok parts) = joined_stream parts
 
@@ -104,8 +105,8 @@ join_task inputs = record {
   source = first_input inputs;
   inputs = inputs;
   sources = inputs;
-  makes = λ files. then_made (parts_of files inputs) (λ parts. Ok (joined_file parts));
-  stream = λ files. join_stream (parts_of files inputs);
+  makes = λ files. then_made (join_parts files inputs) (λ parts. Ok (joined_file parts));
+  stream = λ files. join_stream (join_parts files inputs);
   refuses = join_refuses (length inputs);
 }
 

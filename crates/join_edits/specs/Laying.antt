@@ -6,16 +6,16 @@ use Rattle.std.specs.Prelude.{slice_get, slice_index_or, Some, ℕ, [], ◌<◌,
 use Rattle.frame_header.specs.{Fields.ClassFields, Tables.window_of}
 use Rattle.frame_writer.specs.Frames.{Frame}
 use Rattle.info_header.specs.InfoFrame.{info_frame}
-use Rattle.join_edits.specs.{Inputs.{CanBeJoined, class_in, rows_of}, declared.planned.Work.Work}
-use Rattle.join_edits.specs.declared.stopped.Stopped.{Stopped}
-use Rattle.laying.specs.{Fits.FitsFrom, Needs.{need_of, needs_of}, NeedsFit.own_choice}
-use Rattle.laying.specs.{Passing.IsFresh, Surveys.HasSurvey, Written.{plain_info, slot_in}}
+use Rattle.join_edits.specs.Inputs.{CanInputsBeJoined, class_of_first, survey_rows}
+use Rattle.join_edits.specs.declared.{planned.JoinWork.JoinWork, stopped.Stopped.Stopped}
+use Rattle.laying.specs.{Fits.FitsFromReach, Needs.{need_of, needs_of_parts}, NeedsFit.own_choice}
+use Rattle.laying.specs.{Passing.IsRelayFresh, Surveys.CanBeRelaid, Written.{plain_info, slot_in}}
 use Rattle.laying.specs.declared.relay.Relay.{Relay}
-use Rattle.outside.specs.{Counts.Counts, Files.{Files, Holds, IsThere}}
-use Rattle.outside.specs.Pass.{Appends, AppendsPrefix, HasPassCause, route, Writes, WritesPrefix}
-use Rattle.outside.specs.Seen.{Seen}
+use Rattle.outside.specs.{Counts.Counts, Files.{Files, Holds, IsFileThere}}
+use Rattle.outside.specs.Pass.{AppendsMadeBytes, AppendsPrefix, HasPassCause, route}
+use Rattle.outside.specs.{Pass.{WritesMadeBytes, WritesPrefix}, Seen.Seen}
 use Rattle.slot_plan.specs.{LeastPlan.least_plan, Plans.entries, declared.needs.Placed.Placed}
-use Rattle.sync_survey.specs.{Faults.{SurveyFields, tells}, Row.Row, Survey.IsLaidOut}
+use Rattle.sync_survey.specs.{Faults.{survey_view, SurveyFields}, Row.Row, Survey.IsSurveyLaidOut}
 
 -- ---- the plan
 
@@ -26,11 +26,13 @@ window_for (Some class) = window_of class.version
 
 -- the slots of the plan of all frames of these
 unfoldable pub least_plan_of : List SurveyFields → List Placed
-least_plan_of ss = least_plan (window_for (class_in ss)) own_choice (map (map need_of) (rows_of ss))
+least_plan_of ss =
+    least_plan (window_for (class_of_first ss)) own_choice (map (map need_of) (survey_rows ss))
 
 -- it can be written frame by frame
 abbrev pub FitsAll : List SurveyFields → List Placed → Type 0
-FitsAll ss placed = FitsFrom (window_for (class_in ss)) 0 (needs_of (rows_of ss)) placed
+FitsAll ss placed =
+    FitsFromReach (window_for (class_of_first ss)) 0 (needs_of_parts (survey_rows ss)) placed
 
 -- these are the bytes of the Info frame before frames in the slots of this plan
 abbrev pub IsJoinedInfo : List SurveyFields → List Placed → List ℕ → Type 0
@@ -46,11 +48,11 @@ pub record IsPlanOf (ss : List SurveyFields) (placed : List Placed) : Type 0 whe
 
 -- the inputs can be joined, this is their plan, with the Info
 -- frame before it, and the buffers are for frames of their class
-pub record IsReady (ss : List SurveyFields) (work : Work) : Type 0 where
-  pub joined : CanBeJoined ss
+pub record IsJoinReady (ss : List SurveyFields) (work : JoinWork) : Type 0 where
+  pub joined : CanInputsBeJoined ss
   pub plan : IsPlanOf ss (entries work.plan)
   pub info : IsJoinedInfo ss (entries work.plan) work.info.items
-  pub fresh : IfSome (class_in ss) (λ class. IsFresh class work.buffers)
+  pub fresh : IfSome (class_of_first ss) (λ class. IsRelayFresh class work.buffers)
 
 -- ---- the inputs
 
@@ -58,9 +60,9 @@ pub record IsReady (ss : List SurveyFields) (work : Work) : Type 0 where
 pub record IsSource (output : List ℕ) (files : Files) (name : List ℕ)
     (s : SurveyFields) : Type 0 where
   pub apart : name ≢ output
-  pub there : IsThere files name
-  pub exact : (file : List ℕ) → Holds files name file → HasSurvey file s
-  pub laid : IsLaidOut s
+  pub there : IsFileThere files name
+  pub exact : (file : List ℕ) → Holds files name file → CanBeRelaid file s
+  pub laid : IsSurveyLaidOut s
 
 -- so is each of these, and its frames are of this class
 abbrev pub AreSources : ClassFields → List ℕ → Files → List (List ℕ) → List SurveyFields → Type 0
@@ -69,14 +71,15 @@ AreSources class output files names ss =
 
 -- The inputs are joined: this pass is over the first of them, whose
 -- survey is the first, and writes another file that is there.
-pub record IsJoin (first : Relay) (inputs : List (List ℕ)) (surveys : List SurveyFields)
+pub record IsJoinPass (first : Relay) (inputs : List (List ℕ)) (surveys : List SurveyFields)
     (files : Files) : Type 0 where
   pub names : inputs ≡ first.pass.input.now ∷ drop 1 inputs
-  pub known : surveys ≡ tells first.survey.now ∷ drop 1 surveys
-  pub length : first.pass.length ≡ (tells first.survey.now).length
+  pub known : surveys ≡ survey_view first.survey.now ∷ drop 1 surveys
+  pub length : first.pass.length ≡ (survey_view first.survey.now).length
   pub apart : first.pass.input.now ≢ first.pass.output.now
-  pub sources : AreSources (tells first.survey.now).class first.pass.output.now files inputs surveys
-  pub target : IsThere files first.pass.output.now
+  pub sources : AreSources
+      (survey_view first.survey.now).class first.pass.output.now files inputs surveys
+  pub target : IsFileThere files first.pass.output.now
 
 -- ---- why it ends early
 
@@ -93,7 +96,7 @@ pub record HasJoinCause (inputs : List (List ℕ)) (output : List ℕ) (files : 
 -- What is made of the inputs was added to what waits for the output, or only a prefix was appended.
 pub record AddsJoined (first : Relay) (inputs : List (List ℕ)) (made : List ℕ → List ℕ)
     (before after : List ℕ) (old new : Seen) (result : Result (Unit {0}) Stopped) : Type 0 where
-  pub written : OnOk result (Writes first.pass made before after old.files new.files)
+  pub written : OnOk result (WritesMadeBytes first.pass made before after old.files new.files)
   pub prefix : IfErr result
       (λ stopped. WritesPrefix first.pass made before old.files new.files stopped.fault)
   pub done : OnOk result (new.counts ≡ old.counts)
@@ -104,7 +107,7 @@ pub record AddsJoined (first : Relay) (inputs : List (List ℕ)) (made : List �
 pub record AppendsJoined (first : Relay) (inputs : List (List ℕ)) (made : List ℕ → List ℕ)
     (old new : Seen) (result : Result (Unit {0}) Stopped) : Type 0 where
   pub written : OnOk result
-      (Appends first.pass.input.now first.pass.output.now made old.files new.files)
+      (AppendsMadeBytes first.pass.input.now first.pass.output.now made old.files new.files)
   pub prefix : IfErr result (λ stopped. AppendsPrefix first.pass.input.now first.pass.output.now
       made old.files new.files stopped.fault)
   pub done : OnOk result (new.counts ≡ old.counts)

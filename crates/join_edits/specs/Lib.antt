@@ -2,7 +2,7 @@
 pub mod Join
 pub mod Inputs
 pub mod Laying
-pub mod Behind
+pub mod RestOfInputs
 pub mod Seamless
 pub mod Reading
 pub mod Beginnings

@@ -5,7 +5,7 @@ use Rattle.std.specs.Prelude.{Option, option_and_then, option_map, replicate, So
 use Rattle.std.specs.Prelude.{◌&&◌, ◌*◌, ◌++◌, ◌+◌, ◌-◌, ◌∷◌}
 use Rattle.cut_edits.specs.Exact.{quality_of}
 use Rattle.exact_span.specs.Extensions.{counts_of, extension_of}
-use Rattle.exact_span.specs.PlayedPositions.{counted_of, decoder_delay, played_of, rest_of}
+use Rattle.exact_span.specs.PlayedPositions.{counted_positions, decoder_delay, played_of, rest_of}
 use Rattle.exact_span.specs.{PlayedPositions.samples_in, TagWord.sealed_info}
 use Rattle.exact_span.specs.declared.played.Played.{Played}
 use Rattle.frame_header.specs.Fields.{ClassFields, HeaderFields}
@@ -25,28 +25,28 @@ delay_after class moved played =
     - decoder_delay
 
 -- a delay, if 12 bits are enough for it
-abbrev pub if_short : ℕ → Option ℕ
-if_short delay = if nat_le delay 4095 then Some delay else None
+abbrev pub short_delay : ℕ → Option ℕ
+short_delay delay = if nat_le delay 4095 then Some delay else None
 
 -- the delay where the first head counts and it has 12 bits
-abbrev pub delay_in : ClassFields → Option Info → ℕ → Moved → Option ℕ
-delay_in class head frames moved =
-    option_and_then (λ (p : Played). if_short (delay_after class moved p))
-    (counted_of head class frames)
+abbrev pub counted_delay : ClassFields → Option Info → ℕ → Moved → Option ℕ
+counted_delay class head frames moved =
+    option_and_then (λ (p : Played). short_delay (delay_after class moved p))
+    (counted_positions head class frames)
 
 -- the padding behind the last played position of an input with so many frames
-abbrev pub padding_in : ClassFields → Option Info → ℕ → ℕ
-padding_in class head frames = rest_of class frames (played_of head class frames) + decoder_delay
+abbrev pub ends_padding : ClassFields → Option Info → ℕ → ℕ
+ends_padding class head frames = rest_of class frames (played_of head class frames) + decoder_delay
 
 -- ---- peak and gains
 
 -- the head counts, and says this of them
-abbrev pub says_gain : List ℕ → Option Info → Bool
-says_gain gain head = is_some (counts_of head) && bytes_eq (gain_of head) gain
+abbrev pub head_says_gain : List ℕ → Option Info → Bool
+head_says_gain gain head = is_some (counts_of head) && bytes_eq (gain_of head) gain
 
 -- all these heads say it
 abbrev pub all_say : List ℕ → List Beginning → Bool
-all_say gain bs = list_all (λ (b : Beginning). says_gain gain b.head) bs
+all_say gain bs = list_all (λ (b : Beginning). head_says_gain gain b.head) bs
 
 -- they stay only where all these heads say the same
 abbrev pub gains_kept : List ℕ → List Beginning → List ℕ
@@ -68,17 +68,17 @@ last_head (b ∷ []) = b.head
 last_head (b ∷ c ∷ bs) = last_head (c ∷ bs)
 
 -- what is kept, with this delay
-abbrev pub kept_with : List Beginning → Ends → ℕ → Kept
-kept_with bs ends delay = record {
+abbrev pub kept_with_delay : List Beginning → Ends → ℕ → Kept
+kept_with_delay bs ends delay = record {
   quality = quality_of (first_head bs);
   extension = gains_kept (extension_of (first_head bs) delay
-      (padding_in ends.class (last_head bs) ends.last)) (drop 1 bs);
+      (ends_padding ends.class (last_head bs) ends.last)) (drop 1 bs);
 }
 
 -- the quality of the first head, and its extension with delay and padding, where they are written
-abbrev pub kept_in : List Beginning → Ends → Moved → Option Kept
-kept_in bs ends moved =
-    option_map (kept_with bs ends) (delay_in ends.class (first_head bs) ends.first moved)
+abbrev pub run_kept : List Beginning → Ends → Moved → Option Kept
+run_kept bs ends moved =
+    option_map (kept_with_delay bs ends) (counted_delay ends.class (first_head bs) ends.first moved)
 
 -- the fields of the Info frame: with what is kept, and with
 -- music length and tag CRC; else no quality, and all 0

@@ -2,25 +2,26 @@
 use Rattle.std.specs.List.{AllZip}
 use Rattle.std.specs.Prelude.{IfErr, length, List, OnOk, Result, slice_get, slice_index_or, Some, ℕ}
 use Rattle.std.specs.Prelude.{[], ◌++◌, ◌<◌, ◌≡◌}
-use Rattle.commands.specs.{Left.{by_why, never, why_of}, One.{LosesInput, ReadsNothing}}
+use Rattle.commands.specs.AfterCall.{by_why, no_cause, why_of}
+use Rattle.commands.specs.SingleOutput.{LosesInput, ReadsNothing}
 use Rattle.commands.specs.declared.fault.EditFault.{EditFault}
 use Rattle.frame_header.specs.Fields.{HeaderFields}
 use Rattle.join_edits.specs.declared.{main_data.Source.Source, stopped.Stopped.Stopped}
-use Rattle.laying.specs.{Relaid.payload_of, Surveys.HasSurvey}
-use Rattle.outside.specs.{Counts.{Counts, OnlyReads}, Files.{Files, Holds, IsThere}}
-use Rattle.outside.specs.{Pass.{HasInputCause, IsOfRead}, Seen.Seen}
+use Rattle.laying.specs.{Relaid.payload_of, Surveys.CanBeRelaid}
+use Rattle.outside.specs.{Counts.{Counts, OnlyReads}, Files.{Files, Holds, IsFileThere}}
+use Rattle.outside.specs.{Pass.{HasInputCause, IsReadPassFault}, Seen.Seen}
 use Rattle.outside.specs.declared.pass.PassFault.{PassFault}
 use Rattle.reservoir.specs.Window.{IsWindowOver}
-use Rattle.sync_survey.specs.{Faults.{SurveyFields, tells}, MainData.{area_bytes, own_area}}
-use Rattle.sync_survey.specs.{Row.Row, Survey.IsLaidOut}
+use Rattle.sync_survey.specs.{Faults.{survey_view, SurveyFields}, MainData.{area_bytes, own_area}}
+use Rattle.sync_survey.specs.{Row.Row, Survey.IsSurveyLaidOut}
 
 -- ---- one input
 
 -- the input is there, and this is a survey by which its frames can be read
 pub record IsHeld (files : Files) (name : List ℕ) (s : SurveyFields) : Type 0 where
-  pub there : IsThere files name
-  pub exact : (file : List ℕ) → Holds files name file → HasSurvey file s
-  pub laid : IsLaidOut s
+  pub there : IsFileThere files name
+  pub exact : (file : List ℕ) → Holds files name file → CanBeRelaid file s
+  pub laid : IsSurveyLaidOut s
 
 -- The input was read, or couldn't be; the files stay.
 pub record ReadsInput {T : Type 0} (source : Source) (old new : Seen)
@@ -30,8 +31,8 @@ pub record ReadsInput {T : Type 0} (source : Source) (old new : Seen)
   pub counts : OnlyReads old.counts new.counts
   pub cause : IfErr result
       (HasInputCause source.name.now
-      (tells source.survey.now).length old.files old.counts new.counts)
-  pub read : IfErr result IsOfRead
+      (survey_view source.survey.now).length old.files old.counts new.counts)
+  pub read : IfErr result IsReadPassFault
 
 -- The area of a frame with this header, which begins at this offset, is
 -- behind what the window held. If the input is told, it is the one in it.
@@ -51,24 +52,24 @@ IsMainDataOf input files s i bytes =
 -- ---- all inputs
 
 -- so much is known of each of the inputs
-abbrev pub AreKnown : Files → List (List ℕ) → List SurveyFields → Type 0
-AreKnown files names ss = AllZip (IsHeld files) names ss
+abbrev pub AreHeld : Files → List (List ℕ) → List SurveyFields → Type 0
+AreHeld files names ss = AllZip (IsHeld files) names ss
 
 -- ---- why they can't be read
 
 -- the pass over this input ended early, for this cause
-pub record StopsAt (place : ℕ) (name : List ℕ) (files : Files) (before after : Counts)
+pub record StopsAtInput (place : ℕ) (name : List ℕ) (files : Files) (before after : Counts)
     (stopped : Stopped) : Type 0 where
   pub place_is : stopped.place ≡ place
   pub size : ℕ
   pub cause : HasInputCause name size files before after stopped.fault
-  pub read : IsOfRead stopped.fault
+  pub read : IsReadPassFault stopped.fault
 
 -- the pass over one of these inputs did
-pub record StopsIn (inputs : List (List ℕ)) (files : Files) (before after : Counts)
+pub record StopsAmongInputs (inputs : List (List ℕ)) (files : Files) (before after : Counts)
     (stopped : Stopped) : Type 0 where
   pub within : stopped.place < length inputs
-  pub stops : StopsAt stopped.place (slice_index_or inputs stopped.place []) files before after
+  pub stops : StopsAtInput stopped.place (slice_index_or inputs stopped.place []) files before after
       stopped
 
 -- one of the inputs could not be read or became shorter, or there was no memory
@@ -84,9 +85,9 @@ pub record LosesOne (inputs : List (List ℕ)) (old new : Seen) (fault : EditFau
   pub loses : LosesInput place (slice_index_or inputs place []) old new fault
 
 -- this fault is one of these, or that there was no memory
-abbrev pub IsReadFault : List (List ℕ) → Seen → Seen → EditFault → Type 0
-IsReadFault inputs old new fault = by_why
-    (record never {
+abbrev pub IsInputReadFault : List (List ℕ) → Seen → Seen → EditFault → Type 0
+IsInputReadFault inputs old new fault = by_why
+    (record no_cause {
       unread = ReadsNone inputs old new fault;
       shorter = LosesOne inputs old new fault;
       no_memory = new ≡ old;

@@ -2,18 +2,19 @@
 use Rattle.std.specs.Prelude.{IfSome, length, List, map, slice_get, Some, ℕ, [], ◌-◌, ◌∷◌, ◌≡◌}
 use Rattle.frame_writer.specs.Frames.{Frame}
 use Rattle.info_header.specs.InfoFrame.{info_frame}
-use Rattle.join_edits.specs.{Behind.FitsWork, Deciding.{left_out_of, run_needs}, Inputs.class_in}
-use Rattle.join_edits.specs.{Laying.window_for, Numbers.{info_kept, kept_in}}
-use Rattle.join_edits.specs.declared.{beginnings.Beginning.Beginning, decided.Decided.Decided}
-use Rattle.join_edits.specs.declared.{numbers.{Ends.Ends, Moved.Moved}, planned.Work.Work}
+use Rattle.join_edits.specs.{Deciding.{left_out_of, run_needs}, Inputs.class_of_first}
+use Rattle.join_edits.specs.{Laying.window_for, Numbers.{info_kept, run_kept}}
+use Rattle.join_edits.specs.{RestOfInputs.FitsWork, declared.beginnings.Beginning.Beginning}
+use Rattle.join_edits.specs.declared.{decided.Decided.Decided, numbers.{Ends.Ends, Moved.Moved}}
+use Rattle.join_edits.specs.declared.planned.JoinWork.{JoinWork}
 use Rattle.laying.specs.{NeedsFit.own_choice, Written.slot_in}
 use Rattle.slot_plan.specs.{LeastPlan.least_plan, Plans.entries, declared.needs.Need.Need}
 use Rattle.slot_plan.specs.declared.needs.Placed.{Placed}
 use Rattle.sync_survey.specs.{Faults.SurveyFields, Row.Row}
 
 -- the plan of a run whose frames need this: it is one part, and each frame keeps its slot
-abbrev pub run_plan : ℕ → List Need → List Placed
-run_plan window needs = least_plan window own_choice (needs ∷ [])
+abbrev pub plan_of_run_needs : ℕ → List Need → List Placed
+plan_of_run_needs window needs = least_plan window own_choice (needs ∷ [])
 
 -- so many frames are left out at its front, and it has so many lead-ins
 abbrev pub moved_of : Decided → List Placed → Moved
@@ -36,11 +37,11 @@ IsRunInfo ss bs d placed bytes =
     (frames : List Frame) → map slot_in frames ≡ map (λ (p : Placed). p.slot) placed
     → (s : SurveyFields) → slice_get ss 0 ≡ Some s → (first : Row)
     → slice_get s.frames d.front ≡ Some first → (ends : Ends) → AreEnds ss ends → bytes ≡ info_frame
-    first.header (info_kept (kept_in bs ends (moved_of d placed)) first.header s.class frames)
+    first.header (info_kept (run_kept bs ends (moved_of d placed)) first.header s.class frames)
 
 -- the plan of the run, which can be written, the Info frame before it, and the buffers
 pub record IsRunReady (ss : List SurveyFields) (bs : List Beginning) (d : Decided)
-    (work : Work) : Type 0 where
-  pub plan : entries work.plan ≡ run_plan (window_for (class_in ss)) (run_needs d)
-  pub fits : IfSome (class_in ss) (λ class. FitsWork class ss (left_out_of d) work)
+    (work : JoinWork) : Type 0 where
+  pub plan : entries work.plan ≡ plan_of_run_needs (window_for (class_of_first ss)) (run_needs d)
+  pub fits : IfSome (class_of_first ss) (λ class. FitsWork class ss (left_out_of d) work)
   pub info : IsRunInfo ss bs d (entries work.plan) work.info.items

@@ -5,9 +5,9 @@ use Rattle.frame_header.specs.{Fields.{ClassFields, HeaderFields}, HeaderBits.he
 use Rattle.join_edits.specs.{Join.whole_part, Seamless.{run_frames, without_gains}}
 use Rattle.laying.specs.Relaid.{payload_of}
 use Rattle.outside.specs.Files.{Contents}
-use Rattle.seam_plan.specs.{Frames.Frame, declared.run.FramePlace.FramePlace}
+use Rattle.seam_plan.specs.{Frames.RunFrame, declared.run.FramePlace.FramePlace}
 use Rattle.side_info.specs.{Side.side_bits, declared.{granule.Granule.Granule, side.Side.Side}}
-use Rattle.sync_survey.specs.{Faults.SurveyFields, MainData.{no_slot, side_of}, Row.Row}
+use Rattle.sync_survey.specs.{Faults.SurveyFields, MainData.{no_slot, row_side}, Row.Row}
 
 -- ---- what is compared
 
@@ -20,78 +20,80 @@ abbrev pub without_gain : Granule → Granule
 without_gain g = record g { global_gain = 0 }
 
 -- without gains and main_data_begin
-abbrev pub bare : Side → Side
-bare s = without_gains (record s { main_data_begin = 0 })
+abbrev pub compared_side : Side → Side
+compared_side s = without_gains (record s { main_data_begin = 0 })
 
 -- header and side information are the same but for these and the slot
 abbrev pub same_front : ClassFields → Row → Row → Bool
 same_front class r q =
     bytes_eq (header_bits (without_slot r.header)) (header_bits (without_slot q.header))
-    && bytes_eq (side_bits class (bare (side_of r))) (side_bits class (bare (side_of q)))
+    && bytes_eq (side_bits class (compared_side (row_side r)))
+    (side_bits class (compared_side (row_side q)))
 
 -- ---- frames by their places
 
 -- the row of this frame of an input, if there is one
-abbrev pub row_in : ℕ → Option SurveyFields → Option Row
-row_in frame None = None
-row_in frame (Some s) = slice_get s.frames frame
+abbrev pub frame_row : ℕ → Option SurveyFields → Option Row
+frame_row frame None = None
+frame_row frame (Some s) = slice_get s.frames frame
 
 -- the row of the frame at this place, if there is one
 abbrev pub row_at : List SurveyFields → FramePlace → Option Row
-row_at ss place = row_in place.frame (slice_get ss place.input)
+row_at ss place = frame_row place.frame (slice_get ss place.input)
 
 -- there is such an input, and it has such a frame
-pub record IsAt (ss : List SurveyFields) (place : FramePlace) : Type 0 where
+pub record IsFramePlace (ss : List SurveyFields) (place : FramePlace) : Type 0 where
   pub survey : SurveyFields
   pub input : slice_get ss place.input ≡ Some survey
   pub frame : place.frame < length survey.frames
 
 -- so it is with each of these places
-abbrev pub AreAt : List SurveyFields → List FramePlace → Type 0
-AreAt ss places = All (IsAt ss) places
+abbrev pub AreFramePlaces : List SurveyFields → List FramePlace → Type 0
+AreFramePlaces ss places = All (IsFramePlace ss) places
 
 -- they are all of the first one's class
-abbrev pub AreOf : ClassFields → List SurveyFields → Type 0
-AreOf class ss = All (λ (s : SurveyFields). s.class ≡ class) ss
+abbrev pub AreSurveysOfClass : ClassFields → List SurveyFields → Type 0
+AreSurveysOfClass class ss = All (λ (s : SurveyFields). s.class ≡ class) ss
 
 -- all inputs are of one class
-abbrev pub AreOfOneClass : List SurveyFields → Type 0
-AreOfOneClass ss = (class : ClassFields) × AreOf class ss
+abbrev pub AreSurveysOfOneClass : List SurveyFields → Type 0
+AreSurveysOfOneClass ss = (class : ClassFields) × AreSurveysOfClass class ss
 
 -- ---- what they sound like
 
 -- the frames of all inputs as they take part in the decision
-unfoldable pub frames_of : Contents → List (List ℕ) → List SurveyFields → List (List Frame)
-frames_of f (name ∷ names) (s ∷ ss) =
-    run_frames (whole_part (unwrap_or (f name) []) s) ∷ frames_of f names ss
-frames_of f _ _ = []
+unfoldable pub all_run_frames : Contents → List (List ℕ) → List SurveyFields → List (List RunFrame)
+all_run_frames f (name ∷ names) (s ∷ ss) =
+    run_frames (whole_part (unwrap_or (f name) []) s) ∷ all_run_frames f names ss
+all_run_frames f _ _ = []
 
 -- the sound of a frame, or nothing where there is no frame
-abbrev pub sound_of_frame : Option Frame → List ℕ
+abbrev pub sound_of_frame : Option RunFrame → List ℕ
 sound_of_frame None = []
 sound_of_frame (Some frame) = frame.sound
 
 -- the sound of the frame at this place
-abbrev pub sound_at : List (List Frame) → FramePlace → List ℕ
+abbrev pub sound_at : List (List RunFrame) → FramePlace → List ℕ
 sound_at lists place =
-    sound_of_frame (option_and_then (λ (frames : List Frame). slice_get frames place.frame)
+    sound_of_frame (option_and_then (λ (frames : List RunFrame). slice_get frames place.frame)
     (slice_get lists place.input))
 
 -- the frames at these two places sound the same
-abbrev pub same_sounds : List (List Frame) → FramePlace → FramePlace → Bool
+abbrev pub same_sounds : List (List RunFrame) → FramePlace → FramePlace → Bool
 same_sounds lists p q = bytes_eq (sound_at lists p) (sound_at lists q)
 
 -- the main data of the frame at this place
-abbrev pub payload_in : List ℕ → ℕ → SurveyFields → Option Row → List ℕ
-payload_in file i s None = []
-payload_in file i s (Some r) = payload_of file s i r
+abbrev pub row_payload : List ℕ → ℕ → SurveyFields → Option Row → List ℕ
+row_payload file i s None = []
+row_payload file i s (Some r) = payload_of file s i r
 
 -- the same, by the name and the survey of its input
-abbrev pub payload_by : Contents → ℕ → Option (List ℕ) → Option SurveyFields → List ℕ
-payload_by f i (Some name) (Some s) = payload_in (unwrap_or (f name) []) i s (slice_get s.frames i)
-payload_by f i _ _ = []
+abbrev pub named_payload : Contents → ℕ → Option (List ℕ) → Option SurveyFields → List ℕ
+named_payload f i (Some name) (Some s) =
+    row_payload (unwrap_or (f name) []) i s (slice_get s.frames i)
+named_payload f i _ _ = []
 
 -- the same, by its place among all inputs
 abbrev pub payload_at_place : Contents → List (List ℕ) → List SurveyFields → FramePlace → List ℕ
 payload_at_place f names ss place =
-    payload_by f place.frame (slice_get names place.input) (slice_get ss place.input)
+    named_payload f place.frame (slice_get names place.input) (slice_get ss place.input)

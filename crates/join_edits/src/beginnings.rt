@@ -2,17 +2,17 @@
 ghost use Rattle.std.specs.Prelude.{◌≡◌, ◌==◌, ◌≤◌, length, map, string_bytes, IfOk, IfErr};
 ghost use Rattle.std.specs.List.{list_all};
 ghost use Rattle.bit_fields.specs.Bits.{bits};
-ghost use Rattle.outside.specs.Files.{IsThere};
+ghost use Rattle.outside.specs.Files.{IsFileThere};
 ghost use Rattle.outside.specs.Seen.{OnFile, OnlyRead};
-ghost use Rattle.sync_survey.specs.Faults.{tells};
-ghost use Rattle.sync_survey.specs.Survey.{IsLaidOut};
-ghost use Rattle.laying.specs.Surveys.{HasSurvey};
+ghost use Rattle.sync_survey.specs.Faults.{survey_view};
+ghost use Rattle.sync_survey.specs.Survey.{IsSurveyLaidOut};
+ghost use Rattle.laying.specs.Surveys.{CanBeRelaid};
 ghost use Rattle.laying.specs.KeptFields.{fields_of_head};
-ghost use Rattle.cut_edits.specs.Exact.{apart};
-ghost use Rattle.join_edits.specs.Inputs.{IsOfJoin};
-ghost use Rattle.join_edits.specs.Seamless.{is_blank as is_blank_lem, begins_blank as begins_blank_lem};
-ghost use Rattle.join_edits.specs.Beginnings.{AreBegun};
-ghost use Rattle.join_edits.specs.Reading.{AreKnown, IsReadFault, StopsAt};
+ghost use Rattle.cut_edits.specs.Exact.{survey_without_head};
+ghost use Rattle.join_edits.specs.Inputs.{HasJoinNumbers};
+ghost use Rattle.join_edits.specs.Seamless.{is_side_blank, begins_blank};
+ghost use Rattle.join_edits.specs.Beginnings.{AreBeginnings};
+ghost use Rattle.join_edits.specs.Reading.{AreHeld, IsInputReadFault, StopsAtInput};
 
 use crate::inputs::{known_at, name_at};
 use crate::stopped::Stopped;
@@ -46,7 +46,7 @@ fn are_zeros(bytes: &[u8]) -> bool
 
 /// Whether all bits of the side information of a frame are 0.
 fn is_blank(row: &Row) -> bool
-    ensures { result ≡ is_blank_lem row.now }
+    ensures { result ≡ is_side_blank row.now }
 {
     let class = row.front().class();
     let mut room = [0; 32];
@@ -57,7 +57,7 @@ fn is_blank(row: &Row) -> bool
 
 /// Whether those of the first of these frames are.
 fn begins_blank(rows: &[Row]) -> bool
-    ensures { result ≡ begins_blank_lem rows.now }
+    ensures { result ≡ begins_blank rows.now }
 {
     match rows {
         [] => false,
@@ -75,13 +75,13 @@ fn head_of<D: Folder>(
     place: u32,
     survey: &Survey,
 ) -> Result<Option<Info>, Stopped>
-    requires there { IsThere (D.seen folder.old).files name.now }
-    requires laid { IsLaidOut (tells survey.now) }
+    requires there { IsFileThere (D.seen folder.old).files name.now }
+    requires laid { IsSurveyLaidOut (survey_view survey.now) }
     requires exact { OnFile (D.seen folder.old) name.now
-        (λ file. HasSurvey file (tells survey.now)) }
+        (λ file. CanBeRelaid file (survey_view survey.now)) }
     ensures head { IfOk result (λ head. OnFile (D.seen folder.old) name.now
-        (λ file. head ≡ fields_of_head file (tells survey.now).head)) }
-    ensures stopped { IfErr result (StopsAt place name.now (D.seen folder.old).files
+        (λ file. head ≡ fields_of_head file (survey_view survey.now).head)) }
+    ensures stopped { IfErr result (StopsAtInput place name.now (D.seen folder.old).files
         (D.seen folder.old).counts (D.seen folder.new).counts) }
     ensures reads { OnlyRead result (D.seen folder.old) (D.seen folder.new) }
 {
@@ -102,14 +102,14 @@ pub(crate) fn beginnings_of<D: Folder>(
     surveys: &[Survey],
 ) -> Result<Vec<Beginning>, EditFault>
     requires few { length inputs.now ≤ 64 }
-    requires held { AreKnown (D.seen folder.old).files (map string_bytes inputs.now)
-        (map tells surveys.now) }
-    ensures begun { IfOk result (λ bs. AreBegun (D.seen folder.old).files
-        (map string_bytes inputs.now) (map tells surveys.now) bs.items) }
-    ensures refused { IfErr result (IsReadFault (map string_bytes inputs.now)
+    requires held { AreHeld (D.seen folder.old).files (map string_bytes inputs.now)
+        (map survey_view surveys.now) }
+    ensures begun { IfOk result (λ bs. AreBeginnings (D.seen folder.old).files
+        (map string_bytes inputs.now) (map survey_view surveys.now) bs.items) }
+    ensures refused { IfErr result (IsInputReadFault (map string_bytes inputs.now)
         (D.seen folder.old)
         (D.seen folder.new)) }
-    ensures numbers { IfErr result (IsOfJoin (length inputs.now)) }
+    ensures numbers { IfErr result (HasJoinNumbers (length inputs.now)) }
     ensures reads { OnlyRead result (D.seen folder.old) (D.seen folder.new) }
 {
     let mut beginnings = Vec::new(alloc);
@@ -124,7 +124,7 @@ pub(crate) fn beginnings_of<D: Folder>(
 
 /// Sets the heads of all inputs apart from their streams.
 pub(crate) fn set_all_apart(surveys: &mut [Survey])
-    ensures { map tells surveys.new ≡ map apart (map tells surveys.old) }
+    ensures { map survey_view surveys.new ≡ map survey_without_head (map survey_view surveys.old) }
 {
     for survey in surveys.iter_mut() {
         set_apart(survey);

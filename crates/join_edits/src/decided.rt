@@ -3,18 +3,18 @@ ghost use Rattle.std.specs.Prelude.{◌≡◌, ◌+◌, ◌<◌, ◌≤◌, ◌+
 ghost use Rattle.outside.specs.Seen.{OnlyRead};
 ghost use Rattle.frame_header.specs.Fields.{ClassFields};
 ghost use Rattle.frame_header.specs.Tables.{window_of};
-ghost use Rattle.exact_span.specs.PlayedPositions.{counted_of, AreCounted};
-ghost use Rattle.slot_plan.specs.Parts.{AreOfClass};
-ghost use Rattle.slot_plan.specs.Behind.{FitsBehind, first_in};
-ghost use Rattle.seam_plan.specs.Frames.{Frame, Brought, needs_of as needs_of_frames};
-ghost use Rattle.seam_plan.specs.Seams.{left_out, front_left_out as front_left_out_lem};
-ghost use Rattle.seam_plan.specs.Decisions.{moved_first};
-ghost use Rattle.sync_survey.specs.Faults.{tells};
-ghost use Rattle.commands.specs.One.{most_frames};
-ghost use Rattle.join_edits.specs.Inputs.{IsOfJoin};
-ghost use Rattle.join_edits.specs.Reading.{AreKnown, IsReadFault, StopsIn};
-ghost use Rattle.join_edits.specs.Sounds.{AreOfOneClass};
-ghost use Rattle.join_edits.specs.Deciding.{needs_in, CanBegin, HasBegun, BringsNeeds, CanBeDecided, IsNext, IsAlike, IsDecidingTo, IsDecided, run_needs, left_out_of};
+ghost use Rattle.exact_span.specs.PlayedPositions.{counted_positions, AreCounted};
+ghost use Rattle.slot_plan.specs.Parts.{AreNeedsOfClass};
+ghost use Rattle.slot_plan.specs.FreeBytes.{FitsBehind, needs_with_first_slot};
+ghost use Rattle.seam_plan.specs.Frames.{RunFrame, Brought, needs_of};
+ghost use Rattle.seam_plan.specs.Seams.{left_out_count, front_left_out_count};
+ghost use Rattle.seam_plan.specs.Decisions.{joined_needs};
+ghost use Rattle.sync_survey.specs.Faults.{survey_view};
+ghost use Rattle.commands.specs.SingleOutput.{most_frames};
+ghost use Rattle.join_edits.specs.Inputs.{HasJoinNumbers};
+ghost use Rattle.join_edits.specs.Reading.{AreHeld, IsInputReadFault, StopsAmongInputs};
+ghost use Rattle.join_edits.specs.Sounds.{AreSurveysOfOneClass};
+ghost use Rattle.join_edits.specs.Deciding.{input_needs, CanBeginRun, HasBegunRun, BringsNeeds, CanBeDecided, IsNextInput, IsSharedOverlap, IsDecidingTo, IsRunDecided, run_needs, left_out_of};
 
 use crate::beginnings::Beginning;
 use crate::inputs::known_at;
@@ -34,7 +34,7 @@ use sync_survey::Survey;
 
 /// What the frames of an input need, as the one part of a plan.
 fn needs_of(alloc: Global, survey: &Survey) -> Result<Parts, AllocError>
-    ensures { IfOk result (λ parts. parts.needs ≡ needs_in (tells survey.now)) }
+    ensures { IfOk result (λ parts. parts.needs ≡ input_needs (survey_view survey.now)) }
 {
     let mut parts = Parts::new(alloc);
     parts.push(survey.frames())?;
@@ -46,7 +46,7 @@ fn brought<'a>(class: Class, needs: &'a [Need], beginning: &Beginning) -> Input<
     requires { length needs.now ≤ most_frames }
     ensures needs { result.needs.now ≡ needs.now }
     ensures blank { result.blank ≡ beginning.now.blank }
-    ensures played { result.played ≡ counted_of beginning.now.head class (length needs.now) }
+    ensures played { result.played ≡ counted_positions beginning.now.head class (length needs.now) }
     ensures counted { IfSome result.played (AreCounted class (length needs.now)) }
 {
     Input {
@@ -58,7 +58,7 @@ fn brought<'a>(class: Class, needs: &'a [Need], beginning: &Beginning) -> Input<
 
 /// Puts the first of these frames into this slot, if there is one.
 fn put_slot(slot: Slot, needs: &mut [Need])
-    ensures { needs.new ≡ first_in slot needs.old }
+    ensures { needs.new ≡ needs_with_first_slot slot needs.old }
 {
     if !needs.is_empty() {
         let first = &mut needs[0];
@@ -71,9 +71,9 @@ fn put_slot(slot: Slot, needs: &mut [Need])
 /// # Errors
 /// Where there is no memory. Then nothing is added.
 fn add_needs(joint: &Joint, needs: &[Need], run: &mut Vec<Need>) -> Result<(), AllocError>
-    requires out { left_out joint.now.seam ≤ length needs.now }
+    requires out { left_out_count joint.now.seam ≤ length needs.now }
     ensures added { OnOk result (run.new.items ≡ run.old.items
-        ++ moved_first joint.now.slot (drop (left_out joint.now.seam) needs.now)) }
+        ++ joined_needs joint.now.slot (drop (left_out_count joint.now.seam) needs.now)) }
 {
     let at = run.len();
     run.extend_from_slice(&needs[joint.seam.left_out() as usize..])?;
@@ -97,16 +97,16 @@ impl<'a> Sources<'a> {
         input: &Input<'_>,
         window: &mut Window,
     ) -> Result<Option<Overlap>, Stopped>
-        requires held { AreKnown (D.seen folder.old).files (map string_bytes self.now.inputs.now)
-            (map tells self.now.surveys.now) }
-        requires one { AreOfOneClass (map tells self.now.surveys.now) }
-        requires next { IsNext (map tells self.now.surveys.now) number run.now input.now }
+        requires held { AreHeld (D.seen folder.old).files (map string_bytes self.now.inputs.now)
+            (map survey_view self.now.surveys.now) }
+        requires one { AreSurveysOfOneClass (map survey_view self.now.surveys.now) }
+        requires next { IsNextInput (map survey_view self.now.surveys.now) number run.now input.now }
         ensures within { IfOk result (λ alike. IfSome alike
             (λ o. o.frames ≤ length input.now.needs.now)) }
-        ensures alike { IfOk result (IsAlike (D.seen folder.old).files
-            (map string_bytes self.now.inputs.now) (map tells self.now.surveys.now) number run.now
+        ensures alike { IfOk result (IsSharedOverlap (D.seen folder.old).files
+            (map string_bytes self.now.inputs.now) (map survey_view self.now.surveys.now) number run.now
             input.now) }
-        ensures stopped { IfErr result (StopsIn (map string_bytes self.now.inputs.now)
+        ensures stopped { IfErr result (StopsAmongInputs (map string_bytes self.now.inputs.now)
             (D.seen folder.old).files (D.seen folder.old).counts (D.seen folder.new).counts) }
         ensures reads { OnlyRead result (D.seen folder.old) (D.seen folder.new) }
     {
@@ -148,8 +148,8 @@ impl Deciding {
     /// # Errors
     /// Where there is no memory.
     fn begin(alloc: Global, survey: &Survey, beginning: &Beginning) -> Result<Deciding, AllocError>
-        requires { CanBegin (tells survey.now) }
-        ensures { IfOk result (HasBegun (tells survey.now) beginning.now) }
+        requires { CanBeginRun (survey_view survey.now) }
+        ensures { IfOk result (HasBegunRun (survey_view survey.now) beginning.now) }
     {
         let parts = needs_of(alloc, survey)?;
         let needs = parts.needs();
@@ -175,19 +175,19 @@ impl Deciding {
         beginnings: &[Beginning],
     ) -> Result<(), EditFault>
         requires can { CanBeDecided (D.seen folder.old).files
-            (map string_bytes sources.now.inputs.now) (map tells sources.now.surveys.now)
+            (map string_bytes sources.now.inputs.now) (map survey_view sources.now.surveys.now)
             beginnings.now }
         requires within { number < length sources.now.inputs.now }
         requires before { IsDecidingTo (D.seen folder.old).files
-            (map string_bytes sources.now.inputs.now) (map tells sources.now.surveys.now)
+            (map string_bytes sources.now.inputs.now) (map survey_view sources.now.surveys.now)
             beginnings.now number self.old }
         ensures decided { OnOk result (IsDecidingTo (D.seen folder.old).files
-            (map string_bytes sources.now.inputs.now) (map tells sources.now.surveys.now)
+            (map string_bytes sources.now.inputs.now) (map survey_view sources.now.surveys.now)
             beginnings.now (number + 1) self.new) }
-        ensures refused { IfErr result (IsReadFault (map string_bytes sources.now.inputs.now)
+        ensures refused { IfErr result (IsInputReadFault (map string_bytes sources.now.inputs.now)
             (D.seen folder.old)
             (D.seen folder.new)) }
-        ensures numbers { IfErr result (IsOfJoin (length sources.now.inputs.now)) }
+        ensures numbers { IfErr result (HasJoinNumbers (length sources.now.inputs.now)) }
         ensures reads { OnlyRead result (D.seen folder.old) (D.seen folder.new) }
     {
         let survey = known_at(sources.surveys, number as usize);
@@ -237,16 +237,16 @@ impl Decided {
 /// How many frames leave the whole run at its front, 1 or 0: the lead-in of the first input, if the others want one. The run
 /// needs this.
 fn front_of(survey: &Survey, beginning: &Beginning, run: &[Need]) -> u32
-    requires begin { CanBegin (tells survey.now) }
-    requires same { AreOfClass (tells survey.now).class run.now }
-    requires fits { FitsBehind (window_of (tells survey.now).class.version)
-        (window_of (tells survey.now).class.version) run.now }
-    requires first { take (length (tells survey.now).frames) run.now ≡ needs_in (tells survey.now) }
-    ensures front { (first : Brought) (frames : List Frame)
-        → BringsNeeds (tells survey.now) beginning.now first → run.now ≡ needs_of_frames frames
-        → result ≡ front_left_out_lem (tells survey.now).class first frames }
+    requires begin { CanBeginRun (survey_view survey.now) }
+    requires same { AreNeedsOfClass (survey_view survey.now).class run.now }
+    requires fits { FitsBehind (window_of (survey_view survey.now).class.version)
+        (window_of (survey_view survey.now).class.version) run.now }
+    requires first { take (length (survey_view survey.now).frames) run.now ≡ input_needs (survey_view survey.now) }
+    ensures front { (first : Brought) (frames : List RunFrame)
+        → BringsNeeds (survey_view survey.now) beginning.now first → run.now ≡ needs_of frames
+        → result ≡ front_left_out_count (survey_view survey.now).class first frames }
     ensures most { result ≤ 1 }
-    ensures behind { result < length (tells survey.now).frames }
+    ensures behind { result < length (survey_view survey.now).frames }
 {
     let count = survey.frames().len();
     let first = brought(survey.class(), &run[..count], beginning);
@@ -264,15 +264,15 @@ pub(crate) fn decide_all<D: Folder>(
     beginnings: &[Beginning],
 ) -> Result<Decided, EditFault>
     requires can { CanBeDecided (D.seen folder.old).files
-        (map string_bytes sources.now.inputs.now) (map tells sources.now.surveys.now)
+        (map string_bytes sources.now.inputs.now) (map survey_view sources.now.surveys.now)
         beginnings.now }
-    ensures decided { IfOk result (IsDecided (D.seen folder.old).files
-        (map string_bytes sources.now.inputs.now) (map tells sources.now.surveys.now)
+    ensures decided { IfOk result (IsRunDecided (D.seen folder.old).files
+        (map string_bytes sources.now.inputs.now) (map survey_view sources.now.surveys.now)
         beginnings.now) }
-    ensures refused { IfErr result (IsReadFault (map string_bytes sources.now.inputs.now)
+    ensures refused { IfErr result (IsInputReadFault (map string_bytes sources.now.inputs.now)
         (D.seen folder.old)
         (D.seen folder.new)) }
-    ensures numbers { IfErr result (IsOfJoin (length sources.now.inputs.now)) }
+    ensures numbers { IfErr result (HasJoinNumbers (length sources.now.inputs.now)) }
     ensures reads { OnlyRead result (D.seen folder.old) (D.seen folder.new) }
 {
     let first = known_at(sources.surveys, 0);

@@ -1,6 +1,6 @@
 //! The inputs by their numbers.
 ghost use Rattle.std.specs.Prelude.{◌≡◌, ◌+◌, ◌<◌, ◌∷◌, length, map, drop, string_bytes};
-ghost use Rattle.sync_survey.specs.Faults.{tells};
+ghost use Rattle.sync_survey.specs.Faults.{survey_view};
 
 use sync_survey::Survey;
 
@@ -16,8 +16,8 @@ pub(crate) fn name_at(inputs: &[String], place: usize) -> &str
 /// What is known of an input, counted from 0.
 pub(crate) fn known_at(surveys: &[Survey], place: usize) -> &Survey
     requires { place < length surveys.now }
-    ensures { drop place (map tells surveys.now)
-        ≡ tells result.now ∷ drop (place + 1) (map tells surveys.now) }
+    ensures { drop place (map survey_view surveys.now)
+        ≡ survey_view result.now ∷ drop (place + 1) (map survey_view surveys.now) }
 {
     &surveys[place]
 }

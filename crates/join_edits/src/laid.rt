@@ -1,18 +1,18 @@
 //! The frames of all inputs, read one input after the other and given to one writer.
 ghost use Rattle.std.specs.Prelude.{◌≡◌, ◌+◌, ◌<◌, ◌≤◌, ◌∷◌, length, drop, map, string_bytes};
 ghost use Rattle.frame_header.specs.Tables.{window_of};
-ghost use Rattle.laying.specs.Needs.{needs_of};
-ghost use Rattle.frame_writer.specs.Frames.{frame_bytes, reach_of};
-ghost use Rattle.frame_writer.specs.Writing.{IsNew};
-ghost use Rattle.sync_survey.specs.Faults.{tells};
-ghost use Rattle.laying.specs.Fits.{FitsFrom};
-ghost use Rattle.join_edits.specs.Behind.{rows_behind, AreWithin, all_laid};
-ghost use Rattle.join_edits.specs.Laying.{IsJoin, AddsJoined};
+ghost use Rattle.laying.specs.Needs.{needs_of_parts};
+ghost use Rattle.frame_writer.specs.Frames.{bytes_of_frames, reach_of};
+ghost use Rattle.frame_writer.specs.Writing.{IsNewQueue};
+ghost use Rattle.sync_survey.specs.Faults.{survey_view};
+ghost use Rattle.laying.specs.Fits.{FitsFromReach};
+ghost use Rattle.join_edits.specs.RestOfInputs.{rest_rows, AreCountsWithin, placed_rest_frames};
+ghost use Rattle.join_edits.specs.Laying.{IsJoinPass, AddsJoined};
 
 use crate::inputs::{known_at, name_at};
 use crate::sounds::Sources;
 use crate::stopped::Stopped;
-use laying::{Buffers, Relay};
+use laying::{Relay, RelayBuffers};
 use outside::{Folder, Pass};
 use slot_plan::Placed;
 
@@ -43,20 +43,20 @@ pub(crate) fn lay_all<'a, D: Folder>(
     folder: &mut D,
     sources: &Sources<'a>,
     laid: &LaidFrames<'_>,
-    buffers: &mut Buffers,
+    buffers: &mut RelayBuffers,
 ) -> Result<(), Stopped>
     requires few { length sources.now.inputs.now ≤ 64 }
-    requires join { IsJoin first.now (map string_bytes sources.now.inputs.now)
-        (map tells sources.now.surveys.now) (D.seen folder.old).files }
-    requires within { AreWithin (map tells sources.now.surveys.now) laid.now.froms.now }
-    requires new { IsNew (tells first.now.survey.now).class buffers.old.writer }
-    requires fits { FitsFrom (window_of (tells first.now.survey.now).class.version)
+    requires join { IsJoinPass first.now (map string_bytes sources.now.inputs.now)
+        (map survey_view sources.now.surveys.now) (D.seen folder.old).files }
+    requires within { AreCountsWithin (map survey_view sources.now.surveys.now) laid.now.froms.now }
+    requires new { IsNewQueue (survey_view first.now.survey.now).class buffers.old.writer }
+    requires fits { FitsFromReach (window_of (survey_view first.now.survey.now).class.version)
         (reach_of buffers.old.writer)
-        (needs_of (rows_behind (map tells sources.now.surveys.now) laid.now.froms.now))
+        (needs_of_parts (rest_rows (map survey_view sources.now.surveys.now) laid.now.froms.now))
         laid.now.placed.now }
     ensures { AddsJoined first.now (map string_bytes sources.now.inputs.now)
-        (λ file. frame_bytes (all_laid (D.seen folder.old).files
-        (map string_bytes sources.now.inputs.now) (map tells sources.now.surveys.now)
+        (λ file. bytes_of_frames (placed_rest_frames (D.seen folder.old).files
+        (map string_bytes sources.now.inputs.now) (map survey_view sources.now.surveys.now)
         laid.now.froms.now laid.now.placed.now file))
         buffers.old.waiting buffers.new.waiting (D.seen folder.old) (D.seen folder.new) result }
 {

@@ -1,7 +1,7 @@
 //! The text of a join without seams.
 ghost use Rattle.std.specs.Prelude.{◌≡◌, ◌+◌, ◌<◌, ◌++◌, [], codes, length, map, drop, string_bytes, OnOk, OnErr};
-ghost use Rattle.outside.specs.Files.{sent_more};
-ghost use Rattle.outside.specs.Passed.{SentOn, SentPrefix};
+ghost use Rattle.outside.specs.Files.{sent_and_more};
+ghost use Rattle.outside.specs.BufferOutput.{SendsWaiting, SentPrefix};
 ghost use Rattle.outside.specs.Counts.{HasCause};
 ghost use Rattle.join_edits.specs.Seamless.{seam_text, seam_line};
 ghost use Rattle.join_edits.specs.Lines.{joint_lines};
@@ -37,7 +37,7 @@ fn push_line<T: Sink>(
     buffer: &mut SendBuffer,
     out: &mut T,
 ) -> Result<(), Failed>
-    ensures passed { OnOk result (SentOn (buffer.old ++ seam_line name.now seam) buffer.new
+    ensures passed { OnOk result (SendsWaiting (buffer.old ++ seam_line name.now seam) buffer.new
         (T.heard out.old).sent (T.heard out.new).sent) }
     ensures prefix { OnErr result (SentPrefix (buffer.old ++ seam_line name.now seam)
         (T.heard out.old).sent (T.heard out.new).sent) }
@@ -60,7 +60,7 @@ pub(crate) fn send_lines<T: Sink>(
 ) -> Result<(), Failed>
     requires inputs { length joints.now < length inputs.now }
     requires empty { buffer.old ≡ [] }
-    ensures sent { OnOk result ((T.heard out.new).sent ≡ sent_more (T.heard out.old).sent
+    ensures sent { OnOk result ((T.heard out.new).sent ≡ sent_and_more (T.heard out.old).sent
         (joint_lines (drop 1 (map string_bytes inputs.now)) joints.now)) }
     ensures prefix { OnErr result (SentPrefix (joint_lines (drop 1 (map string_bytes inputs.now))
         joints.now) (T.heard out.old).sent (T.heard out.new).sent) }

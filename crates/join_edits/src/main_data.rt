@@ -2,9 +2,9 @@
 ghost use Rattle.std.specs.Prelude.{◌≡◌, ◌+◌, ◌<◌, ◌≤◌, ◌⊎◌, [], length, OnOk};
 ghost use Rattle.frame_header.specs.Tables.{class_of, length_of};
 ghost use Rattle.reservoir.specs.Window.{IsWindowOver, window_size};
-ghost use Rattle.sync_survey.specs.Faults.{tells};
+ghost use Rattle.sync_survey.specs.Faults.{survey_view};
 ghost use Rattle.sync_survey.specs.MainData.{place};
-ghost use Rattle.laying.specs.Passing.{IsOver, IsOverLast};
+ghost use Rattle.laying.specs.Passing.{IsWindowOverFrames, IsWindowOverLast};
 ghost use Rattle.join_edits.specs.Reading.{IsHeld, ReadsInput, ReadsArea, IsMainDataOf};
 
 use arrayvec::ArrayVec;
@@ -34,9 +34,9 @@ impl<'a> Source<'a> {
         window: &mut Window,
     ) -> Result<(), PassFault>
         requires held { IsHeld (D.seen folder.old).files self.now.name.now
-            (tells self.now.survey.now) }
+            (survey_view self.now.survey.now) }
         requires within { offset + length_of (class_of header.now) header.now.slot
-            ≤ (tells self.now.survey.now).length }
+            ≤ (survey_view self.now.survey.now).length }
         ensures area { OnOk result (ReadsArea self.now.name.now (D.seen folder.old).files offset
             header.now window.old window.new) }
         ensures reads { ReadsInput self.now (D.seen folder.old) (D.seen folder.new) result }
@@ -61,10 +61,10 @@ impl<'a> Source<'a> {
         window: &mut Window,
     ) -> Result<(), PassFault>
         requires held { IsHeld (D.seen folder.old).files self.now.name.now
-            (tells self.now.survey.now) }
+            (survey_view self.now.survey.now) }
         requires none { IsWindowOver window.old [] }
-        ensures over { OnOk result (IsOverLast window.new self.now.name.now
-            (D.seen folder.old).files (tells self.now.survey.now) first first) }
+        ensures over { OnOk result (IsWindowOverLast window.new self.now.name.now
+            (D.seen folder.old).files (survey_view self.now.survey.now) first first) }
         ensures reads { ReadsInput self.now (D.seen folder.old) (D.seen folder.new) result }
     {
         if first > 0 {
@@ -88,10 +88,10 @@ impl<'a> Source<'a> {
         window: &mut Window,
     ) -> Result<(), PassFault>
         requires held { IsHeld (D.seen folder.old).files self.now.name.now
-            (tells self.now.survey.now) }
-        requires within { i ≤ length (tells self.now.survey.now).frames }
-        ensures over { OnOk result (IsOver window.new self.now.name.now (D.seen folder.old).files
-            (tells self.now.survey.now) i) }
+            (survey_view self.now.survey.now) }
+        requires within { i ≤ length (survey_view self.now.survey.now).frames }
+        ensures over { OnOk result (IsWindowOverFrames window.new self.now.name.now (D.seen folder.old).files
+            (survey_view self.now.survey.now) i) }
         ensures reads { ReadsInput self.now (D.seen folder.old) (D.seen folder.new) result }
     {
         window.clear();
@@ -119,10 +119,10 @@ impl<'a> Source<'a> {
         into: &mut ArrayVec<u8, 2048>,
     ) -> Result<(), PassFault>
         requires held { IsHeld (D.seen folder.old).files self.now.name.now
-            (tells self.now.survey.now) }
-        requires within { i < length (tells self.now.survey.now).frames }
+            (survey_view self.now.survey.now) }
+        requires within { i < length (survey_view self.now.survey.now).frames }
         ensures payload { OnOk result (IsMainDataOf self.now.name.now (D.seen folder.old).files
-            (tells self.now.survey.now) i into.new.items) }
+            (survey_view self.now.survey.now) i into.new.items) }
         ensures reads { ReadsInput self.now (D.seen folder.old) (D.seen folder.new) result }
     {
         let row = &self.survey.frames()[i];

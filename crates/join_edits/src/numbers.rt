@@ -1,7 +1,7 @@
 //! Delay and padding of a join without seams, and what its Info frame keeps of the heads.
 ghost use Rattle.std.specs.Prelude.{◌≡◌, ◌<◌, length, option_copied, IfSome};
-ghost use Rattle.cut_edits.specs.Exact.{quality_of as quality_of_lem};
-ghost use Rattle.join_edits.specs.Numbers.{delay_in, padding_in, says_gain as says_gain_lem, all_say as all_say_lem, gains_kept, kept_in};
+ghost use Rattle.cut_edits.specs.Exact.{quality_of};
+ghost use Rattle.join_edits.specs.Numbers.{counted_delay, ends_padding, head_says_gain, all_say, gains_kept, run_kept};
 
 use crate::beginnings::Beginning;
 use exact_span::{Played, counts_of, extension};
@@ -26,7 +26,7 @@ pub(crate) struct Moved {
 /// The delay in samples of a run that begins with an input of so many frames and with this head: as many frames more or fewer
 /// than the head's own. `None` where the head doesn't count, or where the delay has more than 12 bits.
 fn delay_of(class: Class, head: Option<&Info>, frames: u32, moved: Moved) -> Option<u16>
-    ensures delay { result ≡ delay_in class (option_copied head.entry) frames moved }
+    ensures delay { result ≡ counted_delay class (option_copied head.entry) frames moved }
     ensures most { IfSome result (λ delay. delay < 4096) }
 {
     let played = Played::counted(head, class, frames)?;
@@ -44,7 +44,7 @@ fn delay_of(class: Class, head: Option<&Info>, frames: u32, moved: Moved) -> Opt
 
 /// The padding in samples of a run that ends with an input of so many frames and with this head.
 fn padding_of(class: Class, head: Option<&Info>, frames: u32) -> u16
-    ensures padding { result ≡ padding_in class (option_copied head.entry) frames }
+    ensures padding { result ≡ ends_padding class (option_copied head.entry) frames }
     ensures most { result < 4096 }
 {
     let rest = match Played::counted(head, class, frames) {
@@ -56,7 +56,7 @@ fn padding_of(class: Class, head: Option<&Info>, frames: u32) -> u16
 
 /// Whether a head counts, and says this of peak and gains.
 fn says_gain(gain: &[u8], head: Option<&Info>) -> bool
-    ensures { result ≡ says_gain_lem gain.now (option_copied head.entry) }
+    ensures { result ≡ head_says_gain gain.now (option_copied head.entry) }
 {
     match head {
         Some(info) => counts_of(head).is_some() && &info.extension[11..19] == gain,
@@ -66,7 +66,7 @@ fn says_gain(gain: &[u8], head: Option<&Info>) -> bool
 
 /// Whether the heads of all these do.
 fn all_say(gain: &[u8], beginnings: &[Beginning]) -> bool
-    ensures { result ≡ all_say_lem gain.now beginnings.now }
+    ensures { result ≡ all_say gain.now beginnings.now }
 {
     for beginning in beginnings {
         if !says_gain(gain, beginning.head.as_ref()) {
@@ -87,7 +87,7 @@ fn keep_gains(extension: &mut [u8; 36], beginnings: &[Beginning])
 
 /// The quality that a head says.
 fn quality_of(head: Option<&Info>) -> Option<u32>
-    ensures { result ≡ quality_of_lem (option_copied head.entry) }
+    ensures { result ≡ quality_of (option_copied head.entry) }
 {
     head?.quality
 }
@@ -104,7 +104,7 @@ pub(crate) struct Ends {
 /// run. `None` where no numbers are written. There is an input.
 pub(crate) fn kept_of(beginnings: &[Beginning], ends: Ends, moved: Moved) -> Option<Kept>
     requires { 0 < length beginnings.now }
-    ensures { result ≡ kept_in beginnings.now ends moved }
+    ensures { result ≡ run_kept beginnings.now ends moved }
 {
     let first = beginnings[0].head.as_ref();
     let last = beginnings[beginnings.len() - 1].head.as_ref();

@@ -1,26 +1,26 @@
 //! What a join makes ready before its output is created: the plan of all frames, the Info frame, and all memory.
 ghost use Rattle.std.specs.Prelude.{◌≡◌, ◌<◌, ◌≤◌, ℕ, List, [], ◌∷◌, length, map, slice_get, Some, IfOk};
 ghost use Rattle.frame_header.specs.Fields.{ClassFields};
-ghost use Rattle.frame_header.specs.Limits.{most_placed};
+ghost use Rattle.frame_header.specs.Limits.{most_output_frames};
 ghost use Rattle.frame_header.specs.Tables.{window_of};
-ghost use Rattle.laying.specs.Fits.{FitsFrom};
-ghost use Rattle.laying.specs.Needs.{asked_of};
-ghost use Rattle.laying.specs.NeedsFit.{IsPlaced};
+ghost use Rattle.laying.specs.Fits.{FitsFromReach};
+ghost use Rattle.laying.specs.Needs.{plan_input};
+ghost use Rattle.laying.specs.NeedsFit.{IsPlacedSurvey};
 ghost use Rattle.laying.specs.Written.{slot_in};
 ghost use Rattle.info_header.specs.InfoFrame.{info_frame};
 ghost use Rattle.frame_writer.specs.Frames.{Frame};
 ghost use Rattle.slot_plan.specs.declared.needs.Placed.{Placed as PlacedFields};
-ghost use Rattle.slot_plan.specs.Parts.{AreOfClass};
-ghost use Rattle.slot_plan.specs.Behind.{FitBehindWindow};
+ghost use Rattle.slot_plan.specs.Parts.{AreNeedsOfClass};
+ghost use Rattle.slot_plan.specs.FreeBytes.{FitBehindWindow};
 ghost use Rattle.slot_plan.specs.Plans.{entries};
-ghost use Rattle.sync_survey.specs.Row.{Row as RowFields};
-ghost use Rattle.sync_survey.specs.Faults.{tells};
-ghost use Rattle.commands.specs.One.{most_frames};
-ghost use Rattle.join_edits.specs.Inputs.{rows_of, CanBeJoined};
-ghost use Rattle.join_edits.specs.Laying.{IsPlanOf, IsReady};
+ghost use Rattle.sync_survey.specs.Row.{Row};
+ghost use Rattle.sync_survey.specs.Faults.{survey_view};
+ghost use Rattle.commands.specs.SingleOutput.{most_frames};
+ghost use Rattle.join_edits.specs.Inputs.{survey_rows, CanInputsBeJoined};
+ghost use Rattle.join_edits.specs.Laying.{IsPlanOf, IsJoinReady};
 ghost use Rattle.join_edits.specs.Deciding.{IsRunnable};
 ghost use Rattle.join_edits.specs.Numbers.{info_kept};
-ghost use Rattle.join_edits.specs.RunReady.{AreEnds, IsRunReady, run_plan};
+ghost use Rattle.join_edits.specs.RunReady.{AreEnds, IsRunReady, plan_of_run_needs};
 
 use crate::beginnings::Beginning;
 use crate::decided::Decided;
@@ -28,15 +28,15 @@ use crate::inputs::known_at;
 use crate::numbers::{Ends, Moved, kept_of};
 use arrayvec::ArrayVec;
 use exact_span::seal;
-use laying::{Buffers, Kept, Parts, info_bytes};
+use laying::{Kept, Parts, RelayBuffers, info_bytes};
 use slot_plan::{Keep, Need, Placed, Plan, plan};
 use std::alloc::{AllocError, Global};
 use sync_survey::Survey;
 
 /// All frames of these, each survey a part.
 fn parts_of(alloc: Global, surveys: &[Survey]) -> Result<Parts, AllocError>
-    requires { CanBeJoined (map tells surveys.now) }
-    ensures { IfOk result (λ parts. parts ≡ asked_of (rows_of (map tells surveys.now))) }
+    requires { CanInputsBeJoined (map survey_view surveys.now) }
+    ensures { IfOk result (λ parts. parts ≡ plan_input (survey_rows (map survey_view surveys.now))) }
 {
     let mut parts = Parts::new(alloc);
     for survey in surveys {
@@ -47,8 +47,8 @@ fn parts_of(alloc: Global, surveys: &[Survey]) -> Result<Parts, AllocError>
 
 /// The plan of all frames, each in its own slot.
 fn plan_all(alloc: Global, surveys: &[Survey]) -> Result<Plan, AllocError>
-    requires { CanBeJoined (map tells surveys.now) }
-    ensures { IfOk result (λ plan. IsPlanOf (map tells surveys.now) (entries plan)) }
+    requires { CanInputsBeJoined (map survey_view surveys.now) }
+    ensures { IfOk result (λ plan. IsPlanOf (map survey_view surveys.now) (entries plan)) }
 {
     let parts = parts_of(alloc, surveys)?;
     plan(alloc, parts.needs(), parts.places(), &Keep)
@@ -57,22 +57,22 @@ fn plan_all(alloc: Global, surveys: &[Survey]) -> Result<Plan, AllocError>
 /// The plan of all frames, the bytes of the Info frame before them, at most 1,441, whose header is that of the first frame,
 /// and the memory of the second pass.
 #[derive(Drop)]
-pub(crate) struct Work {
+pub(crate) struct JoinWork {
     pub plan: Plan,
     pub info: ArrayVec<u8, 1441>,
-    pub buffers: Buffers,
+    pub buffers: RelayBuffers,
 }
 
 /// All that is made ready before the output is created.
-pub(crate) fn prepare(alloc: Global, surveys: &[Survey]) -> Result<Work, AllocError>
-    requires { CanBeJoined (map tells surveys.now) }
-    ensures { IfOk result (IsReady (map tells surveys.now)) }
+pub(crate) fn prepare(alloc: Global, surveys: &[Survey]) -> Result<JoinWork, AllocError>
+    requires { CanInputsBeJoined (map survey_view surveys.now) }
+    ensures { IfOk result (IsJoinReady (map survey_view surveys.now)) }
 {
     let plan = plan_all(alloc, surveys)?;
     let first = known_at(surveys, 0);
     let info = info_bytes(first, 0, &Kept::none(), plan.placed());
-    let buffers = Buffers::new(alloc, first.class())?;
-    Ok(Work {
+    let buffers = RelayBuffers::new(alloc, first.class())?;
+    Ok(JoinWork {
         plan,
         info,
         buffers,
@@ -94,14 +94,14 @@ fn info_of(
     kept: Option<Kept>,
     placed: &[Placed],
 ) -> ArrayVec<u8, 1441>
-    requires well { IsPlaced (tells survey.now) }
-    requires within { from < length (tells survey.now).frames }
-    requires few { length placed.now ≤ most_placed }
-    ensures { (first : RowFields) (frames : List Frame)
-        → slice_get (tells survey.now).frames from ≡ Some first
+    requires well { IsPlacedSurvey (survey_view survey.now) }
+    requires within { from < length (survey_view survey.now).frames }
+    requires few { length placed.now ≤ most_output_frames }
+    ensures { (first : Row) (frames : List Frame)
+        → slice_get (survey_view survey.now).frames from ≡ Some first
         → map slot_in frames ≡ map (λ (p : PlacedFields). p.slot) placed.now
         → result.items ≡ info_frame first.header
-        (info_kept kept first.header (tells survey.now).class frames) }
+        (info_kept kept first.header (survey_view survey.now).class frames) }
 {
     let Some(kept) = kept else {
         return info_bytes(survey, from, &Kept::none(), placed);
@@ -114,8 +114,8 @@ fn info_of(
 
 /// The class of all inputs, and how many frames the first and the last have.
 fn ends_of_all(surveys: &[Survey]) -> Ends
-    requires { CanBeJoined (map tells surveys.now) }
-    ensures { AreEnds (map tells surveys.now) result }
+    requires { CanInputsBeJoined (map survey_view surveys.now) }
+    ensures { AreEnds (map survey_view surveys.now) result }
 {
     let first = known_at(surveys, 0);
     let last = known_at(surveys, surveys.len() - 1);
@@ -131,10 +131,10 @@ fn plan_run(alloc: Global, needs: &[Need]) -> Result<Plan, AllocError>
     requires some { 0 < length needs.now }
     requires few { length needs.now ≤ most_frames }
     requires fits { FitBehindWindow needs.now }
-    ensures plan { IfOk result (λ plan. (class : ClassFields) → AreOfClass class needs.now
-        → entries plan ≡ run_plan (window_of class.version) needs.now) }
-    ensures fits { IfOk result (λ plan. (class : ClassFields) → AreOfClass class needs.now
-        → FitsFrom (window_of class.version) 0 needs.now (entries plan)) }
+    ensures plan { IfOk result (λ plan. (class : ClassFields) → AreNeedsOfClass class needs.now
+        → entries plan ≡ plan_of_run_needs (window_of class.version) needs.now) }
+    ensures fits { IfOk result (λ plan. (class : ClassFields) → AreNeedsOfClass class needs.now
+        → FitsFromReach (window_of class.version) 0 needs.now (entries plan)) }
 {
     let header = &needs[0].header;
     // A look inside gives the proof that its class is one of the standard's.
@@ -148,11 +148,11 @@ pub(crate) fn prepare_run(
     surveys: &[Survey],
     beginnings: &[Beginning],
     decided: &Decided,
-) -> Result<Work, AllocError>
-    requires joined { CanBeJoined (map tells surveys.now) }
+) -> Result<JoinWork, AllocError>
+    requires joined { CanInputsBeJoined (map survey_view surveys.now) }
     requires begun { 0 < length beginnings.now }
-    requires run { IsRunnable (map tells surveys.now) decided.now }
-    ensures { IfOk result (IsRunReady (map tells surveys.now) beginnings.now decided.now) }
+    requires run { IsRunnable (map survey_view surveys.now) decided.now }
+    ensures { IfOk result (IsRunReady (map survey_view surveys.now) beginnings.now decided.now) }
 {
     let needs = decided.run();
     let plan = plan_run(alloc, needs)?;
@@ -164,8 +164,8 @@ pub(crate) fn prepare_run(
     };
     let kept = kept_of(beginnings, ends_of_all(surveys), moved);
     let info = info_of(first, decided.front as usize, kept, placed);
-    let buffers = Buffers::new(alloc, first.class())?;
-    Ok(Work {
+    let buffers = RelayBuffers::new(alloc, first.class())?;
+    Ok(JoinWork {
         plan,
         info,
         buffers,

@@ -2,23 +2,23 @@
 ghost use Rattle.std.specs.Prelude.{◌≡◌, ◌↔◌, ◌≤◌, ℕ, [], ◌∷◌, None, Some, length, map, string_bytes, IfOk, IfErr, OnOk, IsErrOf};
 ghost use Rattle.outside.specs.Counts.{NoneFell};
 ghost use Rattle.outside.specs.Seen.{OnlyRead};
-ghost use Rattle.sync_survey.specs.Faults.{tells};
+ghost use Rattle.sync_survey.specs.Faults.{survey_view};
 ghost use Rattle.commands.specs.Command.{HoldsStreams, clash_of};
-ghost use Rattle.commands.specs.Left.{IsDone, Leaves, HasNumbers};
-ghost use Rattle.commands.specs.One.{IsEarlyFault};
+ghost use Rattle.commands.specs.AfterCall.{IsCommandDone, IsCommandFault, HasNumbers};
+ghost use Rattle.commands.specs.SingleOutput.{IsEarlyFault};
 ghost use Rattle.commands.specs.Runs.{IsRunOf};
-ghost use Rattle.commands.specs.Said.{Says, fault_of};
-ghost use Rattle.join_edits.specs.Inputs.{IsOfJoin};
-ghost use Rattle.join_edits.specs.Reading.{IsReadFault};
+ghost use Rattle.commands.specs.SentText.{SaysText, answer_fault};
+ghost use Rattle.join_edits.specs.Inputs.{HasJoinNumbers};
+ghost use Rattle.join_edits.specs.Reading.{IsInputReadFault};
 ghost use Rattle.join_edits.specs.Deciding.{CanBeDecided};
 ghost use Rattle.join_edits.specs.Seamless.{seamless_task, seamless_command};
-ghost use Rattle.join_edits.specs.SeamlessReady.{IsMade, IsReady};
+ghost use Rattle.join_edits.specs.SeamlessReady.{IsRunMade, IsSeamlessReady};
 
 use crate::beginnings::{Beginning, beginnings_of, set_all_apart};
 use crate::decided::{Decided, decide_all};
 use crate::join_file::clash;
 use crate::lines::send_lines;
-use crate::planned::{Work, prepare_run};
+use crate::planned::{JoinWork, prepare_run};
 use crate::sounds::Sources;
 use crate::surveys::survey_all;
 use crate::written::write_joined;
@@ -29,9 +29,9 @@ use sync_survey::Survey;
 
 /// What is decided, what is made ready for the second pass, and the memory of the text.
 #[derive(Drop)]
-struct Made {
+struct MadeRun {
     decided: Decided,
-    work: Work,
+    work: JoinWork,
     sending: SendBuffer,
 }
 
@@ -40,7 +40,7 @@ struct Made {
 #[derive(Drop)]
 struct Ready {
     surveys: Vec<Survey>,
-    made: Made,
+    made: MadeRun,
 }
 
 /// Decides which frames are left out, and makes all ready for the second pass.
@@ -52,23 +52,23 @@ fn make_ready<D: Folder>(
     folder: &mut D,
     sources: &Sources<'_>,
     beginnings: &[Beginning],
-) -> Result<Made, EditFault>
+) -> Result<MadeRun, EditFault>
     requires can { CanBeDecided (D.seen folder.old).files
-        (map string_bytes sources.now.inputs.now) (map tells sources.now.surveys.now)
+        (map string_bytes sources.now.inputs.now) (map survey_view sources.now.surveys.now)
         beginnings.now }
-    ensures made { IfOk result (IsMade (D.seen folder.old).files
-        (map string_bytes sources.now.inputs.now) (map tells sources.now.surveys.now)
+    ensures made { IfOk result (IsRunMade (D.seen folder.old).files
+        (map string_bytes sources.now.inputs.now) (map survey_view sources.now.surveys.now)
         beginnings.now) }
-    ensures refused { IfErr result (IsReadFault (map string_bytes sources.now.inputs.now)
+    ensures refused { IfErr result (IsInputReadFault (map string_bytes sources.now.inputs.now)
         (D.seen folder.old)
         (D.seen folder.new)) }
-    ensures numbers { IfErr result (IsOfJoin (length sources.now.inputs.now)) }
+    ensures numbers { IfErr result (HasJoinNumbers (length sources.now.inputs.now)) }
     ensures reads { OnlyRead result (D.seen folder.old) (D.seen folder.new) }
 {
     let decided = decide_all(alloc, folder, sources, beginnings)?;
     let work = prepare_run(alloc, sources.surveys, beginnings, &decided)?;
     let sending = SendBuffer::new(alloc)?;
-    Ok(Made {
+    Ok(MadeRun {
         decided,
         work,
         sending,
@@ -86,11 +86,11 @@ fn prepare_all<D: Folder>(
 ) -> Result<Ready, EditFault>
     requires some { 1 ≤ length inputs.now }
     requires few { length inputs.now ≤ 64 }
-    ensures ready { IfOk result (IsReady (map string_bytes inputs.now) (D.seen folder.old).files) }
+    ensures ready { IfOk result (IsSeamlessReady (map string_bytes inputs.now) (D.seen folder.old).files) }
     ensures refused { IfErr result (IsEarlyFault (seamless_task (map string_bytes inputs.now))
         (D.seen folder.old)
         (D.seen folder.new)) }
-    ensures numbers { IfErr result (IsOfJoin (length inputs.now)) }
+    ensures numbers { IfErr result (HasJoinNumbers (length inputs.now)) }
     ensures reads { OnlyRead result (D.seen folder.old) (D.seen folder.new) }
 {
     let mut surveys = survey_all(alloc, folder, inputs)?;
@@ -118,16 +118,16 @@ fn write_and_tell<D: Folder, T: Sink>(
     requires some { 1 ≤ length inputs.now }
     requires few { length inputs.now ≤ 64 }
     requires free { clash_of (seamless_command output.now (map string_bytes inputs.now)) ≡ None }
-    requires ready { IsReady (map string_bytes inputs.now) (D.seen folder.old).files ready.old }
+    requires ready { IsSeamlessReady (map string_bytes inputs.now) (D.seen folder.old).files ready.old }
     ensures run { IsRunOf (seamless_command output.now (map string_bytes inputs.now))
         (D.seen folder.old)
         (D.seen folder.new) result }
-    ensures says { Says (seamless_command output.now (map string_bytes inputs.now))
+    ensures says { SaysText (seamless_command output.now (map string_bytes inputs.now))
         (D.seen folder.old).files (T.heard out.old) (T.heard out.new)
-        (fault_of result) }
+        (answer_fault result) }
 {
     let Ready { surveys, made } = ready;
-    let Made {
+    let MadeRun {
         decided,
         work,
         sending,
@@ -176,16 +176,16 @@ pub fn join_seamless<D: Folder, T: Sink>(
 ) -> Result<(), EditFault>
     requires some { 1 ≤ length inputs.now }
     requires few { length inputs.now ≤ 64 }
-    ensures done { OnOk result (IsDone (seamless_command output.now (map string_bytes inputs.now))
+    ensures done { OnOk result (IsCommandDone (seamless_command output.now (map string_bytes inputs.now))
         (D.seen folder.old)
         (D.seen folder.new)) }
-    ensures left { IfErr result (Leaves (seamless_command output.now (map string_bytes inputs.now))
+    ensures left { IfErr result (IsCommandFault (seamless_command output.now (map string_bytes inputs.now))
         (D.seen folder.old)
         (D.seen folder.new)) }
     // The text, of which a prefix was sent where a write failed.
-    ensures says { Says (seamless_command output.now (map string_bytes inputs.now))
+    ensures says { SaysText (seamless_command output.now (map string_bytes inputs.now))
         (D.seen folder.old).files (T.heard out.old) (T.heard out.new)
-        (fault_of result) }
+        (answer_fault result) }
     // Over a folder that tells nothing too.
     ensures numbers { IfErr result (HasNumbers (seamless_command output.now
         (map string_bytes inputs.now))) }

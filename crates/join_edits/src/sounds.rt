@@ -6,10 +6,10 @@ ghost use Rattle.frame_header.specs.HeaderBits.{header_bits};
 ghost use Rattle.side_info.specs.Side.{side_bits, SideFits};
 ghost use Rattle.outside.specs.Files.{IfTold};
 ghost use Rattle.outside.specs.Seen.{OnlyRead};
-ghost use Rattle.sync_survey.specs.MainData.{side_of as side_of_lem};
-ghost use Rattle.sync_survey.specs.Faults.{tells};
-ghost use Rattle.join_edits.specs.Reading.{AreKnown, StopsIn};
-ghost use Rattle.join_edits.specs.Sounds.{without_slot, without_gain, bare, same_front as same_front_lem, IsAt, row_at, AreOfOneClass, frames_of, payload_at_place, same_sounds};
+ghost use Rattle.sync_survey.specs.MainData.{row_side};
+ghost use Rattle.sync_survey.specs.Faults.{survey_view};
+ghost use Rattle.join_edits.specs.Reading.{AreHeld, StopsAmongInputs};
+ghost use Rattle.join_edits.specs.Sounds.{without_slot, without_gain, compared_side, same_front, IsFramePlace, row_at, AreSurveysOfOneClass, all_run_frames, payload_at_place, same_sounds};
 
 use crate::inputs::{known_at, name_at};
 use crate::main_data::Source;
@@ -49,7 +49,7 @@ fn pair_without_gains(pair: &[Granule; 2]) -> [Granule; 2]
 
 /// Side information without gains and main_data_begin.
 fn bare_side(side: &Side) -> Side
-    ensures { result ≡ bare side.now }
+    ensures { result ≡ compared_side side.now }
 {
     let mut bare = side.with_begin(0);
     bare.granules = [
@@ -84,8 +84,8 @@ fn side_room(class: Class, side: &Side) -> [u8; 32]
 fn same_side(class: Class, first: &Side, second: &Side) -> bool
     requires first { SideFits class first.now }
     requires second { SideFits class second.now }
-    ensures { result ≡ bytes_eq (side_bits class (bare first.now))
-        (side_bits class (bare second.now)) }
+    ensures { result ≡ bytes_eq (side_bits class (compared_side first.now))
+        (side_bits class (compared_side second.now)) }
 {
     let size = class.side_size() as usize;
     let first = side_room(class, &bare_side(first));
@@ -95,7 +95,7 @@ fn same_side(class: Class, first: &Side, second: &Side) -> bool
 
 /// The side information of a frame, all 0 if the frame is lost.
 fn side_of(row: &Row) -> Side
-    ensures side { result ≡ side_of_lem row.now }
+    ensures side { result ≡ row_side row.now }
     ensures fits { SideFits (class_of row.now.header) result }
 {
     if row.lost() {
@@ -109,7 +109,7 @@ fn side_of(row: &Row) -> Side
 fn same_front(class: Class, first: &Row, second: &Row) -> bool
     requires first { class_of first.now.header ≡ class }
     requires second { class_of second.now.header ≡ class }
-    ensures { result ≡ same_front_lem class first.now second.now }
+    ensures { result ≡ same_front class first.now second.now }
 {
     same_header(&first.header(), &second.header())
         && same_side(class, &side_of(first), &side_of(second))
@@ -129,8 +129,8 @@ impl<'a> Sources<'a> {
         requires surveys { place < length self.now.surveys.now }
         ensures name { slice_get (map string_bytes self.now.inputs.now) place
             ≡ Some result.name.now }
-        ensures survey { slice_get (map tells self.now.surveys.now) place
-            ≡ Some (tells result.survey.now) }
+        ensures survey { slice_get (map survey_view self.now.surveys.now) place
+            ≡ Some (survey_view result.survey.now) }
     {
         Source {
             name: name_at(self.inputs, place as usize),
@@ -140,8 +140,8 @@ impl<'a> Sources<'a> {
 
     /// A frame of an input.
     fn row(&self, place: FramePlace) -> &'a Row
-        requires { IsAt (map tells self.now.surveys.now) place }
-        ensures { row_at (map tells self.now.surveys.now) place ≡ Some result.now }
+        requires { IsFramePlace (map survey_view self.now.surveys.now) place }
+        ensures { row_at (map survey_view self.now.surveys.now) place ≡ Some result.now }
     {
         &self.surveys[place.input as usize].frames()[place.frame as usize]
     }
@@ -157,13 +157,13 @@ impl<'a> Sources<'a> {
         window: &mut Window,
         into: &mut ArrayVec<u8, 2048>,
     ) -> Result<(), Stopped>
-        requires held { AreKnown (D.seen folder.old).files (map string_bytes self.now.inputs.now)
-            (map tells self.now.surveys.now) }
-        requires there { IsAt (map tells self.now.surveys.now) place }
+        requires held { AreHeld (D.seen folder.old).files (map string_bytes self.now.inputs.now)
+            (map survey_view self.now.surveys.now) }
+        requires there { IsFramePlace (map survey_view self.now.surveys.now) place }
         ensures payload { OnOk result (IfTold (D.seen folder.old).files (λ f. into.new.items
             ≡ payload_at_place f (map string_bytes self.now.inputs.now)
-            (map tells self.now.surveys.now) place)) }
-        ensures stopped { IfErr result (StopsIn (map string_bytes self.now.inputs.now)
+            (map survey_view self.now.surveys.now) place)) }
+        ensures stopped { IfErr result (StopsAmongInputs (map string_bytes self.now.inputs.now)
             (D.seen folder.old).files (D.seen folder.old).counts (D.seen folder.new).counts) }
         ensures reads { OnlyRead result (D.seen folder.old) (D.seen folder.new) }
     {
@@ -188,15 +188,15 @@ impl<'a> Sources<'a> {
         second: FramePlace,
         window: &mut Window,
     ) -> Result<bool, Stopped>
-        requires held { AreKnown (D.seen folder.old).files (map string_bytes self.now.inputs.now)
-            (map tells self.now.surveys.now) }
-        requires one { AreOfOneClass (map tells self.now.surveys.now) }
-        requires first { IsAt (map tells self.now.surveys.now) first }
-        requires second { IsAt (map tells self.now.surveys.now) second }
+        requires held { AreHeld (D.seen folder.old).files (map string_bytes self.now.inputs.now)
+            (map survey_view self.now.surveys.now) }
+        requires one { AreSurveysOfOneClass (map survey_view self.now.surveys.now) }
+        requires first { IsFramePlace (map survey_view self.now.surveys.now) first }
+        requires second { IsFramePlace (map survey_view self.now.surveys.now) second }
         ensures same { IfOk result (λ same. IfTold (D.seen folder.old).files (λ f. same
-            ≡ same_sounds (frames_of f (map string_bytes self.now.inputs.now)
-            (map tells self.now.surveys.now)) first second)) }
-        ensures stopped { IfErr result (StopsIn (map string_bytes self.now.inputs.now)
+            ≡ same_sounds (all_run_frames f (map string_bytes self.now.inputs.now)
+            (map survey_view self.now.surveys.now)) first second)) }
+        ensures stopped { IfErr result (StopsAmongInputs (map string_bytes self.now.inputs.now)
             (D.seen folder.old).files (D.seen folder.old).counts (D.seen folder.new).counts) }
         ensures reads { OnlyRead result (D.seen folder.old) (D.seen folder.new) }
     {

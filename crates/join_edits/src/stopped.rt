@@ -1,6 +1,6 @@
 //! Why a pass over the inputs of a join ended early.
 ghost use Rattle.std.specs.Prelude.{◌≡◌};
-ghost use Rattle.commands.specs.PassFaults.{of_pass};
+ghost use Rattle.commands.specs.PassFaults.{pass_edit_fault};
 
 use commands::EditFault;
 use outside::PassFault;
@@ -13,7 +13,7 @@ pub(crate) struct Stopped {
 }
 
 impl From<Stopped> for EditFault {
-    ghost from_gives = { λ stopped e. e ≡ of_pass stopped.place 0 stopped.fault };
+    ghost from_gives = { λ stopped e. e ≡ pass_edit_fault stopped.place 0 stopped.fault };
 
     fn from(stopped: Stopped) -> EditFault {
         EditFault::of_pass(stopped.place, 0, stopped.fault)

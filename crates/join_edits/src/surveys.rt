@@ -1,10 +1,10 @@
 //! The surveys of all inputs.
 ghost use Rattle.std.specs.Prelude.{◌≡◌, ◌≤◌, ◌<◌, ◌+◌, true, None, length, map, string_bytes, is_some, IfOk, IfErr, OnOk};
 ghost use Rattle.outside.specs.Seen.{OnlyRead};
-ghost use Rattle.sync_survey.specs.Faults.{tells};
-ghost use Rattle.commands.specs.One.{most_frames, IsEarlyFault};
-ghost use Rattle.join_edits.specs.Join.{may_follow as may_follow_lem, join_task};
-ghost use Rattle.join_edits.specs.Inputs.{IsInput, IsPartFault, IsOfJoin, Follows, AreInputs, class_in};
+ghost use Rattle.sync_survey.specs.Faults.{survey_view};
+ghost use Rattle.commands.specs.SingleOutput.{most_frames, IsEarlyFault};
+ghost use Rattle.join_edits.specs.Join.{may_join, join_task};
+ghost use Rattle.join_edits.specs.Inputs.{IsJoinInput, IsPartFault, HasJoinNumbers, HasClassOfFirst, AreJoinInputs, class_of_first};
 
 use crate::inputs::name_at;
 use commands::{EditFault, MOST_FRAMES, Refusal, survey_at};
@@ -15,8 +15,8 @@ use sync_survey::Survey;
 
 /// Whether an input of this class may follow: any where there is no input before it, else one of the first input's class.
 fn may_follow(first: Option<Class>, class: Class) -> bool
-    ensures value { result ≡ may_follow_lem first class }
-    ensures follows { result ≡ true → Follows first class }
+    ensures value { result ≡ may_join first class }
+    ensures follows { result ≡ true → HasClassOfFirst first class }
 {
     match first {
         Some(first) => class.is_same(first),
@@ -40,12 +40,12 @@ fn survey_part<D: Folder>(
 ) -> Result<Survey, EditFault>
     requires behind { is_some first ≡ true → 0 < place }
     ensures input { OnOk result (IfOk result
-        (λ s. IsInput allowed (D.seen folder.old).files name.now (tells s))) }
-    ensures follows { IfOk result (λ s. Follows first (tells s).class) }
+        (λ s. IsJoinInput allowed (D.seen folder.old).files name.now (survey_view s))) }
+    ensures follows { IfOk result (λ s. HasClassOfFirst first (survey_view s).class) }
     ensures refused { IfErr result (IsPartFault place first allowed name.now
         (D.seen folder.old)
         (D.seen folder.new)) }
-    ensures numbers { IfErr result (IsOfJoin (place + 1)) }
+    ensures numbers { IfErr result (HasJoinNumbers (place + 1)) }
     ensures reads { OnlyRead result (D.seen folder.old) (D.seen folder.new) }
 {
     let survey = survey_at(alloc, folder, name, place, allowed)?;
@@ -58,7 +58,7 @@ fn survey_part<D: Folder>(
 
 /// The class of the first of these.
 fn first_class(surveys: &[Survey]) -> Option<Class>
-    ensures { result ≡ class_in (map tells surveys.now) }
+    ensures { result ≡ class_of_first (map survey_view surveys.now) }
 {
     match surveys {
         [] => None,
@@ -76,12 +76,12 @@ pub(crate) fn survey_all<D: Folder>(
     inputs: &[String],
 ) -> Result<Vec<Survey>, EditFault>
     requires few { length inputs.now ≤ 64 }
-    ensures inputs { IfOk result (λ surveys. AreInputs None most_frames (D.seen folder.old).files
-        (map string_bytes inputs.now) (map tells surveys.items)) }
+    ensures inputs { IfOk result (λ surveys. AreJoinInputs None most_frames (D.seen folder.old).files
+        (map string_bytes inputs.now) (map survey_view surveys.items)) }
     ensures refused { IfErr result (IsEarlyFault (join_task (map string_bytes inputs.now))
         (D.seen folder.old)
         (D.seen folder.new)) }
-    ensures numbers { IfErr result (IsOfJoin (length inputs.now)) }
+    ensures numbers { IfErr result (HasJoinNumbers (length inputs.now)) }
     ensures reads { OnlyRead result (D.seen folder.old) (D.seen folder.new) }
 {
     let mut surveys = Vec::new(alloc);

@@ -3,22 +3,22 @@ ghost use Rattle.std.specs.Prelude.{◌≡◌, ◌≤◌, ◌++◌, List, ℕ, [
 ghost use Rattle.std.specs.List.{concat};
 ghost use Rattle.outside.specs.Files.{Holds, OnlyTouches};
 ghost use Rattle.outside.specs.Counts.{NoneFell};
-ghost use Rattle.outside.specs.Pass.{Appends, AppendsPrefix, route_of, HasPassCause};
+ghost use Rattle.outside.specs.Pass.{AppendsMadeBytes, AppendsPrefix, route_of, HasPassCause};
 ghost use Rattle.laying.specs.Written.{front_blocks};
-ghost use Rattle.laying.specs.Passing.{IsReady as IsReadyToPass};
-ghost use Rattle.sync_survey.specs.Faults.{tells};
-ghost use Rattle.commands.specs.One.{holding, IsPassFault, first_input};
-ghost use Rattle.join_edits.specs.Inputs.{IsOfJoin};
-ghost use Rattle.join_edits.specs.Behind.{written_of, CanBeWritten, FitsWork};
-ghost use Rattle.join_edits.specs.Laying.{IsJoin, AppendsJoined};
+ghost use Rattle.laying.specs.Passing.{IsRelayReady};
+ghost use Rattle.sync_survey.specs.Faults.{survey_view};
+ghost use Rattle.commands.specs.SingleOutput.{files_holding, IsPassFault, first_input};
+ghost use Rattle.join_edits.specs.Inputs.{HasJoinNumbers};
+ghost use Rattle.join_edits.specs.RestOfInputs.{join_bytes, CanJoinBeWritten, FitsWork};
+ghost use Rattle.join_edits.specs.Laying.{IsJoinPass, AppendsJoined};
 
 use crate::inputs::{known_at, name_at};
 use crate::laid::{LaidFrames, lay_all};
-use crate::planned::Work;
+use crate::planned::JoinWork;
 use crate::sounds::Sources;
 use crate::stopped::Stopped;
 use commands::EditFault;
-use laying::{Buffers, Relay};
+use laying::{Relay, RelayBuffers};
 use outside::{Folder, Pass, PassFault};
 use sync_survey::Survey;
 
@@ -27,15 +27,15 @@ fn append_front<D: Folder>(
     relay: &Relay<'_>,
     folder: &mut D,
     info: &[u8],
-    buffers: &mut Buffers,
+    buffers: &mut RelayBuffers,
 ) -> Result<(), PassFault>
-    requires ready { IsReadyToPass relay.now (D.seen folder.old).files buffers.old.feed }
+    requires ready { IsRelayReady relay.now (D.seen folder.old).files buffers.old.feed }
     requires none { buffers.old.waiting ≡ [] }
-    ensures written { OnOk result (Appends relay.now.pass.input.now relay.now.pass.output.now
-        (λ file. concat (front_blocks file (tells relay.now.survey.now)) ++ info.now)
+    ensures written { OnOk result (AppendsMadeBytes relay.now.pass.input.now relay.now.pass.output.now
+        (λ file. concat (front_blocks file (survey_view relay.now.survey.now)) ++ info.now)
         (D.seen folder.old).files (D.seen folder.new).files) }
     ensures prefix { IfErr result (AppendsPrefix relay.now.pass.input.now relay.now.pass.output.now
-        (λ file. concat (front_blocks file (tells relay.now.survey.now)) ++ info.now)
+        (λ file. concat (front_blocks file (survey_view relay.now.survey.now)) ++ info.now)
         (D.seen folder.old).files (D.seen folder.new).files) }
     ensures none { OnOk result (buffers.new.waiting ≡ []) }
     ensures writer { buffers.new.writer ≡ buffers.old.writer }
@@ -58,19 +58,19 @@ fn append_joined<'a, D: Folder>(
     inputs: &'a [String],
     surveys: &'a [Survey],
     froms: &[u32],
-    work: &mut Work,
+    work: &mut JoinWork,
 ) -> Result<(), Stopped>
     requires few { length inputs.now ≤ 64 }
-    requires join { IsJoin first.now (map string_bytes inputs.now) (map tells surveys.now)
+    requires join { IsJoinPass first.now (map string_bytes inputs.now) (map survey_view surveys.now)
         (D.seen folder.old).files }
-    requires fits { FitsWork (tells first.now.survey.now).class (map tells surveys.now) froms.now
+    requires fits { FitsWork (survey_view first.now.survey.now).class (map survey_view surveys.now) froms.now
         work.old }
     ensures { AppendsJoined first.now (map string_bytes inputs.now)
-        (written_of (D.seen folder.old).files (map string_bytes inputs.now) (map tells surveys.now)
+        (join_bytes (D.seen folder.old).files (map string_bytes inputs.now) (map survey_view surveys.now)
         froms.now work.old)
         (D.seen folder.old) (D.seen folder.new) result }
 {
-    let Work {
+    let JoinWork {
         plan,
         info,
         buffers,
@@ -101,24 +101,24 @@ pub(crate) fn write_joined<D: Folder>(
     output: &str,
     surveys: &[Survey],
     froms: &[u32],
-    work: &mut Work,
+    work: &mut JoinWork,
 ) -> Result<(), EditFault>
     requires some { 1 ≤ length inputs.now }
     requires few { length inputs.now ≤ 64 }
-    requires can { CanBeWritten output.now (D.seen folder.old).files (map string_bytes inputs.now)
-        (map tells surveys.now) froms.now work.old }
+    requires can { CanJoinBeWritten output.now (D.seen folder.old).files (map string_bytes inputs.now)
+        (map survey_view surveys.now) froms.now work.old }
     ensures written { OnOk result ((bytes : List ℕ)
         → Holds (D.seen folder.old).files (first_input (map string_bytes inputs.now)) bytes
-        → (D.seen folder.new).files ≡ holding (D.seen folder.old).files output.now
-        (written_of (D.seen folder.old).files (map string_bytes inputs.now)
-        (map tells surveys.now) froms.now work.old bytes)) }
+        → (D.seen folder.new).files ≡ files_holding (D.seen folder.old).files output.now
+        (join_bytes (D.seen folder.old).files (map string_bytes inputs.now)
+        (map survey_view surveys.now) froms.now work.old bytes)) }
     ensures touches { OnlyTouches (output.now ∷ []) (D.seen folder.old).files
         (D.seen folder.new).files }
     ensures done { OnOk result ((D.seen folder.new).counts ≡ (D.seen folder.old).counts) }
-    ensures left { IfErr result (IsPassFault (written_of (D.seen folder.old).files
-        (map string_bytes inputs.now) (map tells surveys.now) froms.now work.old)
+    ensures left { IfErr result (IsPassFault (join_bytes (D.seen folder.old).files
+        (map string_bytes inputs.now) (map survey_view surveys.now) froms.now work.old)
         (map string_bytes inputs.now) output.now (D.seen folder.old) (D.seen folder.new)) }
-    ensures numbers { IfErr result (IsOfJoin (length inputs.now)) }
+    ensures numbers { IfErr result (HasJoinNumbers (length inputs.now)) }
     ensures counts { NoneFell (D.seen folder.old).counts (D.seen folder.new).counts }
 {
     let survey = known_at(surveys, 0);

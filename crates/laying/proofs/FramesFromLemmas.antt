@@ -3,19 +3,21 @@ use Rattle.std.proofs.Common.{ap, append-nil, ap₂, arith, drop, length, List, 
 use Rattle.std.proofs.Common.{subst, sym, take, ℕ, [], ◌++◌, ◌-◌, ◌∙◌, ◌≡◌, ◌≤◌}
 use Rattle.std.proofs.lemmas.List.{length-drop, length-map, length-take-le}
 use Rattle.frame_header.specs.Tables.{window_of}
-use Rattle.frame_writer.specs.{Frames.{Frame, pieces}, Laid.BeginsWithin, Writing.Writing}
-use Rattle.laying.proofs.{HoldLaws.{all-length, needs-range}, PassLaws.{begins_more, lays_as}}
-use Rattle.laying.proofs.{PlacesLaws.{last-own, relaid-own}, RelayLaws.{begins-left, part_more}}
-use Rattle.laying.specs.{Fits.{FitsFrom, last_reach}, Needs.need_of}
-use Rattle.laying.specs.{Passing.{Lays, LaysPart, needs_from}, Places.{own_places, places_for}}
-use Rattle.laying.specs.{Relaid.{all_frames, relaid}, Surveys.HasSurvey}
+use Rattle.frame_writer.specs.{Frames.{all_frame_data, Frame}, Laid.BeginsWithin, Writing.Writing}
+use Rattle.laying.proofs.{HoldLemmas.{all-length, needs-range}, PassLemmas.{begins_more, lays_as}}
+use Rattle.laying.proofs.{PlacesLemmas.{last-own, relaid-own}, RelayLemmas.{begins-left, part_more}}
+use Rattle.laying.specs.{Fits.{FitsFromReach, last_reach}, Needs.need_of}
+use Rattle.laying.specs.Passing.{LaysFrames, LaysPart, needs_from}
+use Rattle.laying.specs.{Places.{own_places, places_for}, Relaid.{all_frames, relaid_frames}}
+use Rattle.laying.specs.Surveys.{CanBeRelaid}
 use Rattle.outside.specs.{Files.Files, declared.pass.PassFault.PassFault}
 use Rattle.slot_plan.specs.declared.needs.{Need.Need, Placed.Placed}
 use Rattle.sync_survey.specs.Faults.{SurveyFields}
 
 -- the frames from one on in these places (`planned_frames`, by the survey)
 abbrev planned : ℕ → SurveyFields → List Placed → List ℕ → List Frame
-planned from s placed file = relaid (slice_range (all_frames file s) from (length s.frames)) placed
+planned from s placed file =
+    relaid_frames (slice_range (all_frames file s) from (length s.frames)) placed
 
 -- how many bytes before the next area main data may begin after them
 abbrev reached : ℕ → ℕ → SurveyFields → List Placed → ℕ
@@ -49,7 +51,7 @@ frames-own : (file : List ℕ) (from : ℕ) (s : SurveyFields) (placed : List Pl
     ≡ planned from s placed file
 frames-own file from s placed =
     let frames = slice_range (all_frames file s) from (length s.frames) in
-    ap (λ n. relaid frames (own_places n placed)) (sym (from-length file from s))
+    ap (λ n. relaid_frames frames (own_places n placed)) (sym (from-length file from s))
     ∙ relaid-own frames placed
 
 reach-own : (reach from : ℕ) (s : SurveyFields) (placed : List Placed)
@@ -63,21 +65,22 @@ reach-own reach from s placed =
 
 -- where they are told, they begin within reach
 pub from-begins : (file : List ℕ) (from : ℕ) (s : SurveyFields) (placed : List Placed)
-    (reach free : ℕ) (more : List Frame) → HasSurvey file s → reach ≤ free
-    → FitsFrom (window_of s.class.version) reach (needs_from s from (length s.frames))
+    (reach free : ℕ) (more : List Frame) → CanBeRelaid file s → reach ≤ free
+    → FitsFromReach (window_of s.class.version) reach (needs_from s from (length s.frames))
     (own_places (length s.frames - from) placed)
-    → BeginsWithin (reached reach from s placed) (pieces more)
-    → BeginsWithin free (pieces (planned from s placed file ++ more))
+    → BeginsWithin (reached reach from s placed) (all_frame_data more)
+    → BeginsWithin free (all_frame_data (planned from s placed file ++ more))
 from-begins file from s placed reach free more has within fits begins =
     let to = length s.frames in
     let own = own_places (to - from) placed in
     let frames = slice_range (all_frames file s) from to in
-    begins_more reach free (pieces (planned from s placed file ++ more)) within
-    (subst (λ (fs : List Frame). BeginsWithin reach (pieces (fs ++ more)))
+    begins_more reach free (all_frame_data (planned from s placed file ++ more)) within
+    (subst (λ (fs : List Frame). BeginsWithin reach (all_frame_data (fs ++ more)))
     (frames-own file from s placed)
     (begins-left (window_of s.class.version) reach (needs_from s from to) frames own more
     (needs-range file s from to has) fits
-    (subst (λ n. BeginsWithin n (pieces more)) (sym (reach-own reach from s placed)) begins)))
+    (subst (λ n. BeginsWithin n (all_frame_data more))
+    (sym (reach-own reach from s placed)) begins)))
 
 -- ---- the same, by how many frames and places there are
 
@@ -91,19 +94,20 @@ module _ (s : SurveyFields) (placed : List Placed) (from n k : ℕ) (all : n ≡
 
   -- frames that fit in their own places fit when these are counted so
   pub fits-from : (window reach : ℕ)
-      → FitsFrom window reach (needs_from s from (length s.frames))
+      → FitsFromReach window reach (needs_from s from (length s.frames))
       (own_places (length s.frames - from) placed)
-      → FitsFrom window reach (needs_from s from n) (take k placed)
+      → FitsFromReach window reach (needs_from s from n) (take k placed)
   fits-from window reach fits =
-      subst (λ (l : List Need). FitsFrom window reach l (take k placed)) (sym needs-are)
-      (subst (FitsFrom window reach (needs_from s from (length s.frames))) (sym taken) fits)
+      subst (λ (l : List Need). FitsFromReach window reach l (take k placed)) (sym needs-are)
+      (subst (FitsFromReach window reach (needs_from s from (length s.frames))) (sym taken) fits)
 
   abbrev made : List ℕ → List Frame
-  made file = relaid (slice_range (all_frames file s) from n) (take k placed)
+  made file = relaid_frames (slice_range (all_frames file s) from n) (take k placed)
 
   made-is : (file : List ℕ) → made file ≡ planned from s placed file
   made-is file =
-      ap₂ (λ m (l : List Placed). relaid (slice_range (all_frames file s) from m) l) all taken
+      ap₂ (λ m (l : List Placed). relaid_frames (slice_range (all_frames file s) from m) l) all
+      taken
       ∙ frames-own file from s placed
 
   abbrev last : ℕ → ℕ
@@ -118,8 +122,8 @@ module _ (s : SurveyFields) (placed : List Placed) (from n k : ℕ) (all : n ≡
 
   module _ (input output : List ℕ) (old : Writing) (before after : Files) where
     -- laying these frames is laying those of the input from there on
-    pub lays-from : (new : Writing) → Lays input output made old new before after
-        → Lays input output (planned from s placed) old new before after
+    pub lays-from : (new : Writing) → LaysFrames input output made old new before after
+        → LaysFrames input output (planned from s placed) old new before after
     lays-from new =
         lays_as input output made (planned from s placed) old new before after
         (λ file holds. made-is file)
@@ -133,5 +137,5 @@ module _ (s : SurveyFields) (placed : List Placed) (from n k : ℕ) (all : n ≡
         part_more input output made (λ file. []) (planned from s placed) (last reach)
         (reached reach from s placed) old before after
         (λ file holds more begins.
-        subst (λ m. BeginsWithin m (pieces more)) (sym (reach-is reach)) begins)
+        subst (λ m. BeginsWithin m (all_frame_data more)) (sym (reach-is reach)) begins)
         (λ file holds. append-nil (made file) ∙ made-is file)

@@ -2,44 +2,45 @@
 use Rattle.std.specs.Prelude.{drop, IfErr, length, List, OnErr, OnOk, Result, slice_get, Some, take}
 use Rattle.std.specs.Prelude.{ℕ, [], ◌+◌, ◌≡◌, ◌≤◌}
 use Rattle.frame_header.specs.Tables.{class_of, overhead_of}
-use Rattle.frame_writer.specs.Frames.{EndsInArea, Frame, Held, IsNextSettled, reach_of, reach_with}
-use Rattle.frame_writer.specs.Writing.{WritesOn, WritesPart, Writing}
-use Rattle.laying.specs.Passing.{GivesFrames, GivesPart, HoldsLast, HoldsWith, IsAreaOf, IsReady}
-use Rattle.laying.specs.{Passing.Reaches, declared.buffers.Buffers.Buffers}
-use Rattle.laying.specs.declared.relay.{Held.Held as AreasHeld, Known.Known, Reading.Reading}
-use Rattle.laying.specs.declared.relay.{Relay.Relay, Span.Span}
-use Rattle.outside.specs.{Feed.Fed, Files.Files}
-use Rattle.outside.specs.Pass.{Appends, AppendsPrefix, HasPassCause, IsOfRead, route_of, Writes}
-use Rattle.outside.specs.{Pass.WritesPrefix, Passed.{AppendedPrefix, PassedOn}, Seen.Seen}
+use Rattle.frame_writer.specs.Frames.{EndsInArea, Frame, IsNextSettled, reach_after_frame, reach_of}
+use Rattle.frame_writer.specs.{Frames.WaitingFrames, Writing.{AcceptsFrame, WritesPart, Writing}}
+use Rattle.laying.specs.Passing.{GivesFrames, GivesPart, HoldsLastAreas, HoldsLastWithBytes}
+use Rattle.laying.specs.Passing.{IsAreaOf, IsRelayReady, ReachesBack}
+use Rattle.laying.specs.declared.{buffers.RelayBuffers.RelayBuffers, relay.AreaSpan.AreaSpan}
+use Rattle.laying.specs.declared.relay.{HeldAreas.HeldAreas as AreasHeld, NextFrame.NextFrame}
+use Rattle.laying.specs.declared.relay.{Reading.Reading, Relay.Relay}
+use Rattle.outside.specs.{BufferOutput.{AppendedPrefix, AppendsWaiting}, Feed.Fed, Files.Files}
+use Rattle.outside.specs.Pass.{AppendsMadeBytes, AppendsPrefix, HasPassCause, IsReadPassFault}
+use Rattle.outside.specs.{Pass.{route_of, WritesMadeBytes, WritesPrefix}, Seen.Seen}
 use Rattle.outside.specs.declared.pass.PassFault.{PassFault}
 use Rattle.reservoir.specs.Window.{window_size}
 use Rattle.side_info.specs.{Side.{payload_bits, SideFits}, declared.frame_front.Extent.Extent}
-use Rattle.sync_survey.specs.{Faults.{SurveyFields, tells}, MainData.own_area, Row.Row}
+use Rattle.sync_survey.specs.{Faults.{survey_view, SurveyFields}, MainData.own_area, Row.Row}
 use Rattle.sync_survey.specs.Survey.{AreWellPlaced}
 
 -- ---- how it stands
 
 -- The input can be read, and frames of its class can be given to the writer.
-pub record Stands (relay : Relay) (files : Files) (b : Buffers) : Type 0 where
-  pub ready : IsReady relay files b.feed
-  pub class : b.writer.class ≡ (tells relay.survey.now).class
+pub record IsRelayOpen (relay : Relay) (files : Files) (b : RelayBuffers) : Type 0 where
+  pub ready : IsRelayReady relay files b.feed
+  pub class : b.writer.class ≡ (survey_view relay.survey.now).class
   pub unsettled : IsNextSettled b.writer → ⊥
 
 -- So it stands, and what the next frame can reach is held.
-pub record StandsBefore (relay : Relay) (files : Files) (b : Buffers)
+pub record IsRelayAtFrame (relay : Relay) (files : Files) (b : RelayBuffers)
     (reading : Reading) : Type 0 where
-  pub on : Stands relay files b
-  pub over : HoldsLast b.window relay.pass.input.now files
-      (tells relay.survey.now) reading.at reading.count reading.next
+  pub on : IsRelayOpen relay files b
+  pub over : HoldsLastAreas b.window relay.pass.input.now files
+      (survey_view relay.survey.now) reading.at reading.count reading.next
 
 -- The next frame of the input is this one.
-pub record IsNext (relay : Relay) (reading : Reading) (next : Known) : Type 0 where
-  pub known : next.class ≡ (tells relay.survey.now).class
-  pub found : slice_get (tells relay.survey.now).frames reading.next ≡ Some next.row.now
+pub record IsNextFrame (relay : Relay) (reading : Reading) (next : NextFrame) : Type 0 where
+  pub known : next.class ≡ (survey_view relay.survey.now).class
+  pub found : slice_get (survey_view relay.survey.now).frames reading.next ≡ Some next.row.now
 
 -- The writer takes the frame: it is of the writer's class, and
 -- its main data begin within reach and end in its own area.
-pub record Follows (held : Held) (f : Frame) : Type 0 where
+pub record CanGiveFrame (held : WaitingFrames) (f : Frame) : Type 0 where
   pub class : class_of f.kept.header ≡ held.class
   pub fits : SideFits held.class f.kept.side
   pub begin : f.kept.side.main_data_begin ≤ reach_of held
@@ -50,29 +51,29 @@ pub record Follows (held : Held) (f : Frame) : Type 0 where
 -- ---- what is read
 
 -- The input was read, or couldn't be; the files stay, and it can be read on.
-pub record ReadsOn {T : Type 0} (relay : Relay) (fed : Fed) (old new : Seen)
+pub record RelayReadAnswer {T : Type 0} (relay : Relay) (fed : Fed) (old new : Seen)
     (result : Result T PassFault) : Type 0 where
   pub done : OnOk result (new.counts ≡ old.counts)
   pub cause : IfErr result (HasPassCause (route_of relay.pass) old.files old.counts new.counts)
-  pub read : IfErr result IsOfRead
+  pub read : IfErr result IsReadPassFault
   pub files : new.files ≡ old.files
-  pub ready : IsReady relay new.files fed
+  pub ready : IsRelayReady relay new.files fed
 
 -- The bytes for the next frame were given: those of its own
 -- area, and before them those that the window doesn't have.
 pub record GivesArea (relay : Relay) (reading : Reading) (row : Row) (files : Files)
-    (window given : List ℕ) (span : Span) : Type 0 where
-  pub over : HoldsWith window (take span.before given) relay.pass.input.now files
-      (tells relay.survey.now) reading.next
+    (window given : List ℕ) (span : AreaSpan) : Type 0 where
+  pub over : HoldsLastWithBytes window (take span.before given) relay.pass.input.now files
+      (survey_view relay.survey.now) reading.next
   pub area : IsAreaOf (drop span.skip given) relay.pass.input.now files row
   pub before : span.before ≤ length given
   pub skip : span.skip ≤ length given
   pub at : span.at ≡ row.offset + overhead_of (class_of row.header) row.header.protected
-  pub ends : span.at + length (drop span.skip given) ≤ (tells relay.survey.now).length
+  pub ends : span.at + length (drop span.skip given) ≤ (survey_view relay.survey.now).length
 
 -- The main data of frame i can be cut out: so many bits, which begin so
 -- many bytes before its own area, and don't reach back to what isn't held.
-pub record CanCut (s : SurveyFields) (i : ℕ) (row : Row) (extent : Extent)
+pub record CanCutData (s : SurveyFields) (i : ℕ) (row : Row) (extent : Extent)
     (held : AreasHeld) : Type 0 where
   pub placed : AreWellPlaced s.head s.class s.frames
   pub found : slice_get s.frames i ≡ Some row
@@ -80,16 +81,16 @@ pub record CanCut (s : SurveyFields) (i : ℕ) (row : Row) (extent : Extent)
   pub bits : extent.bits ≡ payload_bits row.side
   pub area : length held.own.now ≡ own_area row.header
   pub few : length held.before.now ≤ 1939
-  pub over : Reaches (length held.window.now + length held.before.now) s i
+  pub over : ReachesBack (length held.window.now + length held.before.now) s i
 
 -- ---- what is written
 
 -- A frame was given to the writer, or a write failed.
 pub record TakesFrame (relay : Relay) (f : Frame) (was now : Writing) (old new : Seen)
     (result : Result (Unit {0}) PassFault) : Type 0 where
-  pub written : OnOk result (WritesOn relay.pass.output.now f was now old.files new.files)
+  pub written : OnOk result (AcceptsFrame relay.pass.output.now f was now old.files new.files)
   pub part : OnErr result (WritesPart relay.pass.output.now f was now.held old.files new.files)
-  pub reach : reach_of now.held ≡ reach_with was.held.class f
+  pub reach : reach_of now.held ≡ reach_after_frame was.held.class f
   pub class : OnOk result (now.held.class ≡ was.held.class)
   pub unsettled : OnOk result (IsNextSettled now.held → ⊥)
   pub done : OnOk result (new.counts ≡ old.counts)
@@ -97,8 +98,8 @@ pub record TakesFrame (relay : Relay) (f : Frame) (was now : Writing) (old new :
 
 -- These frames were given to the writer, after which main data may
 -- begin so many bytes before their own area, or only a part of them.
-pub record Gives {T : Type 0} (relay : Relay) (made : List ℕ → List Frame) (behind : ℕ)
-    (was now : Buffers) (old new : Seen) (result : Result T PassFault) : Type 0 where
+pub record RelayFramesAnswer {T : Type 0} (relay : Relay) (made : List ℕ → List Frame) (behind : ℕ)
+    (was now : RelayBuffers) (old new : Seen) (result : Result T PassFault) : Type 0 where
   pub lays : OnOk result (GivesFrames relay made was now old.files new.files)
   pub part : IfErr result (GivesPart relay made behind was old.files new.files)
   pub reach : OnOk result (reach_of now.writer ≡ behind)
@@ -107,31 +108,33 @@ pub record Gives {T : Type 0} (relay : Relay) (made : List ℕ → List Frame) (
 
 -- These bytes were handed on to the output, but for
 -- those that still wait for it, or a write failed.
-pub record HandsOn (relay : Relay) (bytes after : List ℕ) (old new : Seen)
+pub record ForwardAnswer (relay : Relay) (bytes after : List ℕ) (old new : Seen)
     (result : Result (Unit {0}) PassFault) : Type 0 where
-  pub passed : OnOk result (PassedOn relay.pass.output.now bytes after old.files new.files)
+  pub passed : OnOk result (AppendsWaiting relay.pass.output.now bytes after old.files new.files)
   pub prefix : OnErr result (AppendedPrefix relay.pass.output.now bytes old.files new.files)
   pub done : OnOk result (new.counts ≡ old.counts)
   pub cause : IfErr result (HasPassCause (route_of relay.pass) old.files old.counts new.counts)
 
 -- What is made of the input was added to what waits for the output, or only a prefix was appended.
-pub record AddsMade (relay : Relay) (made : List ℕ → List ℕ) (before after : List ℕ) (fed : Fed)
+pub record AddMadeAnswer (relay : Relay) (made : List ℕ → List ℕ) (before after : List ℕ)
+    (fed : Fed)
     (old new : Seen) (result : Result (Unit {0}) PassFault) : Type 0 where
-  pub written : OnOk result (Writes relay.pass made before after old.files new.files)
+  pub written : OnOk result (WritesMadeBytes relay.pass made before after old.files new.files)
   pub prefix : IfErr result (WritesPrefix relay.pass made before old.files new.files)
   pub done : OnOk result (new.counts ≡ old.counts)
   pub cause : IfErr result (HasPassCause (route_of relay.pass) old.files old.counts new.counts)
-  pub ready : OnOk result (IsReady relay new.files fed)
+  pub ready : OnOk result (IsRelayReady relay new.files fed)
 
 -- What is made of the input was appended to the output, or only a prefix.
-pub record AppendsMade (relay : Relay) (made : List ℕ → List ℕ) (b : Buffers) (old new : Seen)
+pub record AppendMadeAnswer (relay : Relay) (made : List ℕ → List ℕ) (b : RelayBuffers)
+    (old new : Seen)
     (result : Result (Unit {0}) PassFault) : Type 0 where
   pub written : OnOk result
-      (Appends relay.pass.input.now relay.pass.output.now made old.files new.files)
+      (AppendsMadeBytes relay.pass.input.now relay.pass.output.now made old.files new.files)
   pub prefix : IfErr result
       (AppendsPrefix relay.pass.input.now relay.pass.output.now made old.files new.files)
   -- then nothing waits
   pub none : OnOk result (b.waiting ≡ [])
   pub done : OnOk result (new.counts ≡ old.counts)
   pub cause : IfErr result (HasPassCause (route_of relay.pass) old.files old.counts new.counts)
-  pub ready : OnOk result (IsReady relay new.files b.feed)
+  pub ready : OnOk result (IsRelayReady relay new.files b.feed)

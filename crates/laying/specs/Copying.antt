@@ -4,11 +4,11 @@ use Rattle.laying.specs.{LaidFiles.block_bytes, Written.goes_in_front}
 use Rattle.sync_survey.specs.{Faults.SurveyFields, declared.places.Piece.Piece}
 
 -- the block is one of those that go before the frames, or one of the others
-abbrev pub is_chosen : Bool → SurveyFields → Piece → Bool
-is_chosen true s p = goes_in_front s p
-is_chosen false s p = not (goes_in_front s p)
+abbrev pub is_chosen_block : Bool → SurveyFields → Piece → Bool
+is_chosen_block true s p = goes_in_front s p
+is_chosen_block false s p = not (goes_in_front s p)
 
 -- the bytes of those of these blocks that go before the frames, or of the others
 abbrev pub chosen_bytes : Bool → SurveyFields → List Piece → List ℕ → List ℕ
 chosen_bytes in_front s blocks file =
-    concat (map (block_bytes file) (filter (is_chosen in_front s) blocks))
+    concat (map (block_bytes file) (filter (is_chosen_block in_front s) blocks))

@@ -4,18 +4,19 @@ use Rattle.std.specs.List.{concat}
 use Rattle.std.specs.Prelude.{length, List, map, None, Option, slice_get, slice_range, Some, ℕ, []}
 use Rattle.std.specs.Prelude.{◌++◌, ◌<◌, ◌≡◌, ◌≤◌}
 use Rattle.frame_header.specs.Tables.{window_of}
-use Rattle.frame_writer.specs.Frames.{Frame, frame_bytes}
+use Rattle.frame_writer.specs.Frames.{bytes_of_frames, Frame}
 use Rattle.info_header.specs.{InfoFrame.info_frame, declared.fields.Info.Info}
-use Rattle.laying.specs.{Fits.FitsFrom, LaidFiles.laid_file, Needs.need_of}
-use Rattle.laying.specs.Relaid.{frames_in, Part, relaid, stream_in, with_lead_ins}
-use Rattle.laying.specs.{Surveys.HasSurvey, Written.{back_blocks, front_blocks, info_for}}
-use Rattle.laying.specs.declared.{info.Kept.Kept, selected.Selected.Selected}
+use Rattle.laying.specs.{Fits.FitsFromReach, LaidFiles.laid_file, Needs.need_of}
+use Rattle.laying.specs.Relaid.{FilePart, part_frames, part_stream, relaid_frames}
+use Rattle.laying.specs.{Relaid.stream_with_lead_ins, Surveys.CanBeRelaid}
+use Rattle.laying.specs.{Written.{back_blocks, front_blocks, info_for}, declared.info.Kept.Kept}
+use Rattle.laying.specs.declared.selected.Selected.{Selected}
 use Rattle.slot_plan.specs.{Plans.entries, declared.needs.{Need.Need, Placed.Placed}}
 use Rattle.sync_survey.specs.{Faults.SurveyFields, MainData.StreamFrame, Row.Row}
 
 -- The frames from one up to, but not including, another, the slots of their
 -- plan, and the quality and extension for the Info frame before them.
-pub record Laid : Type 0 where
+pub record LaidPart : Type 0 where
   pub from : ℕ
   pub to : ℕ
   pub placed : List Placed
@@ -23,38 +24,38 @@ pub record Laid : Type 0 where
   pub extension : List ℕ
 
 -- the frames that are laid, as a part of their file
-abbrev pub part_laid : Laid → List ℕ → SurveyFields → Part
-part_laid laid file s = record { file = file; survey = s; from = laid.from; to = laid.to }
+abbrev pub source_part : LaidPart → List ℕ → SurveyFields → FilePart
+source_part laid file s = record { file = file; survey = s; from = laid.from; to = laid.to }
 
 -- what their plan was made for: what each frame needs
-abbrev pub needs_laid : Laid → SurveyFields → List Need
+abbrev pub needs_laid : LaidPart → SurveyFields → List Need
 needs_laid laid s = map need_of (slice_range s.frames laid.from laid.to)
 
 -- the frames with all main data, in these slots
-abbrev pub frames_laid : Laid → List ℕ → SurveyFields → List Frame
-frames_laid laid file s = relaid (frames_in (part_laid laid file s)) laid.placed
+abbrev pub frames_laid : LaidPart → List ℕ → SurveyFields → List Frame
+frames_laid laid file s = relaid_frames (part_frames (source_part laid file s)) laid.placed
 
 -- the fields of the Info frame before them
-abbrev pub info_laid : Laid → List ℕ → SurveyFields → Info
+abbrev pub info_laid : LaidPart → List ℕ → SurveyFields → Info
 info_laid laid file s = info_for s.class (frames_laid laid file s) laid.quality laid.extension
 
 -- The ID3v2 blocks before the first frame of the file, an Info frame with the header of
 -- the first chosen frame, the frames, and all other blocks; of no frames there is no file.
-abbrev pub file_from : Option Row → Laid → List ℕ → SurveyFields → List ℕ
-file_from None laid file s = []
-file_from (Some first) laid file s = laid_file (front_blocks file s)
+abbrev pub file_with_first : Option Row → LaidPart → List ℕ → SurveyFields → List ℕ
+file_with_first None laid file s = []
+file_with_first (Some first) laid file s = laid_file (front_blocks file s)
     first.header (info_laid laid file s) (frames_laid laid file s) (back_blocks file s)
 
 -- the file of these frames
-abbrev pub file_laid : Laid → List ℕ → SurveyFields → List ℕ
-file_laid laid file s = file_from (slice_get s.frames laid.from) laid file s
+abbrev pub file_laid : LaidPart → List ℕ → SurveyFields → List ℕ
+file_laid laid file s = file_with_first (slice_get s.frames laid.from) laid file s
 
 -- its stream: the lead-ins of the plan, and the frames as they are in the stream of the file
-abbrev pub stream_laid : Laid → List ℕ → SurveyFields → List StreamFrame
-stream_laid laid file s = with_lead_ins laid.placed (stream_in (part_laid laid file s))
+abbrev pub stream_laid : LaidPart → List ℕ → SurveyFields → List StreamFrame
+stream_laid laid file s = stream_with_lead_ins laid.placed (part_stream (source_part laid file s))
 
 -- these are the bytes of its Info frame
-abbrev pub IsLaidInfo : Laid → List ℕ → SurveyFields → List ℕ → Type 0
+abbrev pub IsLaidInfo : LaidPart → List ℕ → SurveyFields → List ℕ → Type 0
 IsLaidInfo laid file s bytes = (first : Row) → slice_get s.frames laid.from ≡ Some first
     → bytes ≡ info_frame first.header (info_laid laid file s)
 
@@ -62,8 +63,8 @@ IsLaidInfo laid file s bytes = (first : Row) → slice_get s.frames laid.from �
 
 -- the frames from one up to, but not including, another,
 -- in these slots, with what is kept for their Info frame
-abbrev pub laid_between : ℕ → ℕ → Kept → List Placed → Laid
-laid_between from to kept placed = record {
+abbrev pub laid_part : ℕ → ℕ → Kept → List Placed → LaidPart
+laid_part from to kept placed = record {
   from = from;
   to = to;
   placed = placed;
@@ -72,24 +73,24 @@ laid_between from to kept placed = record {
 }
 
 -- the same of what was made ready
-abbrev pub laid_in : Selected → Laid
-laid_in selected = laid_between selected.from selected.to selected.kept (entries selected.plan)
+abbrev pub selected_part : Selected → LaidPart
+selected_part selected = laid_part selected.from selected.to selected.kept (entries selected.plan)
 
 -- the frames that were made ready, with all main data
 abbrev pub selected_frames : SurveyFields → Selected → List ℕ → List Frame
-selected_frames s selected file = frames_laid (laid_in selected) file s
+selected_frames s selected file = frames_laid (selected_part selected) file s
 
 -- the blocks before the frames, the Info frame and the frames
 abbrev pub selected_front : SurveyFields → Selected → List ℕ → List ℕ
 selected_front s selected file = (concat (front_blocks file s) ++ selected.info.items)
-    ++ frame_bytes (selected_frames s selected file)
+    ++ bytes_of_frames (selected_frames s selected file)
 
 -- There is a frame, all are there, the plan can be written frame
 -- by frame, and these are the bytes of the Info frame before them.
-pub record IsWritable (s : SurveyFields) (selected : Selected) : Type 0 where
+pub record IsWritableSelection (s : SurveyFields) (selected : Selected) : Type 0 where
   pub some : selected.from < selected.to
   pub within : selected.to ≤ length s.frames
-  pub fits : FitsFrom (window_of s.class.version) 0 (needs_laid (laid_in selected) s)
+  pub fits : FitsFromReach (window_of s.class.version) 0 (needs_laid (selected_part selected) s)
       (entries selected.plan)
-  pub info : (file : List ℕ) → HasSurvey file s
-      → IsLaidInfo (laid_in selected) file s selected.info.items
+  pub info : (file : List ℕ) → CanBeRelaid file s
+      → IsLaidInfo (selected_part selected) file s selected.info.items

@@ -6,12 +6,13 @@ use Rattle.std.specs.Prelude.{slice_index_or, Some, take, ℕ, [], ◌*◌, ◌+
 use Rattle.bit_fields.specs.Bits.{AreBytes, bits}
 use Rattle.frame_header.specs.Fields.{ClassFields, HeaderFields, IsHeader}
 use Rattle.frame_header.specs.Tables.{class_of, length_of}
-use Rattle.frame_writer.specs.{Frames.{Frame, frame_bytes, pieces}, Laid.{CanBeLaid, zeros}}
+use Rattle.frame_writer.specs.Frames.{all_frame_data, bytes_of_frames, Frame}
+use Rattle.frame_writer.specs.Laid.{CanDataBeLaid, zeros}
 use Rattle.info_header.specs.{HeadText.low_place, InfoFrame.{info_frame, info_header_of}}
 use Rattle.info_header.specs.declared.fields.Info.{Info}
 use Rattle.side_info.specs.{Side.{payload_bits, payload_bytes, SideFits}, declared.side.Side.Side}
 use Rattle.sync_survey.specs.Faults.{SurveyFields}
-use Rattle.sync_survey.specs.{MainData.{no_slot, part_lengths, parts_of, StreamFrame}, Row.Row}
+use Rattle.sync_survey.specs.{MainData.{granule_lengths, no_slot, split_bits, StreamFrame}, Row.Row}
 use Rattle.sync_survey.specs.declared.places.{Head.Head, Piece.Piece}
 use Rattle.tag_blocks.specs.{Blocks.block_front, declared.block.Block.Block}
 
@@ -22,9 +23,9 @@ abbrev pub IsBlock : List ℕ → Type 0
 IsBlock bytes = (block : Block) × (block_front bytes ≡ Some block) × (block.length ≡ length bytes)
 
 -- each of these is the bytes of a block
-abbrev pub IsBlocks : List (List ℕ) → Type 0
-IsBlocks [] = Unit {0}
-IsBlocks (b ∷ blocks) = IsBlock b × IsBlocks blocks
+abbrev pub AreBlocks : List (List ℕ) → Type 0
+AreBlocks [] = Unit {0}
+AreBlocks (b ∷ blocks) = IsBlock b × AreBlocks blocks
 
 -- the bytes of a block of a file
 abbrev pub block_bytes : List ℕ → Piece → List ℕ
@@ -40,7 +41,7 @@ pub record HasPairs (s : Side) : Type 0 where
 
 -- a frame of the class and its main data, as many bytes as its
 -- side information says, the last of them filled up with zeros
-pub record IsEntry (c : ClassFields) (f : Frame) : Type 0 where
+pub record IsStreamEntry (c : ClassFields) (f : Frame) : Type 0 where
   pub header : IsHeader f.kept.header
   pub class : class_of f.kept.header ≡ c
   pub pairs : HasPairs f.kept.side
@@ -51,16 +52,16 @@ pub record IsEntry (c : ClassFields) (f : Frame) : Type 0 where
       ≡ zeros (8 * payload_bytes f.kept.side - payload_bits f.kept.side)
 
 -- so is each of these
-abbrev pub AreEntries : ClassFields → List Frame → Type 0
-AreEntries c [] = Unit {0}
-AreEntries c (f ∷ frames) = IsEntry c f × AreEntries c frames
+abbrev pub AreStreamEntries : ClassFields → List Frame → Type 0
+AreStreamEntries c [] = Unit {0}
+AreStreamEntries c (f ∷ frames) = IsStreamEntry c f × AreStreamEntries c frames
 
 -- what such a frame is in a stream
-abbrev pub entry_of : Frame → StreamFrame
-entry_of f = record {
+abbrev pub stream_entry : Frame → StreamFrame
+stream_entry f = record {
   header = record f.kept.header { slot = no_slot };
   side = record f.kept.side { main_data_begin = 0 };
-  payload = parts_of (part_lengths f.kept.header f.kept.side)
+  payload = split_bits (granule_lengths f.kept.header f.kept.side)
       (take (payload_bits f.kept.side) (bits f.payload));
 }
 
@@ -75,20 +76,20 @@ pub record HasInfoSizes (info : Info) : Type 0 where
 -- with all main data laid into their areas, and blocks
 unfoldable pub laid_file : List (List ℕ) → HeaderFields → Info → List Frame → List (List ℕ) → List ℕ
 laid_file front first info frames back =
-    concat front ++ (info_frame first info ++ (frame_bytes frames ++ concat back))
+    concat front ++ (info_frame first info ++ (bytes_of_frames frames ++ concat back))
 
 -- there are frames; they and the Info frame are of the
 -- class, and the main data can be laid into their areas
 pub record IsLaidFile (c : ClassFields) (front : List (List ℕ)) (first : HeaderFields) (info : Info)
     (frames : List Frame) (back : List (List ℕ)) : Type 0 where
-  pub blocks_before : IsBlocks front
+  pub blocks_before : AreBlocks front
   pub header : IsHeader first
   pub class : class_of first ≡ c
   pub sizes : HasInfoSizes info
   pub some : 0 < length frames
-  pub entries : AreEntries c frames
-  pub laid : CanBeLaid (pieces frames)
-  pub blocks_behind : IsBlocks back
+  pub entries : AreStreamEntries c frames
+  pub laid : CanDataBeLaid (all_frame_data frames)
+  pub blocks_behind : AreBlocks back
 
 -- ---- what a survey tells of it
 
@@ -119,17 +120,17 @@ head_at at first = record {
 }
 
 -- where the frames after the Info frame begin
-abbrev pub frames_place : List (List ℕ) → HeaderFields → Info → ℕ
-frames_place front first info = length (concat front) + length (info_frame first info)
+abbrev pub frames_offset : List (List ℕ) → HeaderFields → Info → ℕ
+frames_offset front first info = length (concat front) + length (info_frame first info)
 
 -- There is no junk, the Info frame is the head, and
 -- the frames and blocks are those that were given.
 unfoldable pub laid_fields : List (List ℕ) → HeaderFields → Info → List Frame → List (List ℕ)
     → SurveyFields
 laid_fields front first info frames back = record {
-  frames = rows_from (frames_place front first info) frames;
+  frames = rows_from (frames_offset front first info) frames;
   blocks = blocks_from 0 front
-      ++ blocks_from (frames_place front first info + length (frame_bytes frames)) back;
+      ++ blocks_from (frames_offset front first info + length (bytes_of_frames frames)) back;
   head = Some (head_at (length (concat front)) first);
   junk = length (concat front);
   first = length (concat front);

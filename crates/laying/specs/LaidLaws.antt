@@ -3,9 +3,9 @@ use Rattle.std.specs.Prelude.{false, length, List, map, Ok, slice_get, Some, ℕ
 use Rattle.frame_header.specs.Fields.{ClassFields, HeaderFields}
 use Rattle.frame_writer.specs.Frames.{Frame}
 use Rattle.info_header.specs.declared.fields.Info.{Info}
-use Rattle.laying.specs.LaidFiles.{block_bytes, entry_of, IsBlocks, IsLaidFile, laid_fields}
-use Rattle.laying.specs.LaidFiles.{laid_file}
-use Rattle.sync_survey.specs.Faults.{HoldsStream, IsWellFormed, surveyed, SurveyFields}
+use Rattle.laying.specs.LaidFiles.{AreBlocks, block_bytes, IsLaidFile, laid_fields, laid_file}
+use Rattle.laying.specs.LaidFiles.{stream_entry}
+use Rattle.sync_survey.specs.Faults.{HoldsStream, IsWellFormed, survey_fields, SurveyFields}
 use Rattle.sync_survey.specs.{HeadApart.head_apart, Row.Row}
 
 -- such a file is well-formed, and its stream is the frames that were given
@@ -13,7 +13,7 @@ abbrev pub LaidStream : Type 0
 LaidStream =
     (c : ClassFields) (front : List (List ℕ)) (first : HeaderFields) (info : Info)
     (frames : List Frame) (back : List (List ℕ)) → IsLaidFile c front first info frames back
-    → HoldsStream (laid_file front first info frames back) (map entry_of frames)
+    → HoldsStream (laid_file front first info frames back) (map stream_entry frames)
 
 -- a survey of it that allows as many frames tells where they, the Info frame and the blocks are
 abbrev pub LaidSurvey : Type 0
@@ -21,13 +21,13 @@ LaidSurvey =
     (c : ClassFields) (front : List (List ℕ)) (first : HeaderFields) (info : Info)
     (frames : List Frame) (back : List (List ℕ)) (allowed : ℕ)
     → IsLaidFile c front first info frames back → length frames ≤ allowed
-    → surveyed (laid_file front first info frames back) allowed
+    → survey_fields (laid_file front first info frames back) allowed
     ≡ Ok (laid_fields front first info frames back)
 
 -- the bytes of each block of a file without fault are a block, and so may be in such a file
 abbrev pub SurveyedBlocks : Type 0
-SurveyedBlocks = (file : List ℕ) (allowed : ℕ) (s : SurveyFields) → surveyed file allowed ≡ Ok s
-    → IsBlocks (map (block_bytes file) s.blocks)
+SurveyedBlocks = (file : List ℕ) (allowed : ℕ) (s : SurveyFields)
+    → survey_fields file allowed ≡ Ok s → AreBlocks (map (block_bytes file) s.blocks)
 
 -- ---- no frame of it is lost
 
@@ -39,7 +39,7 @@ pub record HasNoneLost (s : SurveyFields) : Type 0 where
 -- the file is well-formed, and no frame of it is lost, whether its head is set apart or not
 pub record LosesNoFrame (file : List ℕ) : Type 0 where
   pub well_formed : IsWellFormed file
-  pub none : (allowed : ℕ) (s : SurveyFields) → surveyed file allowed ≡ Ok s → HasNoneLost s
+  pub none : (allowed : ℕ) (s : SurveyFields) → survey_fields file allowed ≡ Ok s → HasNoneLost s
 
 -- so is every such file: no main data were laid into its Info frame
 abbrev pub LaidFramesStay : Type 0

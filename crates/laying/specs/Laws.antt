@@ -2,89 +2,94 @@
 use Rattle.std.specs.Prelude.{flat_map, length, List, map, Ok, ℕ, ◌<◌, ◌≡◌, ◌≤◌}
 use Rattle.frame_header.specs.Fields.{ClassFields, HeaderFields, IsHeader, SlotFields}
 use Rattle.frame_header.specs.Tables.{class_of, window_of}
-use Rattle.frame_writer.specs.{Frames.{Frame, pieces}, Laid.CanBeLaid}
+use Rattle.frame_writer.specs.{Frames.{all_frame_data, Frame}, Laid.CanDataBeLaid}
 use Rattle.info_header.specs.declared.fields.Info.{Info}
-use Rattle.laying.specs.{Fits.{FitsFrom, IsFitting}, Laid.{file_laid, Laid, needs_laid}}
-use Rattle.laying.specs.LaidFiles.{AreEntries, entry_of, HasInfoSizes, IsBlocks, laid_file}
-use Rattle.laying.specs.{LaidLaws.LosesNoFrame, Needs.{asked_of, need_of, needs_of}}
-use Rattle.laying.specs.NeedsFit.{AreFit}
-use Rattle.laying.specs.Relaid.{AreParts, AreSlots, frames_in, IsPart, needs_in, Part, relaid}
-use Rattle.laying.specs.{Relaid.{stream_in, with_lead_ins}, Surveys.HasSurvey}
-use Rattle.laying.specs.Written.{back_blocks, front_blocks, slot_in}
-use Rattle.slot_plan.specs.{Parts.{parts_of, window_in}, Plans.IsPlan, declared.needs.Placed.Placed}
-use Rattle.sync_survey.specs.{Faults.{HoldsStream, surveyed, SurveyFields}, MainData.StreamFrame}
-use Rattle.sync_survey.specs.Row.{Row}
+use Rattle.laying.specs.Fits.{FitsFromReach, IsFittingPlan}
+use Rattle.laying.specs.Laid.{file_laid, LaidPart, needs_laid}
+use Rattle.laying.specs.LaidFiles.{AreBlocks, AreStreamEntries, HasInfoSizes, laid_file}
+use Rattle.laying.specs.{LaidFiles.stream_entry, LaidLaws.LosesNoFrame}
+use Rattle.laying.specs.{Needs.{need_of, needs_of_parts, plan_input}, NeedsFit.IsFitPlanInput}
+use Rattle.laying.specs.Relaid.{AreParts, AreSlots, FilePart, IsPart, part_frames, part_needs}
+use Rattle.laying.specs.Relaid.{part_stream, relaid_frames, stream_with_lead_ins}
+use Rattle.laying.specs.{Surveys.CanBeRelaid, Written.{back_blocks, front_blocks, slot_in}}
+use Rattle.slot_plan.specs.{Parts.{needs_in_parts, window_in}, Plans.IsPlan}
+use Rattle.slot_plan.specs.declared.needs.Placed.{Placed}
+use Rattle.sync_survey.specs.Faults.{HoldsStream, survey_fields, SurveyFields}
+use Rattle.sync_survey.specs.{MainData.StreamFrame, Row.Row}
 
 -- there are frames; they are of this class, their main data can
 -- be laid as they say, and this is what they are in a stream
-pub record AreLaidAs (c : ClassFields) (frames : List Frame)
+pub record AreFramesOfStream (c : ClassFields) (frames : List Frame)
     (stream : List StreamFrame) : Type 0 where
   pub some : 0 < length frames
-  pub entries : AreEntries c frames
-  pub fit : CanBeLaid (pieces frames)
-  pub stream_is : map entry_of frames ≡ stream
+  pub entries : AreStreamEntries c frames
+  pub fit : CanDataBeLaid (all_frame_data frames)
+  pub stream_is : map stream_entry frames ≡ stream
 
 -- the frames of parts as they were planned can be laid, and are the
 -- lead-ins and, otherwise as they were, the frames of the files' streams
 abbrev pub EntriesHold : Type 0
 EntriesHold =
-    (c : ClassFields) (choices : HeaderFields → List SlotFields) (parts : List Part)
+    (c : ClassFields) (choices : HeaderFields → List SlotFields) (parts : List FilePart)
     (placed : List Placed) → 1 ≤ length parts → AreParts c parts → AreSlots choices
-    → IsPlan (window_of c.version) choices (map needs_in parts) placed → AreLaidAs c
-    (relaid (flat_map frames_in parts) placed) (with_lead_ins placed (flat_map stream_in parts))
+    → IsPlan (window_of c.version) choices (map part_needs parts) placed → AreFramesOfStream c
+    (relaid_frames (flat_map part_frames parts) placed)
+    (stream_with_lead_ins placed (flat_map part_stream parts))
 
 -- so a file of them between blocks and after an Info frame is well-formed, and that is its stream
 abbrev pub FilesHold : Type 0
 FilesHold =
-    (c : ClassFields) (choices : HeaderFields → List SlotFields) (parts : List Part)
+    (c : ClassFields) (choices : HeaderFields → List SlotFields) (parts : List FilePart)
     (placed : List Placed) → 1 ≤ length parts → AreParts c parts → AreSlots choices
-    → IsPlan (window_of c.version) choices (map needs_in parts) placed
-    → (front : List (List ℕ)) (first : HeaderFields) (info : Info) (back : List (List ℕ))
-    → IsBlocks front → IsHeader first → class_of first ≡ c → HasInfoSizes info → IsBlocks back
-    → HoldsStream (laid_file front first info (relaid (flat_map frames_in parts) placed) back)
-    (with_lead_ins placed (flat_map stream_in parts))
+    → IsPlan (window_of c.version) choices (map part_needs parts) placed → (front : List (List ℕ))
+    (first : HeaderFields) (info : Info) (back : List (List ℕ)) → AreBlocks front → IsHeader first
+    → class_of first ≡ c → HasInfoSizes info → AreBlocks back → HoldsStream
+    (laid_file front first info (relaid_frames (flat_map part_frames parts) placed) back)
+    (stream_with_lead_ins placed (flat_map part_stream parts))
 
 -- the survey of a file without fault is one by which its frames can be laid out again
-abbrev pub SurveysAreHad : Type 0
-SurveysAreHad = (file : List ℕ) (allowed : ℕ) (s : SurveyFields) → surveyed file allowed ≡ Ok s
-    → HasSurvey file s
+abbrev pub SurveysCanBeRelaid : Type 0
+SurveysCanBeRelaid = (file : List ℕ) (allowed : ℕ) (s : SurveyFields)
+    → survey_fields file allowed ≡ Ok s → CanBeRelaid file s
 
 -- the blocks of a file that are kept may be in such a file
 abbrev pub BlocksAreKept : Type 0
-BlocksAreKept = (file : List ℕ) (s : SurveyFields) → HasSurvey file s
-    → IsBlocks (front_blocks file s) × IsBlocks (back_blocks file s)
+BlocksAreKept = (file : List ℕ) (s : SurveyFields) → CanBeRelaid file s
+    → AreBlocks (front_blocks file s) × AreBlocks (back_blocks file s)
 
 -- a plan of parts can be written frame by frame, after no frames
 abbrev pub PlansFit : Type 0
 PlansFit =
     (window : ℕ) (choices : HeaderFields → List SlotFields) (parts : List (List Row))
     (placed : List Placed) → IsPlan window choices (map (map need_of) parts) placed
-    → FitsFrom window 0 (needs_of parts) placed
+    → FitsFromReach window 0 (needs_of_parts parts) placed
 
 -- what is planned of parts put together as the planner takes them is a plan of the parts
-abbrev pub AskedPlans : Type 0
-AskedPlans =
+abbrev pub PlansAreOfParts : Type 0
+PlansAreOfParts =
     (c : ClassFields) (choices : HeaderFields → List SlotFields) (parts : List (List Row))
-    (placed : List Placed) → AreFit c (asked_of parts) → IsPlan (window_in (asked_of parts).needs)
-    choices (parts_of (asked_of parts).needs (asked_of parts).places) placed
+    (placed : List Placed) → IsFitPlanInput c (plan_input parts)
+    → IsPlan (window_in (plan_input parts).needs)
+    choices (needs_in_parts (plan_input parts).needs (plan_input parts).places) placed
     → IsPlan (window_of c.version) choices (map (map need_of) parts) placed
 
 -- a file of the frames of a part in the slots of any plan by which they can be
 -- laid is well-formed, and its stream is the lead-ins of the plan and the frames
 abbrev pub FittingFilesHold : Type 0
 FittingFilesHold =
-    (c : ClassFields) (part : Part) (placed : List Placed) → IsPart c part
-    → IsFitting (window_of c.version) (needs_in part) placed → (front : List (List ℕ))
-    (first : HeaderFields) (info : Info) (back : List (List ℕ)) → IsBlocks front → IsHeader first
-    → class_of first ≡ c → HasInfoSizes info → IsBlocks back → HoldsStream (laid_file front first
-    info (relaid (frames_in part) placed) back) (with_lead_ins placed (stream_in part))
+    (c : ClassFields) (part : FilePart) (placed : List Placed) → IsPart c part
+    → IsFittingPlan (window_of c.version) (part_needs part) placed → (front : List (List ℕ))
+    (first : HeaderFields) (info : Info) (back : List (List ℕ)) → AreBlocks front → IsHeader first
+    → class_of first ≡ c → HasInfoSizes info → AreBlocks back → HoldsStream (laid_file front first
+    info (relaid_frames (part_frames part) placed) back)
+    (stream_with_lead_ins placed (part_stream part))
 
 -- they are in the slots of the plan, one for each
 abbrev pub FittingSlots : Type 0
 FittingSlots =
-    (c : ClassFields) (part : Part) (placed : List Placed) → IsPart c part
-    → IsFitting (window_of c.version) (needs_in part) placed
-    → map slot_in (relaid (frames_in part) placed) ≡ map (λ (p : Placed). p.slot) placed
+    (c : ClassFields) (part : FilePart) (placed : List Placed) → IsPart c part
+    → IsFittingPlan (window_of c.version) (part_needs part) placed
+    → map slot_in (relaid_frames (part_frames part) placed) ≡ map (λ (p : Placed). p.slot) placed
 
 -- ---- no frame of them is lost
 
@@ -92,17 +97,17 @@ FittingSlots =
 -- head is set apart or not, in whatever slots they can be laid
 abbrev pub ChosenFramesStay : Type 0
 ChosenFramesStay =
-    (laid : Laid) (file : List ℕ) (s : SurveyFields) → HasSurvey file s → laid.from < laid.to
+    (laid : LaidPart) (file : List ℕ) (s : SurveyFields) → CanBeRelaid file s → laid.from < laid.to
     → laid.to ≤ length s.frames → length laid.extension ≡ 36
-    → IsFitting (window_of s.class.version) (needs_laid laid s) laid.placed
+    → IsFittingPlan (window_of s.class.version) (needs_laid laid s) laid.placed
     → LosesNoFrame (file_laid laid file s)
 
 -- nor is any frame of a file of parts as they were planned
 abbrev pub PlannedFramesStay : Type 0
 PlannedFramesStay =
-    (c : ClassFields) (choices : HeaderFields → List SlotFields) (parts : List Part)
+    (c : ClassFields) (choices : HeaderFields → List SlotFields) (parts : List FilePart)
     (placed : List Placed) → 1 ≤ length parts → AreParts c parts → AreSlots choices
-    → IsPlan (window_of c.version) choices (map needs_in parts) placed
-    → (front : List (List ℕ)) (first : HeaderFields) (info : Info) (back : List (List ℕ))
-    → IsBlocks front → IsHeader first → class_of first ≡ c → HasInfoSizes info → IsBlocks back
-    → LosesNoFrame (laid_file front first info (relaid (flat_map frames_in parts) placed) back)
+    → IsPlan (window_of c.version) choices (map part_needs parts) placed → (front : List (List ℕ))
+    (first : HeaderFields) (info : Info) (back : List (List ℕ)) → AreBlocks front → IsHeader first
+    → class_of first ≡ c → HasInfoSizes info → AreBlocks back → LosesNoFrame
+    (laid_file front first info (relaid_frames (flat_map part_frames parts) placed) back)

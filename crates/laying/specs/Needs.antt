@@ -11,24 +11,24 @@ abbrev pub need_of : Row → Need
 need_of r = record { header = r.header; bytes = if r.lost then 0 else payload_bytes r.side }
 
 -- a frame isn't lost, and its header is this but for slot and mode extension
-pub record IsUsual (h : HeaderFields) (r : Row) : Type 0 where
+pub record IsUsualFrame (h : HeaderFields) (r : Row) : Type 0 where
   pub like : r.header ≡ header_like h r.header
   pub here : r.lost ≡ false
 
 -- the frames of several parts, one part after the other
-unfoldable pub needs_of : List (List Row) → List Need
-needs_of parts = flat_map (map need_of) parts
+unfoldable pub needs_of_parts : List (List Row) → List Need
+needs_of_parts parts = flat_map (map need_of) parts
 
 -- the place of each part's first frame, if so many frames are before all of them
-unfoldable pub places_from : ℕ → List (List Row) → List ℕ
-places_from at [] = []
-places_from at (rows ∷ parts) = at ∷ places_from (at + length rows) parts
+unfoldable pub part_places : ℕ → List (List Row) → List ℕ
+part_places at [] = []
+part_places at (rows ∷ parts) = at ∷ part_places (at + length rows) parts
 
 -- what the planner is given: the frames of all parts, and the place of each part's first frame
-pub record Asked : Type 0 where
+pub record PlanInput : Type 0 where
   pub needs : List Need
   pub places : List ℕ
 
 -- what the planner is given for these parts
-abbrev pub asked_of : List (List Row) → Asked
-asked_of parts = record { needs = needs_of parts; places = places_from 0 parts }
+abbrev pub plan_input : List (List Row) → PlanInput
+plan_input parts = record { needs = needs_of_parts parts; places = part_places 0 parts }

@@ -1,20 +1,20 @@
 -- What calls of parts answer and leave.
 use Rattle.std.specs.Prelude.{length, List, OnErr, OnOk, Result, Vec, vec_capacity, vec_len, []}
 use Rattle.std.specs.Prelude.{◌++◌, ◌+◌, ◌∷◌, ◌≡◌}
-use Rattle.laying.specs.Needs.{Asked, asked_of}
+use Rattle.laying.specs.Needs.{plan_input, PlanInput}
 use Rattle.sync_survey.specs.Row.{Row}
 
 -- A part was added, or there was no memory and all is as it was.
-pub record PushAnswer {E : Type 0} (rows : List Row) (old new : Asked)
+pub record PushPartAnswer {E : Type 0} (rows : List Row) (old new : PlanInput)
     (result : Result (Unit {0}) E) : Type 0 where
-  pub added : (parts : List (List Row)) → old ≡ asked_of parts
-      → OnOk result (new ≡ asked_of (parts ++ rows ∷ []))
+  pub added : (parts : List (List Row)) → old ≡ plan_input parts
+      → OnOk result (new ≡ plan_input (parts ++ rows ∷ []))
   pub needs : OnOk result (length new.needs ≡ length old.needs + length rows)
   pub places : OnOk result (length new.places ≡ length old.places + 1)
   pub stays : OnErr result (new ≡ old)
 
 -- One item was added, in the room that was there.
-pub record IsPushed {X Z : Type 0} (old new : Vec X Z) (x : X) : Type 0 where
+pub record IsItemPushed {X Z : Type 0} (old new : Vec X Z) (x : X) : Type 0 where
   pub pushed : new.items ≡ old.items ++ x ∷ []
   pub len : vec_len new ≡ vec_len old + 1
   pub capacity : vec_capacity new ≡ vec_capacity old

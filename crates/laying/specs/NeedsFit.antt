@@ -2,23 +2,23 @@
 use Rattle.std.specs.Prelude.{All, length, List, slice_range, ℕ, [], ◌<◌, ◌∷◌, ◌≡◌, ◌≤◌}
 use Rattle.frame_header.specs.{Fields.{ClassFields, HeaderFields, SlotFields}, Slots.all_slots}
 use Rattle.frame_header.specs.Tables.{window_of}
-use Rattle.laying.specs.Needs.{Asked}
-use Rattle.slot_plan.specs.Laws.{ChooseInOrder}
-use Rattle.slot_plan.specs.Parts.{AreOfClass, CanBePlanned, parts_of, window_in}
+use Rattle.laying.specs.Needs.{PlanInput}
+use Rattle.slot_plan.specs.Laws.{PartsChooseInOrder}
+use Rattle.slot_plan.specs.Parts.{AreNeedsOfClass, CanBePlanned, needs_in_parts, window_in}
 use Rattle.sync_survey.specs.{Faults.SurveyFields, Row.Row, Survey.AreWellPlaced}
 
 -- the frames of this survey are of its class, and their main data have no fault
 -- (`surveys_are_placed` says so of every well-formed file, and the clause `laid` of every survey of
 -- a folder)
-abbrev pub IsPlaced : SurveyFields → Type 0
-IsPlaced s = AreWellPlaced s.head s.class s.frames
+abbrev pub IsPlacedSurvey : SurveyFields → Type 0
+IsPlacedSurvey s = AreWellPlaced s.head s.class s.frames
 
 -- frames of a stream of this class, from one on and before another; there is at least one
 pub record IsPartOf (class : ClassFields) (rows : List Row) : Type 0 where
   pub survey : SurveyFields
   pub from : ℕ
   pub to : ℕ
-  pub placed : IsPlaced survey
+  pub placed : IsPlacedSurvey survey
   pub same : survey.class ≡ class
   pub some : from < to
   pub within : to ≤ length survey.frames
@@ -34,10 +34,10 @@ any_choice h = all_slots
 
 -- parts can be planned, all frames are of this class, also part
 -- by part, and their choices are in order by either policy
-pub record AreFit (class : ClassFields) (asked : Asked) : Type 0 where
-  pub all : AreOfClass class asked.needs
-  pub each : All (λ part. AreOfClass class part) (parts_of asked.needs asked.places)
-  pub kept : ChooseInOrder own_choice (parts_of asked.needs asked.places)
-  pub least : ChooseInOrder any_choice (parts_of asked.needs asked.places)
+pub record IsFitPlanInput (class : ClassFields) (asked : PlanInput) : Type 0 where
+  pub all : AreNeedsOfClass class asked.needs
+  pub each : All (λ part. AreNeedsOfClass class part) (needs_in_parts asked.needs asked.places)
+  pub kept : PartsChooseInOrder own_choice (needs_in_parts asked.needs asked.places)
+  pub least : PartsChooseInOrder any_choice (needs_in_parts asked.needs asked.places)
   pub window : window_in asked.needs ≡ window_of class.version
   pub planned : CanBePlanned asked.needs asked.places

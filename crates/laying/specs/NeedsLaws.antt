@@ -1,8 +1,9 @@
 -- That parts of streams can be planned.
 use Rattle.std.specs.Prelude.{All, length, List, map, slice_range, ℕ, [], ◌<◌, ◌∷◌, ◌≤◌}
 use Rattle.frame_header.specs.{Fields.ClassFields, Tables.window_of}
-use Rattle.laying.specs.{Needs.{asked_of, need_of}, NeedsFit.{AreFit, IsPartOf, IsPlaced}}
-use Rattle.slot_plan.specs.{Layouts.IsFeasible, Parts.{AreOfClass, own_frame}}
+use Rattle.laying.specs.Needs.{need_of, plan_input}
+use Rattle.laying.specs.NeedsFit.{IsFitPlanInput, IsPartOf, IsPlacedSurvey}
+use Rattle.slot_plan.specs.{Layouts.HasLayout, Parts.{AreNeedsOfClass, own_frame}}
 use Rattle.slot_plan.specs.declared.needs.Need.{Need}
 use Rattle.sync_survey.specs.{Faults.SurveyFields, Row.Row}
 
@@ -14,18 +15,18 @@ needs_between s from to = map need_of (slice_range s.frames from to)
 -- layout in its own slots after a whole window of free bytes
 abbrev pub PartFits : Type 0
 PartFits =
-    (s : SurveyFields) (from to : ℕ) → IsPlaced s
-    → AreOfClass s.class (needs_between s from to)
-    × IsFeasible (window_of s.class.version) (window_of s.class.version)
+    (s : SurveyFields) (from to : ℕ) → IsPlacedSurvey s
+    → AreNeedsOfClass s.class (needs_between s from to)
+    × HasLayout (window_of s.class.version) (window_of s.class.version)
     (map own_frame (needs_between s from to))
 
 -- a part with a frame can be planned
 abbrev pub OnePartFits : Type 0
 OnePartFits =
-    (s : SurveyFields) (from to : ℕ) → IsPlaced s → from < to → to ≤ length s.frames
-    → AreFit s.class (asked_of (slice_range s.frames from to ∷ []))
+    (s : SurveyFields) (from to : ℕ) → IsPlacedSurvey s → from < to → to ≤ length s.frames
+    → IsFitPlanInput s.class (plan_input (slice_range s.frames from to ∷ []))
 
 -- so can parts of one class, one after the other
 abbrev pub PartsFit : Type 0
 PartsFit = (class : ClassFields) (parts : List (List Row)) → 1 ≤ length parts
-    → All (IsPartOf class) parts → AreFit class (asked_of parts)
+    → All (IsPartOf class) parts → IsFitPlanInput class (plan_input parts)

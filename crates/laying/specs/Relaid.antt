@@ -6,77 +6,77 @@ use Rattle.std.specs.Prelude.{true, ℕ, [], ◌*◌, ◌++◌, ◌+◌, ◌-◌
 use Rattle.bit_fields.specs.Bits.{bytes}
 use Rattle.frame_header.specs.Fields.{ClassFields, HeaderFields, IsHeader, IsSlot, SlotFields}
 use Rattle.frame_writer.specs.{Frames.Frame, Laid.zeros}
-use Rattle.laying.specs.{Needs.need_of, Surveys.HasSurvey}
+use Rattle.laying.specs.{Needs.need_of, Surveys.CanBeRelaid}
 use Rattle.side_info.specs.Side.{no_side}
 use Rattle.slot_plan.specs.declared.needs.{Need.Need, Placed.Placed}
 use Rattle.sync_survey.specs.Faults.{stream_of_survey, SurveyFields}
-use Rattle.sync_survey.specs.MainData.{main_bytes, part_lengths, parts_of, payload_at, place}
-use Rattle.sync_survey.specs.{MainData.{side_of, start_of_data, StreamFrame}, Row.Row}
+use Rattle.sync_survey.specs.MainData.{granule_lengths, main_bytes, payload_at, place, row_side}
+use Rattle.sync_survey.specs.{MainData.{split_bits, start_of_data, StreamFrame}, Row.Row}
 
 -- ---- the frames of a surveyed file
 
 -- as few bytes as hold these bits, the unused low bits of the last 0
-abbrev pub packed : List ℕ → List ℕ
-packed bs = bytes (bs ++ zeros (8 * ((length bs + 7) / 8) - length bs))
+abbrev pub packed_bytes : List ℕ → List ℕ
+packed_bytes bs = bytes (bs ++ zeros (8 * ((length bs + 7) / 8) - length bs))
 
 -- the bytes of the main data of frame i; a lost frame has none
 abbrev pub payload_of : List ℕ → SurveyFields → ℕ → Row → List ℕ
-payload_of file s i r = packed (payload_at (main_bytes file s.head s.frames)
-    (start_of_data (place s.head s.frames i) r) (side_of r))
+payload_of file s i r = packed_bytes (payload_at (main_bytes file s.head s.frames)
+    (start_of_data (place s.head s.frames i) r) (row_side r))
 
 -- frame i with its main data, in as few bytes as hold them; a lost frame is an empty one
-abbrev pub frame_of : List ℕ → SurveyFields → ℕ → Row → Frame
-frame_of file s i r = record {
-  kept = record { header = r.header; side = side_of r };
+abbrev pub survey_frame : List ℕ → SurveyFields → ℕ → Row → Frame
+survey_frame file s i r = record {
+  kept = record { header = r.header; side = row_side r };
   payload = payload_of file s i r;
 }
 
 -- all frames
 unfoldable pub all_frames : List ℕ → SurveyFields → List Frame
-all_frames file s = map (λ (p : ℕ × Row). frame_of file s p.0 p.1) (enumerate_from 0 s.frames)
+all_frames file s = map (λ (p : ℕ × Row). survey_frame file s p.0 p.1) (enumerate_from 0 s.frames)
 
 -- ---- the frames that are chosen
 
 -- the frames of a surveyed file from one up to, but not including, another
-pub record Part : Type 0 where
+pub record FilePart : Type 0 where
   pub file : List ℕ
   pub survey : SurveyFields
   pub from : ℕ
   pub to : ℕ
 
 -- the frames of a part, as the survey tells of them
-abbrev pub rows_in : Part → List Row
-rows_in p = slice_range p.survey.frames p.from p.to
+abbrev pub part_rows : FilePart → List Row
+part_rows p = slice_range p.survey.frames p.from p.to
 
 -- the frames of a part, with their main data
-abbrev pub frames_in : Part → List Frame
-frames_in p = slice_range (all_frames p.file p.survey) p.from p.to
+abbrev pub part_frames : FilePart → List Frame
+part_frames p = slice_range (all_frames p.file p.survey) p.from p.to
 
 -- what they are in the stream of the file
-abbrev pub stream_in : Part → List StreamFrame
-stream_in p = slice_range (stream_of_survey p.file p.survey) p.from p.to
+abbrev pub part_stream : FilePart → List StreamFrame
+part_stream p = slice_range (stream_of_survey p.file p.survey) p.from p.to
 
 -- the file has this survey, the frames are of this class, and the part has a frame
-pub record IsPart (c : ClassFields) (p : Part) : Type 0 where
-  pub has : HasSurvey p.file p.survey
+pub record IsPart (c : ClassFields) (p : FilePart) : Type 0 where
+  pub has : CanBeRelaid p.file p.survey
   pub class : p.survey.class ≡ c
   pub some : p.from < p.to
   pub within : p.to ≤ length p.survey.frames
 
 -- so is each of these
-abbrev pub AreParts : ClassFields → List Part → Type 0
+abbrev pub AreParts : ClassFields → List FilePart → Type 0
 AreParts c [] = Unit {0}
 AreParts c (p ∷ parts) = IsPart c p × AreParts c parts
 
 -- what a plan is given for them
-abbrev pub needs_in : Part → List Need
-needs_in p = map need_of (rows_in p)
+abbrev pub part_needs : FilePart → List Need
+part_needs p = map need_of (part_rows p)
 
 -- ---- the same frames as they were planned
 
 -- a frame in its slot, with its main_data_begin
-abbrev pub moved_to : Placed → Frame → Frame
-moved_to p f = record {
+abbrev pub frame_with_place : Placed → Frame → Frame
+frame_with_place p f = record {
   kept = record {
     header = record f.kept.header { slot = p.slot };
     side = record f.kept.side { main_data_begin = p.begin };
@@ -95,41 +95,42 @@ lead_in_before p h = record {
 }
 
 -- a lead-in with its place in the plan, before this frame
-abbrev pub lead_in_to : Placed → Frame → Frame
-lead_in_to p behind = lead_in_before p behind.kept.header
+abbrev pub lead_in_with_place : Placed → Frame → Frame
+lead_in_with_place p behind = lead_in_before p behind.kept.header
 
 -- what is at a place of the plan: the lead-in before a frame, or the frame
-abbrev pub placed_as : Placed → Frame → Frame
-placed_as p f = if p.lead_in then lead_in_to p f else moved_to p f
+abbrev pub planned_frame : Placed → Frame → Frame
+planned_frame p f = if p.lead_in then lead_in_with_place p f else frame_with_place p f
 
 -- after a lead-in all frames are left, after a frame the others
-abbrev pub left_behind : {X : Type 0} → Bool → X → List X → List X
-left_behind true x xs = x ∷ xs
-left_behind false x xs = xs
+abbrev pub rest_behind : {X : Type 0} → Bool → X → List X → List X
+rest_behind true x xs = x ∷ xs
+rest_behind false x xs = xs
 
 -- the lead-ins and frames of a plan, in order
-unfoldable pub relaid : List Frame → List Placed → List Frame
-relaid [] placed = []
-relaid (f ∷ frames) [] = []
-relaid (f ∷ frames) (p ∷ placed) = placed_as p f ∷ relaid (left_behind p.lead_in f frames) placed
+unfoldable pub relaid_frames : List Frame → List Placed → List Frame
+relaid_frames [] placed = []
+relaid_frames (f ∷ frames) [] = []
+relaid_frames (f ∷ frames) (p ∷ placed) =
+    planned_frame p f ∷ relaid_frames (rest_behind p.lead_in f frames) placed
 
 -- ---- their stream
 
 -- a lead-in as a frame of a stream, by the frame after it: all
 -- fields of its side information are 0, and it has no main data
-abbrev pub silent_before : StreamFrame → StreamFrame
-silent_before behind = record {
+abbrev pub silent_lead_in : StreamFrame → StreamFrame
+silent_lead_in behind = record {
   header = record behind.header { protected = false };
   side = no_side;
-  payload = parts_of (part_lengths behind.header no_side) [];
+  payload = split_bits (granule_lengths behind.header no_side) [];
 }
 
 -- the frames of a stream with the lead-ins of a plan, and otherwise as they are
-unfoldable pub with_lead_ins : List Placed → List StreamFrame → List StreamFrame
-with_lead_ins placed [] = []
-with_lead_ins [] (f ∷ stream) = []
-with_lead_ins (p ∷ placed) (f ∷ stream) = (if p.lead_in then silent_before f else f)
-    ∷ with_lead_ins placed (left_behind p.lead_in f stream)
+unfoldable pub stream_with_lead_ins : List Placed → List StreamFrame → List StreamFrame
+stream_with_lead_ins placed [] = []
+stream_with_lead_ins [] (f ∷ stream) = []
+stream_with_lead_ins (p ∷ placed) (f ∷ stream) = (if p.lead_in then silent_lead_in f else f)
+    ∷ stream_with_lead_ins placed (rest_behind p.lead_in f stream)
 
 -- the slots among which frames choose are slots
 abbrev pub AreSlots : (HeaderFields → List SlotFields) → Type 0

@@ -1,26 +1,26 @@
 -- What laying frames out again asks of the survey of a file: that its frames
 -- and blocks are whole in the file, and that the main data of each frame are
 -- within the areas. The survey of a file without fault is such a one
--- (`SurveysAreHad`), and so is that of what can be read of a damaged file.
+-- (`SurveysCanBeRelaid`), and so is that of what can be read of a damaged file.
 use Rattle.std.specs.Prelude.{length, List, map, None, Option, Some, ℕ, [], ◌+◌, ◌∷◌, ◌≡◌, ◌≤◌}
 use Rattle.frame_header.specs.{Fields.{HeaderFields, IsHeader}, Tables.{class_of, length_of}}
-use Rattle.laying.specs.LaidFiles.{block_bytes, HasPairs, IsBlocks}
+use Rattle.laying.specs.LaidFiles.{AreBlocks, block_bytes, HasPairs}
 use Rattle.sync_survey.specs.{Faults.SurveyFields, Row.Row, Survey.AreWellPlaced}
 use Rattle.sync_survey.specs.declared.places.Head.{Head}
 
 -- a frame with this header is whole in the file at the offset
-pub record IsWholeAt (file : List ℕ) (offset : ℕ) (h : HeaderFields) : Type 0 where
+pub record IsWholeFrameAt (file : List ℕ) (offset : ℕ) (h : HeaderFields) : Type 0 where
   pub header : IsHeader h
   pub within : offset + length_of (class_of h) h.slot ≤ length file
 
 -- so is the head
 abbrev pub HasWholeHead : List ℕ → Option Head → Type 0
 HasWholeHead file None = Unit {0}
-HasWholeHead file (Some head) = IsWholeAt file head.offset head.header
+HasWholeHead file (Some head) = IsWholeFrameAt file head.offset head.header
 
 -- so is a frame
 pub record IsWholeRow (file : List ℕ) (r : Row) : Type 0 where
-  pub frame : IsWholeAt file r.offset r.header
+  pub frame : IsWholeFrameAt file r.offset r.header
   pub pairs : HasPairs r.side
 
 -- so is each frame
@@ -30,9 +30,9 @@ AreWholeRows file (r ∷ rows) = IsWholeRow file r × AreWholeRows file rows
 
 -- The length is the file's; the head, the frames and the blocks are whole in it; and the frames
 -- are of one class, their side fields are within their bits, and their main data have no fault.
-pub record HasSurvey (file : List ℕ) (s : SurveyFields) : Type 0 where
+pub record CanBeRelaid (file : List ℕ) (s : SurveyFields) : Type 0 where
   pub long : length file ≡ s.length
   pub head : HasWholeHead file s.head
   pub rows : AreWholeRows file s.frames
   pub placed : AreWellPlaced s.head s.class s.frames
-  pub blocks : IsBlocks (map (block_bytes file) s.blocks)
+  pub blocks : AreBlocks (map (block_bytes file) s.blocks)

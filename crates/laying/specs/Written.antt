@@ -5,9 +5,8 @@ use Rattle.std.specs.Prelude.{Bool, drop, false, filter, length, List, map, nat_
 use Rattle.std.specs.Prelude.{Option, replicate, Some, take, true, ℕ, [], ◌&&◌, ◌*◌, ◌+◌, ◌/◌}
 use Rattle.frame_header.specs.{Fields.{ClassFields, SlotFields}, Tables.{class_of, length_of}}
 use Rattle.frame_writer.specs.Frames.{Frame}
-use Rattle.info_header.specs.Info.{entry_of, info_in}
-use Rattle.info_header.specs.Over.{all_bytes, bytes_of, has_one_rate, info_length}
-use Rattle.info_header.specs.declared.fields.Info.{Info}
+use Rattle.info_header.specs.FileInfo.{all_bytes, frames_length, has_one_rate, info_length}
+use Rattle.info_header.specs.{Info.{info_in, seek_table_entry}, declared.fields.Info.Info}
 use Rattle.laying.specs.LaidFiles.{block_bytes}
 use Rattle.sync_survey.specs.{Faults.SurveyFields, declared.places.{Head.Head, Piece.Piece}}
 use Rattle.tag_blocks.specs.declared.block.Kind.{Kind, TheVariants.Id3v2}
@@ -15,13 +14,13 @@ use Rattle.tag_blocks.specs.declared.block.Kind.{Kind, TheVariants.Id3v2}
 -- ---- blocks
 
 -- a block of this kind is an ID3v2 block
-abbrev pub is_id3v2 : Kind → Bool
-is_id3v2 Id3v2 = true
-is_id3v2 _ = false
+abbrev pub is_id3v2_kind : Kind → Bool
+is_id3v2_kind Id3v2 = true
+is_id3v2_kind _ = false
 
 -- an ID3v2 block that is before the first frame or the head
 abbrev pub goes_in_front : SurveyFields → Piece → Bool
-goes_in_front s p = is_id3v2 p.block.kind && nat_lt p.offset s.first
+goes_in_front s p = is_id3v2_kind p.block.kind && nat_lt p.offset s.first
 
 -- the bytes of these
 abbrev pub front_blocks : List ℕ → SurveyFields → List (List ℕ)
@@ -39,8 +38,8 @@ slot_in f = f.kept.header.slot
 
 -- entry i of the seek table of an Info frame before these frames
 abbrev pub table_entry : ClassFields → List Frame → ℕ → ℕ
-table_entry c frames i = entry_of (info_length c
-    + bytes_of c slot_in (take (i * length frames / 100) frames)) (all_bytes c slot_in frames)
+table_entry c frames i = seek_table_entry (info_length c
+    + frames_length c slot_in (take (i * length frames / 100) frames)) (all_bytes c slot_in frames)
 
 -- the fields of the Info frame before these frames, with this quality and extension
 abbrev pub info_for : ClassFields → List Frame → Option ℕ → List ℕ → Info

@@ -1,11 +1,11 @@
 //! The blocks of a surveyed input, copied through the buffer of an output.
 ghost use Rattle.std.specs.Prelude.{◌≡◌, ◌+◌, ◌≤◌, [], ◌∷◌, IfErr, OnOk};
-ghost use Rattle.outside.specs.Pass.{Writes, WritesPrefix, route_of, HasPassCause};
-ghost use Rattle.sync_survey.specs.Faults.{tells};
-ghost use Rattle.laying.specs.Written.{goes_in_front as goes_in_front_lem};
+ghost use Rattle.outside.specs.Pass.{WritesMadeBytes, WritesPrefix, route_of, HasPassCause};
+ghost use Rattle.sync_survey.specs.Faults.{survey_view};
+ghost use Rattle.laying.specs.Written.{goes_in_front};
 ghost use Rattle.laying.specs.Copying.{chosen_bytes};
-ghost use Rattle.laying.specs.Calls.{AddsMade};
-ghost use Rattle.laying.specs.Passing.{IsReady};
+ghost use Rattle.laying.specs.Calls.{AddMadeAnswer};
+ghost use Rattle.laying.specs.Passing.{IsRelayReady};
 
 use crate::relay::Relay;
 use outside::{Feed, Folder, PassFault, WriteBuffer};
@@ -15,7 +15,7 @@ use tag_blocks::Kind;
 impl<'a> Relay<'a> {
     /// Whether a block goes before the frames: it is an ID3v2 block before the first frame or the head.
     fn goes_in_front(&self, block: &Piece) -> bool
-        ensures { result ≡ goes_in_front_lem (tells self.now.survey.now) block.now }
+        ensures { result ≡ goes_in_front (survey_view self.now.survey.now) block.now }
     {
         block.block.kind == Kind::Id3v2 && block.offset < self.survey.first()
     }
@@ -33,10 +33,10 @@ impl<'a> Relay<'a> {
         feed: &mut Feed,
         waiting: &mut WriteBuffer,
     ) -> Result<(), PassFault>
-        requires ready { IsReady self.now (D.seen folder.old).files feed.old }
+        requires ready { IsRelayReady self.now (D.seen folder.old).files feed.old }
         requires within { block.now.offset + block.now.block.length
-            ≤ (tells self.now.survey.now).length }
-        ensures { AddsMade self.now (chosen_bytes in_front (tells self.now.survey.now)
+            ≤ (survey_view self.now.survey.now).length }
+        ensures { AddMadeAnswer self.now (chosen_bytes in_front (survey_view self.now.survey.now)
             (block.now ∷ [])) waiting.old waiting.new feed.new (D.seen folder.old)
             (D.seen folder.new) result }
     {
@@ -60,9 +60,9 @@ impl<'a> Relay<'a> {
         feed: &mut Feed,
         waiting: &mut WriteBuffer,
     ) -> Result<(), PassFault>
-        requires ready { IsReady self.now (D.seen folder.old).files feed.old }
-        ensures { AddsMade self.now (chosen_bytes in_front (tells self.now.survey.now)
-            (tells self.now.survey.now).blocks) waiting.old waiting.new feed.new (D.seen folder.old)
+        requires ready { IsRelayReady self.now (D.seen folder.old).files feed.old }
+        ensures { AddMadeAnswer self.now (chosen_bytes in_front (survey_view self.now.survey.now)
+            (survey_view self.now.survey.now).blocks) waiting.old waiting.new feed.new (D.seen folder.old)
             (D.seen folder.new) result }
     {
         for block in self.survey.blocks() {

@@ -1,6 +1,6 @@
 //! All memory of a pass that lays frames out again.
 ghost use Rattle.std.specs.Prelude.{IfOk};
-ghost use Rattle.laying.specs.Passing.{IsFresh};
+ghost use Rattle.laying.specs.Passing.{IsRelayFresh};
 
 use frame_header::Class;
 use frame_writer::FrameQueue;
@@ -12,22 +12,22 @@ use std::alloc::{AllocError, Global};
 /// reach, the frames that wait, and the bytes that wait for the output. It is taken before the first output
 /// is created, and serves for all.
 #[derive(Drop)]
-pub struct Buffers {
+pub struct RelayBuffers {
     pub feed: Feed,
     pub window: Window,
     pub writer: FrameQueue,
     pub waiting: WriteBuffer,
 }
 
-impl Buffers {
+impl RelayBuffers {
     /// Buffers that hold nothing, for frames of this class. They take all their memory here.
     ///
     /// # Errors
     /// Where there is no memory.
-    pub fn new(alloc: Global, class: Class) -> Result<Buffers, AllocError>
-        ensures { IfOk result (IsFresh class) }
+    pub fn new(alloc: Global, class: Class) -> Result<RelayBuffers, AllocError>
+        ensures { IfOk result (IsRelayFresh class) }
     {
-        Ok(Buffers {
+        Ok(RelayBuffers {
             feed: Feed::new(alloc)?,
             waiting: WriteBuffer::new(alloc)?,
             window: Window::new(alloc)?,

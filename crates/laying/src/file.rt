@@ -1,16 +1,16 @@
 //! A whole file of frames of one input.
 ghost use Rattle.std.specs.Prelude.{◌≡◌, ◌++◌, [], IfErr, OnOk, OnErr};
-ghost use Rattle.outside.specs.Files.{IsThere};
-ghost use Rattle.outside.specs.Passed.{PassedOn, AppendedPrefix};
+ghost use Rattle.outside.specs.Files.{IsFileThere};
+ghost use Rattle.outside.specs.BufferOutput.{AppendsWaiting, AppendedPrefix};
 ghost use Rattle.std.specs.List.{concat};
-ghost use Rattle.outside.specs.Pass.{Writes, WritesPrefix, Appends, AppendsPrefix, route_of, HasPassCause};
-ghost use Rattle.sync_survey.specs.Faults.{tells};
+ghost use Rattle.outside.specs.Pass.{WritesMadeBytes, WritesPrefix, AppendsMadeBytes, AppendsPrefix, route_of, HasPassCause};
+ghost use Rattle.sync_survey.specs.Faults.{survey_view};
 ghost use Rattle.laying.specs.Written.{front_blocks};
-ghost use Rattle.laying.specs.Calls.{HandsOn, AddsMade, AppendsMade};
-ghost use Rattle.laying.specs.Passing.{IsReady};
-ghost use Rattle.laying.specs.Laid.{laid_in, file_laid, selected_front, IsWritable};
+ghost use Rattle.laying.specs.Calls.{ForwardAnswer, AddMadeAnswer, AppendMadeAnswer};
+ghost use Rattle.laying.specs.Passing.{IsRelayReady};
+ghost use Rattle.laying.specs.Laid.{selected_part, file_laid, selected_front, IsWritableSelection};
 
-use crate::buffers::Buffers;
+use crate::buffers::RelayBuffers;
 use crate::relay::Relay;
 use crate::selected::Selected;
 use outside::{Feed, Folder, PassFault, WriteBuffer};
@@ -26,8 +26,8 @@ impl<'a> Relay<'a> {
         bytes: &[u8],
         waiting: &mut WriteBuffer,
     ) -> Result<(), PassFault>
-        requires { IsThere (D.seen folder.old).files self.now.pass.output.now }
-        ensures hands { HandsOn self.now (waiting.old ++ bytes.now) waiting.new (D.seen folder.old)
+        requires { IsFileThere (D.seen folder.old).files self.now.pass.output.now }
+        ensures hands { ForwardAnswer self.now (waiting.old ++ bytes.now) waiting.new (D.seen folder.old)
             (D.seen folder.new) result }
         ensures none { OnOk result (waiting.new ≡ []) }
     {
@@ -47,9 +47,9 @@ impl<'a> Relay<'a> {
         feed: &mut Feed,
         waiting: &mut WriteBuffer,
     ) -> Result<(), PassFault>
-        requires ready { IsReady self.now (D.seen folder.old).files feed.old }
-        ensures adds { AddsMade self.now (λ file. concat
-            (front_blocks file (tells self.now.survey.now)) ++ info.now) waiting.old waiting.new
+        requires ready { IsRelayReady self.now (D.seen folder.old).files feed.old }
+        ensures adds { AddMadeAnswer self.now (λ file. concat
+            (front_blocks file (survey_view self.now.survey.now)) ++ info.now) waiting.old waiting.new
             feed.new (D.seen folder.old) (D.seen folder.new) result }
         ensures none { OnOk result (waiting.new ≡ []) }
     {
@@ -65,11 +65,11 @@ impl<'a> Relay<'a> {
         &self,
         folder: &mut D,
         selected: &Selected,
-        buffers: &mut Buffers,
+        buffers: &mut RelayBuffers,
     ) -> Result<(), PassFault>
-        requires ready { IsReady self.now (D.seen folder.old).files buffers.old.feed }
-        requires writable { IsWritable (tells self.now.survey.now) selected.now }
-        ensures { AddsMade self.now (selected_front (tells self.now.survey.now) selected.now)
+        requires ready { IsRelayReady self.now (D.seen folder.old).files buffers.old.feed }
+        requires writable { IsWritableSelection (survey_view self.now.survey.now) selected.now }
+        ensures { AddMadeAnswer self.now (selected_front (survey_view self.now.survey.now) selected.now)
             buffers.old.waiting buffers.new.waiting buffers.new.feed (D.seen folder.old)
             (D.seen folder.new) result }
     {
@@ -96,13 +96,13 @@ impl<'a> Relay<'a> {
         &self,
         folder: &mut D,
         selected: &Selected,
-        buffers: &mut Buffers,
+        buffers: &mut RelayBuffers,
     ) -> Result<(), PassFault>
-        requires ready { IsReady self.now (D.seen folder.old).files buffers.old.feed }
-        requires writable { IsWritable (tells self.now.survey.now) selected.now }
+        requires ready { IsRelayReady self.now (D.seen folder.old).files buffers.old.feed }
+        requires writable { IsWritableSelection (survey_view self.now.survey.now) selected.now }
         requires none { buffers.old.waiting ≡ [] }
-        ensures { AppendsMade self.now
-            (λ file. file_laid (laid_in selected.now) file (tells self.now.survey.now))
+        ensures { AppendMadeAnswer self.now
+            (λ file. file_laid (selected_part selected.now) file (survey_view self.now.survey.now))
             buffers.new (D.seen folder.old) (D.seen folder.new) result }
     {
         self.write_frames(folder, selected, buffers)?;

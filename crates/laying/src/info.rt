@@ -1,21 +1,21 @@
 //! The fields of the Info frame before the frames of a plan.
 ghost use Rattle.std.specs.Prelude.{◌≡◌, ◌<◌, ◌≤◌, List, ℕ, length, drop, map, replicate, slice_get, None, Some, Ok, IfOk, IfErr, OnOk, IsErrOf};
-ghost use Rattle.frame_header.specs.Limits.{most_placed};
-ghost use Rattle.outside.specs.Files.{IsThere};
+ghost use Rattle.frame_header.specs.Limits.{most_output_frames};
+ghost use Rattle.outside.specs.Files.{IsFileThere};
 ghost use Rattle.outside.specs.Counts.{OnlyReads};
 ghost use Rattle.outside.specs.Seen.{OnFile};
 ghost use Rattle.outside.specs.Pass.{HasInputCause};
 ghost use Rattle.info_header.specs.Info.{info_in};
 ghost use Rattle.info_header.specs.InfoFrame.{info_frame};
 ghost use Rattle.frame_writer.specs.Frames.{Frame};
-ghost use Rattle.sync_survey.specs.Row.{Row as RowFields};
-ghost use Rattle.sync_survey.specs.Faults.{tells};
-ghost use Rattle.sync_survey.specs.Survey.{IsLaidOut};
+ghost use Rattle.sync_survey.specs.Row.{Row};
+ghost use Rattle.sync_survey.specs.Faults.{survey_view};
+ghost use Rattle.sync_survey.specs.Survey.{IsSurveyLaidOut};
 ghost use Rattle.slot_plan.specs.declared.needs.Placed.{Placed as PlacedFields};
 ghost use Rattle.laying.specs.LaidFiles.{HasInfoSizes};
 ghost use Rattle.laying.specs.Written.{slot_in, info_for, head_info};
 ghost use Rattle.laying.specs.KeptFields.{HeadAnswer, KeptAnswer};
-ghost use Rattle.laying.specs.Surveys.{HasSurvey};
+ghost use Rattle.laying.specs.Surveys.{CanBeRelaid};
 
 use arrayvec::ArrayVec;
 use frame_header::Class;
@@ -76,7 +76,7 @@ fn are_sized(info: &Info)
 /// they are, the bytes of the Info frame and of all of them, the seek table, and what is kept of a head.
 /// The text is `Info` if all have one bit rate, else `Xing`.
 pub fn info_of(class: Class, placed: &[Placed], kept: &Kept) -> Info
-    requires few { length placed.now ≤ most_placed }
+    requires few { length placed.now ≤ most_output_frames }
     ensures info { (frames : List Frame) → map slot_in frames ≡ map
         (λ (p : PlacedFields). p.slot) placed.now
         → result ≡ info_for class frames kept.now.quality kept.now.extension }
@@ -99,12 +99,12 @@ pub fn info_bytes(
     kept: &Kept,
     placed: &[Placed],
 ) -> ArrayVec<u8, 1441>
-    requires within { from < length (tells survey.now).frames }
-    requires few { length placed.now ≤ most_placed }
-    ensures { (first : RowFields) (frames : List Frame)
-        → slice_get (tells survey.now).frames from ≡ Some first
+    requires within { from < length (survey_view survey.now).frames }
+    requires few { length placed.now ≤ most_output_frames }
+    ensures { (first : Row) (frames : List Frame)
+        → slice_get (survey_view survey.now).frames from ≡ Some first
         → map slot_in frames ≡ map (λ (p : PlacedFields). p.slot) placed.now
-        → result.items ≡ info_frame first.header (info_for (tells survey.now).class frames
+        → result.items ≡ info_frame first.header (info_for (survey_view survey.now).class frames
         kept.now.quality kept.now.extension) }
 {
     let fields = info_of(survey.class(), placed, kept);
@@ -135,11 +135,11 @@ pub fn head_fields<D: Folder>(
     name: &str,
     survey: &Survey,
 ) -> Result<Option<Info>, PassFault>
-    requires there { IsThere (D.seen folder.old).files name.now }
-    requires laid { IsLaidOut (tells survey.now) }
+    requires there { IsFileThere (D.seen folder.old).files name.now }
+    requires laid { IsSurveyLaidOut (survey_view survey.now) }
     requires exact { OnFile (D.seen folder.old) name.now
-        (λ file. HasSurvey file (tells survey.now)) }
-    ensures { HeadAnswer name.now (tells survey.now) (D.seen folder.old)
+        (λ file. CanBeRelaid file (survey_view survey.now)) }
+    ensures { HeadAnswer name.now (survey_view survey.now) (D.seen folder.old)
         (D.seen folder.new) result }
 {
     let Some(head) = survey.head() else {
@@ -165,11 +165,11 @@ pub fn kept_fields<D: Folder>(
     name: &str,
     survey: &Survey,
 ) -> Result<Kept, PassFault>
-    requires there { IsThere (D.seen folder.old).files name.now }
-    requires laid { IsLaidOut (tells survey.now) }
+    requires there { IsFileThere (D.seen folder.old).files name.now }
+    requires laid { IsSurveyLaidOut (survey_view survey.now) }
     requires exact { OnFile (D.seen folder.old) name.now
-        (λ file. HasSurvey file (tells survey.now)) }
-    ensures { KeptAnswer name.now (tells survey.now) (D.seen folder.old)
+        (λ file. CanBeRelaid file (survey_view survey.now)) }
+    ensures { KeptAnswer name.now (survey_view survey.now) (D.seen folder.old)
         (D.seen folder.new) result }
 {
     let Some(head) = survey.head() else {

@@ -1,5 +1,5 @@
 //! Laws of files of chosen frames. Each function does nothing: a proof that needs its law calls it.
-ghost use Rattle.laying.specs.Laws.{EntriesHold, FilesHold, SurveysAreHad, BlocksAreKept, PlansFit, AskedPlans, FittingFilesHold, FittingSlots, ChosenFramesStay, PlannedFramesStay};
+ghost use Rattle.laying.specs.Laws.{EntriesHold, FilesHold, SurveysCanBeRelaid, BlocksAreKept, PlansFit, PlansAreOfParts, FittingFilesHold, FittingSlots, ChosenFramesStay, PlannedFramesStay};
 
 /// The frames of parts of surveyed files, in the slots and with the main_data_begin of their plan, are of
 /// the class, and their main data can be laid so. In a stream they are the plan's lead-ins, and each chosen
@@ -17,8 +17,8 @@ pub fn files_hold()
 
 /// The survey of a file without fault tells frames and blocks that are whole in it, and main data that are
 /// within the areas, so its frames can be laid out again.
-pub fn surveys_are_had()
-    ensures { SurveysAreHad }
+pub fn surveys_can_be_relaid()
+    ensures { SurveysCanBeRelaid }
 {}
 
 /// The bytes of the blocks that a survey tells of its file, those that go before the frames and all others,
@@ -36,8 +36,8 @@ pub fn plans_fit()
 
 /// What is planned of parts that were put together as the planner takes them is a plan of the parts, with
 /// the window of their class, so the other laws hold of it.
-pub fn asked_plans()
-    ensures { AskedPlans }
+pub fn plans_are_of_parts()
+    ensures { PlansAreOfParts }
 {}
 
 /// The frames of a part of a surveyed file, in the slots and with the main_data_begin of any plan that can be written

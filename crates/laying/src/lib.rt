@@ -22,13 +22,13 @@ mod parts;
 mod relay;
 mod selected;
 
-pub use buffers::Buffers;
+pub use buffers::RelayBuffers;
 pub use info::{Kept, head_fields, info_bytes, info_of, kept_fields};
 pub use info_laws::slots_are_planned;
 pub use laid_laws::{laid_frames_stay, laid_stream, laid_survey, surveyed_blocks};
 pub use laws::{
-    asked_plans, blocks_are_kept, chosen_frames_stay, entries_hold, files_hold, fitting_files_hold,
-    fitting_slots, planned_frames_stay, plans_fit, surveys_are_had,
+    blocks_are_kept, chosen_frames_stay, entries_hold, files_hold, fitting_files_hold,
+    fitting_slots, planned_frames_stay, plans_are_of_parts, plans_fit, surveys_can_be_relaid,
 };
 pub use needs_laws::{one_part_fits, part_fits, parts_fit};
 pub use parts::Parts;

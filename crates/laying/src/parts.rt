@@ -2,9 +2,9 @@
 ghost use Rattle.std.specs.Prelude.{◌≡◌, ◌↔◌, ◌+◌, ◌<◌, ◌≤◌, List, [], ◌∷◌, ◌++◌, length, map, vec_len, vec_capacity, IsTrue, IfOk, OnOk, OnErr};
 ghost use Rattle.frame_header.specs.Tables.{class_of};
 ghost use Rattle.side_info.specs.FrameFields.{header_like};
-ghost use Rattle.sync_survey.specs.Row.{Row as RowFields};
-ghost use Rattle.laying.specs.Needs.{Asked, need_of as need_of_lem, asked_of, IsUsual};
-ghost use Rattle.laying.specs.NeedsAnswers.{IsPushed, PushAnswer};
+ghost use Rattle.sync_survey.specs.Row.{Row};
+ghost use Rattle.laying.specs.Needs.{PlanInput, need_of, plan_input, IsUsualFrame};
+ghost use Rattle.laying.specs.NeedsAnswers.{IsItemPushed, PushPartAnswer};
 
 use frame_header::Class;
 use side_info::FrameFront;
@@ -22,16 +22,16 @@ pub struct Parts {
 }
 
 impl Model for Parts {
-    ghost use Rattle.laying.specs.Needs.{Asked};
+    ghost use Rattle.laying.specs.Needs.{PlanInput};
 
-    ghost Value = { Asked };
+    ghost Value = { PlanInput };
 
     ghost view = { λ p. record { needs = p.needs.items; places = p.places.items } };
 }
 
 /// What a frame needs: a lost frame has no main data.
 fn need_of(row: &Row) -> Need
-    ensures { result ≡ need_of_lem row.now }
+    ensures { result ≡ need_of row.now }
 {
     let bytes = if row.lost() {
         0
@@ -49,7 +49,7 @@ fn need_of(row: &Row) -> Need
 #[inline(always)]
 fn push_like(like: &Need, front: &FrameFront, bytes: u32, needs: &mut Vec<Need>)
     requires { vec_len needs.old < vec_capacity needs.old }
-    ensures { IsPushed needs.old needs.new (record
+    ensures { IsItemPushed needs.old needs.new (record
         { header = header_like like.now.header front.now.header; bytes = bytes }) }
 {
     let place = needs.len();
@@ -67,7 +67,7 @@ fn push_like(like: &Need, front: &FrameFront, bytes: u32, needs: &mut Vec<Need>)
 /// Whether a frame isn't lost and has the header of another but for slot and mode extension.
 #[inline(always)]
 fn is_usual(first: &FrameFront, row: &Row) -> bool
-    ensures { IsTrue result ↔ IsUsual first.now.header row.now }
+    ensures { IsTrue result ↔ IsUsualFrame first.now.header row.now }
 {
     row.front().is_like(first) && !row.lost()
 }
@@ -77,9 +77,9 @@ fn is_usual(first: &FrameFront, row: &Row) -> bool
 #[tactic(auto, unfolding(side_info::specs::Side::payload_bytes))]
 fn push_usual(class: Class, like: &Need, row: &Row, needs: &mut Vec<Need>)
     requires class { class ≡ class_of like.now.header }
-    requires usual { IsUsual like.now.header row.now }
+    requires usual { IsUsualFrame like.now.header row.now }
     requires room { vec_len needs.old < vec_capacity needs.old }
-    ensures { IsPushed needs.old needs.new (need_of_lem row.now) }
+    ensures { IsItemPushed needs.old needs.new (need_of row.now) }
 {
     let front = row.front();
     push_like(like, front, front.extent_in(class).bytes(), needs);
@@ -92,7 +92,7 @@ fn push_usual(class: Class, like: &Need, row: &Row, needs: &mut Vec<Need>)
 fn append_like(first: &FrameFront, like: &Need, rows: &[Row], needs: Vec<Need>) -> Vec<Need>
     requires like { like.now.header ≡ first.now.header }
     requires room { vec_len needs + length rows.now ≤ vec_capacity needs }
-    ensures { result.items ≡ needs.items ++ map need_of_lem rows.now }
+    ensures { result.items ≡ needs.items ++ map need_of rows.now }
 {
     let mut needs = needs;
     let first = *first;
@@ -112,7 +112,7 @@ fn append_like(first: &FrameFront, like: &Need, rows: &[Row], needs: Vec<Need>) 
 /// # Errors
 /// Where there is no memory. Then nothing is added.
 fn append_needs(rows: &[Row], needs: &mut Vec<Need>) -> Result<(), AllocError>
-    ensures added { OnOk result (needs.new.items ≡ needs.old.items ++ map need_of_lem rows.now) }
+    ensures added { OnOk result (needs.new.items ≡ needs.old.items ++ map need_of rows.now) }
     ensures stays { OnErr result (needs.new.items ≡ needs.old.items) }
 {
     needs.reserve(rows.len())?;
@@ -126,9 +126,9 @@ fn append_needs(rows: &[Row], needs: &mut Vec<Need>) -> Result<(), AllocError>
 
 impl Parts {
     /// Without parts. It takes no memory.
-    #[tactic(auto, unfolding(crate::specs::Needs::needs_of, crate::specs::Needs::places_from))]
+    #[tactic(auto, unfolding(crate::specs::Needs::needs_of_parts, crate::specs::Needs::part_places))]
     pub fn new(alloc: Global) -> Parts
-        ensures parts { result ≡ asked_of [] }
+        ensures parts { result ≡ plan_input [] }
         ensures no_needs { length result.needs ≡ 0 }
         ensures no_places { length result.places ≡ 0 }
     {
@@ -158,7 +158,7 @@ impl Parts {
     /// Where there is no memory. Then nothing is added.
     pub fn push(&mut self, rows: &[Row]) -> Result<(), AllocError>
         requires few { length self.old.needs ≤ 4294967295 }
-        ensures { PushAnswer rows.now self.old self.new result }
+        ensures { PushPartAnswer rows.now self.old self.new result }
     {
         let place = self.needs.len() as u32;
         self.places.reserve(1)?;

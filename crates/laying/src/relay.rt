@@ -2,28 +2,28 @@
 //! output.
 ghost use Rattle.std.specs.Prelude.{◌≡◌, ◌⊎◌, false, if◌then◌else◌, ◌+◌, ◌-◌, ◌^◌, ◌<◌, ◌≤◌, ◌++◌, min, List, ℕ, [], length, take, drop, slice_get, Some, IfOk, IfErr, OnOk, OnErr};
 ghost use Rattle.frame_header.specs.Tables.{class_of, area_of, length_of, overhead_of, window_of};
-ghost use Rattle.outside.specs.Files.{IsThere};
-ghost use Rattle.outside.specs.Passed.{PassedOn, AppendedPrefix};
-ghost use Rattle.outside.specs.Pass.{Writes, WritesPrefix, IsOfRead, route_of, HasPassCause};
+ghost use Rattle.outside.specs.Files.{IsFileThere};
+ghost use Rattle.outside.specs.BufferOutput.{AppendsWaiting, AppendedPrefix};
+ghost use Rattle.outside.specs.Pass.{WritesMadeBytes, WritesPrefix, IsReadPassFault, route_of, HasPassCause};
 ghost use Rattle.side_info.specs.Side.{front_width, payload_bits, SideFits};
-ghost use Rattle.frame_writer.specs.Frames.{EndsInArea, held_bytes, frame_bytes, reach_of, reach_with, IsNextSettled};
-ghost use Rattle.frame_writer.specs.Writing.{writing, IsNew, WritesOn, WritesPart};
-ghost use Rattle.sync_survey.specs.Faults.{tells};
-ghost use Rattle.sync_survey.specs.MainData.{own_area, place, main_bytes, side_of as side_of_lem};
+ghost use Rattle.frame_writer.specs.Frames.{EndsInArea, held_bytes, bytes_of_frames, reach_of, reach_after_frame, IsNextSettled};
+ghost use Rattle.frame_writer.specs.Writing.{writing_of, IsNewQueue, AcceptsFrame, WritesPart};
+ghost use Rattle.sync_survey.specs.Faults.{survey_view};
+ghost use Rattle.sync_survey.specs.MainData.{own_area, place, main_bytes, row_side};
 ghost use Rattle.sync_survey.specs.Survey.{AreWellPlaced};
 ghost use Rattle.reservoir.specs.Window.{IsWindowOver, window_size};
 ghost use Rattle.laying.specs.Needs.{need_of};
 ghost use Rattle.laying.specs.Relaid.{payload_of, lead_in_before};
-ghost use Rattle.laying.specs.Fits.{bytes_at, area_at};
-ghost use Rattle.laying.specs.Calls.{Stands, StandsBefore, IsNext, Follows, ReadsOn, GivesArea, CanCut, TakesFrame, Gives, HandsOn, AddsMade};
-ghost use Rattle.laying.specs.Passing.{Reaches, IsReady, IsGiven, IsAreaOf, KeepsReach, IsOver, HoldsLast, HoldsWith, IsOverLast, moved_frame, placed_frame, planned_frames, own_reach, reach_at, reach_behind_all, FitsBehind, GivesFrames, GivesPart};
-ghost use Rattle.laying.specs.Laid.{selected_frames, IsWritable};
-ghost use Rattle.laying.specs.Places.{places_for as places_for_lem, own_places};
+ghost use Rattle.laying.specs.Fits.{placed_bytes, placed_area};
+ghost use Rattle.laying.specs.Calls.{IsRelayOpen, IsRelayAtFrame, IsNextFrame, CanGiveFrame, RelayReadAnswer, GivesArea, CanCutData, TakesFrame, RelayFramesAnswer, ForwardAnswer, AddMadeAnswer};
+ghost use Rattle.laying.specs.Passing.{ReachesBack, IsRelayReady, AreGivenBytes, IsAreaOf, KeepsReach, IsWindowOverFrames, HoldsLastAreas, HoldsLastWithBytes, IsWindowOverLast, relay_frame, relay_planned_frame, planned_frames, own_reach, placed_reach, reach_behind_all, FitsRelayReach, GivesFrames, GivesPart};
+ghost use Rattle.laying.specs.Laid.{selected_frames, IsWritableSelection};
+ghost use Rattle.laying.specs.Places.{places_for, own_places};
 ghost use Rattle.frame_header.specs.Limits.{most_back, most_frame_length};
 ghost use Rattle.outside.specs.Feed.{most_given};
 ghost use Rattle.frame_writer.specs.Laid.{most_waiting};
 
-use crate::buffers::Buffers;
+use crate::buffers::RelayBuffers;
 use crate::selected::Selected;
 use frame_header::Class;
 use frame_writer::{Frame, FrameQueue};
@@ -53,7 +53,7 @@ struct Reading {
 
 /// What the survey says of the next frame: its class, which is that of all, and its row.
 #[derive(Clone, Copy)]
-struct Known<'r> {
+struct NextFrame<'r> {
     class: Class,
     row: &'r Row,
 }
@@ -61,7 +61,7 @@ struct Known<'r> {
 /// Where a feed gives the bytes for a frame: `before` bytes of the area before it, and its own area from
 /// byte `skip` on, which is in the input at the offset `at`.
 #[derive(Clone, Copy)]
-struct Span {
+struct AreaSpan {
     before: usize,
     skip: usize,
     at: u64,
@@ -70,7 +70,7 @@ struct Span {
 /// The bytes in which the main data of a frame are: its own area, the area before it if the window doesn't have
 /// it, and the window before these.
 #[derive(Clone, Copy)]
-struct Held<'w> {
+struct HeldAreas<'w> {
     window: &'w Window,
     before: &'w [u8],
     own: &'w [u8],
@@ -111,7 +111,7 @@ fn place_front(row: &Row, place: &Placed, front: &mut FrameFront)
     requires same { front.old ≡ record { header = row.now.header; side = row.now.side } }
     ensures { front.new ≡ record {
       header = record row.now.header { slot = place.now.slot };
-      side = record (side_of_lem row.now) { main_data_begin = place.now.begin };
+      side = record (row_side row.now) { main_data_begin = place.now.begin };
     } }
 {
     if row.lost() {
@@ -134,10 +134,10 @@ impl<'a> Relay<'a> {
         writer: &mut FrameQueue,
         unsent: &mut WriteBuffer,
     ) -> Result<(), PassFault>
-        requires there { IsThere (D.seen folder.old).files self.now.pass.output.now }
-        requires next { Follows writer.old frame.now }
-        ensures { TakesFrame self.now frame.now (writing writer.old unsent.old)
-            (writing writer.new unsent.new) (D.seen folder.old) (D.seen folder.new) result }
+        requires there { IsFileThere (D.seen folder.old).files self.now.pass.output.now }
+        requires next { CanGiveFrame writer.old frame.now }
+        ensures { TakesFrame self.now frame.now (writing_of writer.old unsent.old)
+            (writing_of writer.new unsent.new) (D.seen folder.old) (D.seen folder.new) result }
     {
         match writer.frame(frame, folder, self.pass.output, unsent) {
             Ok(()) => Ok(()),
@@ -158,12 +158,12 @@ impl<'a> Relay<'a> {
         writer: &mut FrameQueue,
         unsent: &mut WriteBuffer,
     ) -> Result<(), PassFault>
-        requires there { IsThere (D.seen folder.old).files self.now.pass.output.now }
+        requires there { IsFileThere (D.seen folder.old).files self.now.pass.output.now }
         requires class { class_of row.now.header ≡ writer.old.class }
         requires begin { place.now.begin ≤ reach_of writer.old }
         requires unsettled { IsNextSettled writer.old → ⊥ }
         ensures { TakesFrame self.now (lead_in_before place.now row.now.header)
-            (writing writer.old unsent.old) (writing writer.new unsent.new) (D.seen folder.old)
+            (writing_of writer.old unsent.old) (writing_of writer.new unsent.new) (D.seen folder.old)
             (D.seen folder.new) result }
     {
         let header = row.header().unprotected(place.slot);
@@ -185,12 +185,12 @@ impl<'a> Relay<'a> {
         count: usize,
         feed: &mut Feed,
     ) -> Result<(), PassFault>
-        requires ready { IsReady self.now (D.seen folder.old).files feed.old }
+        requires ready { IsRelayReady self.now (D.seen folder.old).files feed.old }
         requires few { count ≤ most_given }
-        requires within { at + count ≤ (tells self.now.survey.now).length }
-        ensures given { OnOk result (IsGiven feed.new.given self.now.pass.input.now
+        requires within { at + count ≤ (survey_view self.now.survey.now).length }
+        ensures given { OnOk result (AreGivenBytes feed.new.given self.now.pass.input.now
             (D.seen folder.new).files at count) }
-        ensures reads { ReadsOn self.now feed.new (D.seen folder.old) (D.seen folder.new) result }
+        ensures reads { RelayReadAnswer self.now feed.new (D.seen folder.old) (D.seen folder.new) result }
     {
         self.pass.fill(folder, at, count, feed)
     }
@@ -207,11 +207,11 @@ impl<'a> Relay<'a> {
         row: &Row,
         feed: &mut Feed,
     ) -> Result<(), PassFault>
-        requires ready { IsReady self.now (D.seen folder.old).files feed.old }
-        requires found { slice_get (tells self.now.survey.now).frames i ≡ Some row.now }
+        requires ready { IsRelayReady self.now (D.seen folder.old).files feed.old }
+        requires found { slice_get (survey_view self.now.survey.now).frames i ≡ Some row.now }
         ensures area { OnOk result (IsAreaOf feed.new.given self.now.pass.input.now
             (D.seen folder.new).files row.now) }
-        ensures reads { ReadsOn self.now feed.new (D.seen folder.old) (D.seen folder.new) result }
+        ensures reads { RelayReadAnswer self.now feed.new (D.seen folder.old) (D.seen folder.new) result }
     {
         let own = area_place(self.survey.class(), row);
         self.fill(folder, own.at, own.size, feed)
@@ -227,11 +227,11 @@ impl<'a> Relay<'a> {
         feed: &mut Feed,
         window: &mut Window,
     ) -> Result<(), PassFault>
-        requires ready { IsReady self.now (D.seen folder.old).files feed.old }
+        requires ready { IsRelayReady self.now (D.seen folder.old).files feed.old }
         requires none { IsWindowOver window.old [] }
-        ensures over { OnOk result (IsOver window.new self.now.pass.input.now
-            (D.seen folder.new).files (tells self.now.survey.now) 0) }
-        ensures reads { ReadsOn self.now feed.new (D.seen folder.old) (D.seen folder.new) result }
+        ensures over { OnOk result (IsWindowOverFrames window.new self.now.pass.input.now
+            (D.seen folder.new).files (survey_view self.now.survey.now) 0) }
+        ensures reads { RelayReadAnswer self.now feed.new (D.seen folder.old) (D.seen folder.new) result }
     {
         let Some(head) = self.survey.head() else {
             return Ok(());
@@ -255,11 +255,11 @@ impl<'a> Relay<'a> {
         feed: &mut Feed,
         window: &mut Window,
     ) -> Result<(), PassFault>
-        requires ready { IsReady self.now (D.seen folder.old).files feed.old }
+        requires ready { IsRelayReady self.now (D.seen folder.old).files feed.old }
         requires none { IsWindowOver window.old [] }
-        ensures over { OnOk result (IsOverLast window.new self.now.pass.input.now
-            (D.seen folder.new).files (tells self.now.survey.now) first first) }
-        ensures reads { ReadsOn self.now feed.new (D.seen folder.old) (D.seen folder.new) result }
+        ensures over { OnOk result (IsWindowOverLast window.new self.now.pass.input.now
+            (D.seen folder.new).files (survey_view self.now.survey.now) first first) }
+        ensures reads { RelayReadAnswer self.now feed.new (D.seen folder.old) (D.seen folder.new) result }
     {
         if first == 0 {
             self.read_head(folder, feed, window)
@@ -280,11 +280,11 @@ impl<'a> Relay<'a> {
         feed: &mut Feed,
         window: &mut Window,
     ) -> Result<(), PassFault>
-        requires ready { IsReady self.now (D.seen folder.old).files feed.old }
-        requires within { i ≤ length (tells self.now.survey.now).frames }
-        ensures over { OnOk result (IsOver window.new self.now.pass.input.now
-            (D.seen folder.new).files (tells self.now.survey.now) i) }
-        ensures reads { ReadsOn self.now feed.new (D.seen folder.old) (D.seen folder.new) result }
+        requires ready { IsRelayReady self.now (D.seen folder.old).files feed.old }
+        requires within { i ≤ length (survey_view self.now.survey.now).frames }
+        ensures over { OnOk result (IsWindowOverFrames window.new self.now.pass.input.now
+            (D.seen folder.new).files (survey_view self.now.survey.now) i) }
+        ensures reads { RelayReadAnswer self.now feed.new (D.seen folder.old) (D.seen folder.new) result }
     {
         window.clear();
         let first = first_held(self.survey, i);
@@ -311,13 +311,13 @@ impl<'a> Relay<'a> {
         feed: &mut Feed,
         window: &mut Window,
     ) -> Result<(), PassFault>
-        requires ready { IsReady self.now (D.seen folder.old).files feed.old }
-        requires over { HoldsLast window.old self.now.pass.input.now (D.seen folder.old).files
-            (tells self.now.survey.now) reading.now.at reading.now.count reading.now.next }
-        ensures over { OnOk result ((at : ℕ) → at ≤ (tells self.now.survey.now).length
-            → HoldsLast window.new self.now.pass.input.now (D.seen folder.new).files
-            (tells self.now.survey.now) at 0 reading.now.next) }
-        ensures reads { ReadsOn self.now feed.new (D.seen folder.old) (D.seen folder.new) result }
+        requires ready { IsRelayReady self.now (D.seen folder.old).files feed.old }
+        requires over { HoldsLastAreas window.old self.now.pass.input.now (D.seen folder.old).files
+            (survey_view self.now.survey.now) reading.now.at reading.now.count reading.now.next }
+        ensures over { OnOk result ((at : ℕ) → at ≤ (survey_view self.now.survey.now).length
+            → HoldsLastAreas window.new self.now.pass.input.now (D.seen folder.new).files
+            (survey_view self.now.survey.now) at 0 reading.now.next) }
+        ensures reads { RelayReadAnswer self.now feed.new (D.seen folder.old) (D.seen folder.new) result }
     {
         self.fill(folder, reading.at, reading.count, feed)?;
         window.push_area(feed.bytes());
@@ -338,17 +338,17 @@ impl<'a> Relay<'a> {
         feed: &mut Feed,
         window: &mut Window,
     ) -> Result<(u64, usize), PassFault>
-        requires ready { IsReady self.now (D.seen folder.old).files feed.old }
-        requires over { HoldsLast window.old self.now.pass.input.now (D.seen folder.old).files
-            (tells self.now.survey.now) reading.now.at reading.now.count reading.now.next }
-        requires within { own.at + own.size ≤ (tells self.now.survey.now).length }
+        requires ready { IsRelayReady self.now (D.seen folder.old).files feed.old }
+        requires over { HoldsLastAreas window.old self.now.pass.input.now (D.seen folder.old).files
+            (survey_view self.now.survey.now) reading.now.at reading.now.count reading.now.next }
+        requires within { own.at + own.size ≤ (survey_view self.now.survey.now).length }
         requires few { own.size ≤ most_frame_length }
-        ensures over { IfOk result (λ first. HoldsLast window.new self.now.pass.input.now
-            (D.seen folder.new).files (tells self.now.survey.now) first.0 first.1
+        ensures over { IfOk result (λ first. HoldsLastAreas window.new self.now.pass.input.now
+            (D.seen folder.new).files (survey_view self.now.survey.now) first.0 first.1
             reading.now.next) }
         ensures near { IfOk result (λ first. (first.0 + first.1 ≤ own.at)
             × (own.at + own.size ≤ first.0 + most_given)) }
-        ensures reads { ReadsOn self.now feed.new (D.seen folder.old) (D.seen folder.new) result }
+        ensures reads { RelayReadAnswer self.now feed.new (D.seen folder.old) (D.seen folder.new) result }
     {
         let end = reading.at + reading.count as u64;
         if reading.count > 0 && end <= own.at && own.at + own.size as u64 <= reading.at + 4096 {
@@ -368,23 +368,23 @@ impl<'a> Relay<'a> {
         &self,
         folder: &mut D,
         reading: &Reading,
-        known: &Known<'_>,
+        known: &NextFrame<'_>,
         feed: &mut Feed,
         window: &mut Window,
-    ) -> Result<Span, PassFault>
-        requires ready { IsReady self.now (D.seen folder.old).files feed.old }
-        requires next { IsNext self.now reading.now known.now }
-        requires over { HoldsLast window.old self.now.pass.input.now (D.seen folder.old).files
-            (tells self.now.survey.now) reading.now.at reading.now.count reading.now.next }
+    ) -> Result<AreaSpan, PassFault>
+        requires ready { IsRelayReady self.now (D.seen folder.old).files feed.old }
+        requires next { IsNextFrame self.now reading.now known.now }
+        requires over { HoldsLastAreas window.old self.now.pass.input.now (D.seen folder.old).files
+            (survey_view self.now.survey.now) reading.now.at reading.now.count reading.now.next }
         ensures given { IfOk result (GivesArea self.now reading.now known.now.row.now
             (D.seen folder.new).files window.new feed.new.given) }
-        ensures reads { ReadsOn self.now feed.new (D.seen folder.old) (D.seen folder.new) result }
+        ensures reads { RelayReadAnswer self.now feed.new (D.seen folder.old) (D.seen folder.new) result }
     {
         let own = area_place(known.class, known.row);
         let (first, before) = self.first_byte(folder, reading, own, feed, window)?;
         let skip = (own.at - first) as usize;
         self.fill(folder, first, skip + own.size, feed)?;
-        Ok(Span {
+        Ok(AreaSpan {
             before,
             skip,
             at: own.at,
@@ -399,22 +399,22 @@ impl<'a> Relay<'a> {
         &self,
         folder: &mut D,
         reading: &Reading,
-        known: &Known<'_>,
+        known: &NextFrame<'_>,
         place: &Placed,
-        buffers: &mut Buffers,
+        buffers: &mut RelayBuffers,
     ) -> Result<Reading, PassFault>
-        requires stands { StandsBefore self.now (D.seen folder.old).files buffers.old reading.now }
+        requires stands { IsRelayAtFrame self.now (D.seen folder.old).files buffers.old reading.now }
         requires few { reading.now.next < 2 ^ 62 }
-        requires next { IsNext self.now reading.now known.now }
+        requires next { IsNextFrame self.now reading.now known.now }
         requires begin { place.now.begin ≤ reach_of buffers.old.writer }
         requires within { (need_of known.now.row.now).bytes ≤ place.now.begin
             + area_of (class_of known.now.row.now.header) place.now.slot
             known.now.row.now.header.protected }
         ensures next { IfOk result (λ behind. behind.next ≡ reading.now.next + 1) }
-        ensures gives { Gives self.now (moved_frame self.now reading.now.next known.now.row.now
+        ensures gives { RelayFramesAnswer self.now (relay_frame self.now reading.now.next known.now.row.now
             place.now) (own_reach self.now known.now.row.now place.now) buffers.old buffers.new
             (D.seen folder.old) (D.seen folder.new) result }
-        ensures stands { IfOk result (StandsBefore self.now (D.seen folder.new).files buffers.new) }
+        ensures stands { IfOk result (IsRelayAtFrame self.now (D.seen folder.new).files buffers.new) }
     {
         let span = self.fill_frame(
             folder,
@@ -426,7 +426,7 @@ impl<'a> Relay<'a> {
         let bytes = buffers.feed.bytes();
         let before = &bytes[..span.before];
         let own = &bytes[span.skip..];
-        let held = Held {
+        let held = HeldAreas {
             window: &buffers.window,
             before,
             own,
@@ -457,22 +457,22 @@ impl<'a> Relay<'a> {
         &self,
         folder: &mut D,
         reading: &Reading,
-        known: &Known<'_>,
+        known: &NextFrame<'_>,
         place: &Placed,
-        buffers: &mut Buffers,
+        buffers: &mut RelayBuffers,
     ) -> Result<Reading, PassFault>
-        requires stands { StandsBefore self.now (D.seen folder.old).files buffers.old reading.now }
+        requires stands { IsRelayAtFrame self.now (D.seen folder.old).files buffers.old reading.now }
         requires few { reading.now.next < 2 ^ 62 }
-        requires next { IsNext self.now reading.now known.now }
+        requires next { IsNextFrame self.now reading.now known.now }
         requires begin { place.now.begin ≤ reach_of buffers.old.writer }
-        requires within { bytes_at place.now.lead_in (need_of known.now.row.now) ≤
-            place.now.begin + area_at place.now (need_of known.now.row.now) }
+        requires within { placed_bytes place.now.lead_in (need_of known.now.row.now) ≤
+            place.now.begin + placed_area place.now (need_of known.now.row.now) }
         ensures next { IfOk result (λ behind. behind.next
             ≡ reading.now.next + (if place.now.lead_in then 0 else 1)) }
-        ensures gives { Gives self.now (placed_frame self.now reading.now.next known.now.row.now
-            place.now) (reach_at self.now known.now.row.now place.now) buffers.old buffers.new
+        ensures gives { RelayFramesAnswer self.now (relay_planned_frame self.now reading.now.next known.now.row.now
+            place.now) (placed_reach self.now known.now.row.now place.now) buffers.old buffers.new
             (D.seen folder.old) (D.seen folder.new) result }
-        ensures stands { IfOk result (StandsBefore self.now (D.seen folder.new).files buffers.new) }
+        ensures stands { IfOk result (IsRelayAtFrame self.now (D.seen folder.new).files buffers.new) }
     {
         if place.lead_in {
             self.lead_in(
@@ -499,18 +499,18 @@ impl<'a> Relay<'a> {
         from: usize,
         to: usize,
         placed: &[Placed],
-        buffers: &mut Buffers,
+        buffers: &mut RelayBuffers,
     ) -> Result<(), PassFault>
-        requires stands { Stands self.now (D.seen folder.old).files buffers.old }
+        requires stands { IsRelayOpen self.now (D.seen folder.old).files buffers.old }
         requires ordered { from ≤ to }
-        requires within { to ≤ length (tells self.now.survey.now).frames }
-        requires over { IsOver buffers.old.window self.now.pass.input.now (D.seen folder.old).files
-            (tells self.now.survey.now) from }
-        requires fits { FitsBehind (reach_of buffers.old.writer) self.now from to placed.now }
-        ensures gives { Gives self.now (planned_frames self.now from to placed.now)
+        requires within { to ≤ length (survey_view self.now.survey.now).frames }
+        requires over { IsWindowOverFrames buffers.old.window self.now.pass.input.now (D.seen folder.old).files
+            (survey_view self.now.survey.now) from }
+        requires fits { FitsRelayReach (reach_of buffers.old.writer) self.now from to placed.now }
+        ensures gives { RelayFramesAnswer self.now (planned_frames self.now from to placed.now)
             (reach_behind_all (reach_of buffers.old.writer) self.now from to placed.now) buffers.old
             buffers.new (D.seen folder.old) (D.seen folder.new) result }
-        ensures stands { OnOk result (Stands self.now (D.seen folder.new).files buffers.new) }
+        ensures stands { OnOk result (IsRelayOpen self.now (D.seen folder.new).files buffers.new) }
     {
         let rows = self.survey.frames();
         let mut reading = Reading {
@@ -521,7 +521,7 @@ impl<'a> Relay<'a> {
         // Outside the loop, so that what depends on it alone is computed once.
         let class = self.survey.class();
         for place in placed {
-            let known = Known {
+            let known = NextFrame {
                 class,
                 row: &rows[reading.next],
             };
@@ -540,22 +540,22 @@ impl<'a> Relay<'a> {
         folder: &mut D,
         from: usize,
         placed: &[Placed],
-        buffers: &mut Buffers,
+        buffers: &mut RelayBuffers,
     ) -> Result<usize, PassFault>
-        requires stands { Stands self.now (D.seen folder.old).files buffers.old }
-        requires within { from ≤ length (tells self.now.survey.now).frames }
-        requires fits { FitsBehind (reach_of buffers.old.writer) self.now from
-            (length (tells self.now.survey.now).frames)
-            (own_places (length (tells self.now.survey.now).frames - from) placed.now) }
-        ensures gives { Gives self.now (planned_frames self.now from
-            (length (tells self.now.survey.now).frames) placed.now)
+        requires stands { IsRelayOpen self.now (D.seen folder.old).files buffers.old }
+        requires within { from ≤ length (survey_view self.now.survey.now).frames }
+        requires fits { FitsRelayReach (reach_of buffers.old.writer) self.now from
+            (length (survey_view self.now.survey.now).frames)
+            (own_places (length (survey_view self.now.survey.now).frames - from) placed.now) }
+        ensures gives { RelayFramesAnswer self.now (planned_frames self.now from
+            (length (survey_view self.now.survey.now).frames) placed.now)
             (reach_behind_all (reach_of buffers.old.writer) self.now from
-            (length (tells self.now.survey.now).frames) placed.now)
+            (length (survey_view self.now.survey.now).frames) placed.now)
             buffers.old buffers.new (D.seen folder.old) (D.seen folder.new) result }
         ensures count { IfOk result (λ count. count
-            ≡ places_for_lem (length (tells self.now.survey.now).frames - from) placed.now) }
+            ≡ places_for (length (survey_view self.now.survey.now).frames - from) placed.now) }
         ensures within { IfOk result (λ count. count ≤ length placed.now) }
-        ensures stands { OnOk result (Stands self.now (D.seen folder.new).files buffers.new) }
+        ensures stands { OnOk result (IsRelayOpen self.now (D.seen folder.new).files buffers.new) }
     {
         self.read_before(folder, from, &mut buffers.feed, &mut buffers.window)?;
         let rows = self.survey.frames();
@@ -574,8 +574,8 @@ impl<'a> Relay<'a> {
         writer: &mut FrameQueue,
         unsent: &mut WriteBuffer,
     ) -> Result<(), PassFault>
-        requires { IsThere (D.seen folder.old).files self.now.pass.output.now }
-        ensures { HandsOn self.now (unsent.old ++ held_bytes writer.old) unsent.new
+        requires { IsFileThere (D.seen folder.old).files self.now.pass.output.now }
+        ensures { ForwardAnswer self.now (unsent.old ++ held_bytes writer.old) unsent.new
             (D.seen folder.old) (D.seen folder.new) result }
     {
         match writer.finish(folder, self.pass.output, unsent) {
@@ -596,13 +596,13 @@ impl<'a> Relay<'a> {
         &self,
         folder: &mut D,
         selected: &Selected,
-        buffers: &mut Buffers,
+        buffers: &mut RelayBuffers,
     ) -> Result<(), PassFault>
-        requires ready { IsReady self.now (D.seen folder.old).files buffers.old.feed }
-        requires writable { IsWritable (tells self.now.survey.now) selected.now }
-        requires new { IsNew (tells self.now.survey.now).class buffers.old.writer }
-        ensures { AddsMade self.now (λ file. frame_bytes
-            (selected_frames (tells self.now.survey.now) selected.now file)) buffers.old.waiting
+        requires ready { IsRelayReady self.now (D.seen folder.old).files buffers.old.feed }
+        requires writable { IsWritableSelection (survey_view self.now.survey.now) selected.now }
+        requires new { IsNewQueue (survey_view self.now.survey.now).class buffers.old.writer }
+        ensures { AddMadeAnswer self.now (λ file. bytes_of_frames
+            (selected_frames (survey_view self.now.survey.now) selected.now file)) buffers.old.waiting
             buffers.new.waiting buffers.new.feed (D.seen folder.old) (D.seen folder.new) result }
     {
         let from = selected.from;
@@ -615,10 +615,10 @@ impl<'a> Relay<'a> {
 /// The frame of a survey from which on a window has to be over the areas before frame `i`: these have at
 /// least 2,048 bytes, or it is the first frame of all.
 pub fn first_held(survey: &Survey, i: usize) -> usize
-    requires within { i ≤ length (tells survey.now).frames }
+    requires within { i ≤ length (survey_view survey.now).frames }
     ensures before { result ≤ i }
-    ensures held { (result ≡ 0) ⊎ (place (tells survey.now).head (tells survey.now).frames result
-        + window_size ≤ place (tells survey.now).head (tells survey.now).frames i) }
+    ensures held { (result ≡ 0) ⊎ (place (survey_view survey.now).head (survey_view survey.now).frames result
+        + window_size ≤ place (survey_view survey.now).head (survey_view survey.now).frames i) }
 {
     let rows = survey.frames();
     let mut first = i;
@@ -632,7 +632,7 @@ pub fn first_held(survey: &Survey, i: usize) -> usize
 
 /// How many places of a plan so many frames take, together with their lead-ins.
 fn places_for(frames: usize, placed: &[Placed]) -> usize
-    ensures places { result ≡ places_for_lem frames placed.now }
+    ensures places { result ≡ places_for frames placed.now }
     ensures within { result ≤ length placed.now }
 {
     let mut left = frames;
@@ -656,16 +656,16 @@ fn cut_payload<'w>(
     i: usize,
     row: &Row,
     extent: &Extent,
-    held: &Held<'w>,
+    held: &HeldAreas<'w>,
 ) -> Payload<'w>
-    requires { CanCut (tells survey.now) i row.now extent.now held.now }
+    requires { CanCutData (survey_view survey.now) i row.now extent.now held.now }
     ensures size { length result ≡ (need_of row.now).bytes }
     ensures told { (file passed : List ℕ)
         → length passed + length held.now.window.now + length held.now.before.now
-        ≡ place (tells survey.now).head (tells survey.now).frames i
+        ≡ place (survey_view survey.now).head (survey_view survey.now).frames i
         → ((passed ++ held.now.window.now) ++ held.now.before.now) ++ held.now.own.now
-        ≡ main_bytes file (tells survey.now).head (take (i + 1) (tells survey.now).frames)
-        → result ≡ payload_of file (tells survey.now) i row.now }
+        ≡ main_bytes file (survey_view survey.now).head (take (i + 1) (survey_view survey.now).frames)
+        → result ≡ payload_of file (survey_view survey.now) i row.now }
     ensures few { length result ≤ window_size }
 {
     if row.lost() {

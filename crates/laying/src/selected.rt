@@ -1,11 +1,11 @@
 //! Frames of a surveyed input that are to be written.
 ghost use Rattle.std.specs.Prelude.{◌≡◌, ◌<◌, ◌≤◌, length};
-ghost use Rattle.frame_header.specs.Limits.{most_placed};
+ghost use Rattle.frame_header.specs.Limits.{most_output_frames};
 ghost use Rattle.frame_header.specs.Tables.{window_of};
 ghost use Rattle.slot_plan.specs.Plans.{entries};
-ghost use Rattle.sync_survey.specs.Faults.{tells};
-ghost use Rattle.laying.specs.Fits.{IsFitting};
-ghost use Rattle.laying.specs.Laid.{laid_in, laid_between, needs_laid, IsWritable};
+ghost use Rattle.sync_survey.specs.Faults.{survey_view};
+ghost use Rattle.laying.specs.Fits.{IsFittingPlan};
+ghost use Rattle.laying.specs.Laid.{selected_part, laid_part, needs_laid, IsWritableSelection};
 
 use crate::info::{Kept, info_bytes};
 use arrayvec::ArrayVec;
@@ -27,12 +27,12 @@ impl Selected {
     /// These frames in the slots of a plan of at most 2,900,064 places, whichever planner made it.
     pub fn new(survey: &Survey, from: usize, to: usize, kept: Kept, plan: Plan) -> Selected
         requires some { from < to }
-        requires within { to ≤ length (tells survey.now).frames }
-        requires few { length (entries plan) ≤ most_placed }
-        requires fitting { IsFitting (window_of (tells survey.now).class.version)
-            (needs_laid (laid_between from to kept (entries plan)) (tells survey.now)) (entries plan) }
-        ensures laid { laid_in result ≡ laid_between from to kept (entries plan) }
-        ensures writable { IsWritable (tells survey.now) result }
+        requires within { to ≤ length (survey_view survey.now).frames }
+        requires few { length (entries plan) ≤ most_output_frames }
+        requires fitting { IsFittingPlan (window_of (survey_view survey.now).class.version)
+            (needs_laid (laid_part from to kept (entries plan)) (survey_view survey.now)) (entries plan) }
+        ensures laid { selected_part result ≡ laid_part from to kept (entries plan) }
+        ensures writable { IsWritableSelection (survey_view survey.now) result }
     {
         let info = info_bytes(survey, from, &kept, plan.placed());
         Selected {

@@ -1,11 +1,11 @@
 -- The lemmas of this crate.
-pub mod InputLaws
-pub mod GainLaws
-pub mod FadeLaws
-pub mod SampleLaws
-pub mod SplitLaws
-pub mod PackLaws
-pub mod JoinLaws
-pub mod SalvageLaws
-pub mod LegalLaws
-pub mod UnfitLaws
+pub mod InputLemmas
+pub mod GainLemmas
+pub mod FadeLemmas
+pub mod SampleLemmas
+pub mod SplitLemmas
+pub mod PackLemmas
+pub mod JoinLemmas
+pub mod SalvageLemmas
+pub mod LegalLemmas
+pub mod UnfitLemmas

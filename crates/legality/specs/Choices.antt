@@ -7,22 +7,23 @@ use Rattle.cue_sheet.specs.declared.place.Place.{Place, TheVariants.End}
 use Rattle.exact_span.specs.{Places.sample_at, PlayedPositions.{length_of_played, played_of}}
 use Rattle.exact_span.specs.declared.exact_place.ExactPlace.{ExactPlace}
 use Rattle.exact_span.specs.declared.exact_place.ExactPlace.TheVariants.{Place as Position}
-use Rattle.fade_plan.specs.Curves.{curve_point, frame_of, steps_at, steps_back}
+use Rattle.fade_plan.specs.Curves.{curve_point, point_frame, steps_at, steps_back}
 use Rattle.fade_plan.specs.Sheets.{envelope_of, EnvelopePoint}
 use Rattle.frame_header.specs.{Fields.{ClassFields, SlotFields}, Slots.all_slots}
 use Rattle.frame_header.specs.Tables.{rate_of, window_of}
-use Rattle.gain_edits.specs.UndoItem.{next_undo, no_undo, output_length, tag_with, undo_steps}
+use Rattle.gain_edits.specs.UndoItem.{next_undo, no_undo, output_length, tag_with_undo, undo_steps}
 use Rattle.laying.specs.{KeptFields.fields_of_head, Needs.need_of}
-use Rattle.legality.specs.Inputs.{Each, EachNext, Input}
-use Rattle.moved_gains.specs.{Course.alike, TagReading.{file_tag, longest_tag}}
+use Rattle.legality.specs.Inputs.{FileInput, HoldsOfEach, HoldsOfEachNext}
+use Rattle.moved_gains.specs.{Course.equal_steps, TagReading.{file_tag, longest_tag}}
 use Rattle.outside.specs.Files.{Contents}
 use Rattle.pack_edits.specs.Rates.{menu_in}
-use Rattle.rate_plan.specs.Menus.{CanBeLaidFrom, IsUnfit}
+use Rattle.rate_plan.specs.Menus.{CanBeLaidFromMenu, IsFirstUnfitFrame}
 use Rattle.requests.specs.{Shifts.steps_of, declared.mode.PackMode.PackMode}
 use Rattle.requests.specs.declared.mode.PackMode.TheVariants.{Best, Constant, Floor, Least}
 use Rattle.requests.specs.declared.shift.Channels.{Channels, TheVariants.{Both, Left, Right}}
 use Rattle.requests.specs.declared.shift.{Shift.Shift, Steps.Steps}
-use Rattle.salvage.specs.{Damaged.{most_frames, things_from}, Walk.{first_frame, frames_in}}
+use Rattle.salvage.specs.DamagedFiles.{most_frames, things_from}
+use Rattle.salvage.specs.Walk.{first_frame, frames_of_things}
 use Rattle.side_info.specs.Side.{granule_in}
 use Rattle.sync_survey.specs.{Faults.{longest_file, SurveyFields}, Row.Row, Start.front_end_of}
 use Rattle.sync_survey.specs.declared.places.PlacedFrame.{PlacedFrame}
@@ -36,9 +37,9 @@ abbrev pub StaysGain : ℤ → ℕ → Type 0
 StaysGain steps gain = (moved : ℕ) × (moved ≤ 255) × (pos gain +ℤ steps ≡ pos moved)
 
 -- the steps of a channel
-abbrev pub steps_on : Steps → ℕ → ℤ
-steps_on steps zero = steps.left
-steps_on steps (suc channel) = steps.right
+abbrev pub channel_steps : Steps → ℕ → ℤ
+channel_steps steps zero = steps.left
+channel_steps steps (suc channel) = steps.right
 
 -- The gains of a frame can move by these steps: they wrap, or the frame is lost and left alone,
 -- or the gain of each granule and channel that has main data is from 0 to 255 afterwards too.
@@ -46,11 +47,11 @@ abbrev pub CanMove : Steps → Row → Type 0
 CanMove steps row =
     steps.wrap ≡ false → row.lost ≡ false → (granule channel : ℕ) → granule < 2 → channel < 2
     → 0 < (granule_in row.side granule channel).part2_3_length
-    → StaysGain (steps_on steps channel) (granule_in row.side granule channel).global_gain
+    → StaysGain (channel_steps steps channel) (granule_in row.side granule channel).global_gain
 
 -- the gains of all frames can move, each frame's by the steps of its number
 abbrev pub CanAllMove : (ℕ → Steps) → SurveyFields → Type 0
-CanAllMove steps s = Each s.frames (λ i row. CanMove (steps i) row)
+CanAllMove steps s = HoldsOfEach s.frames (λ i row. CanMove (steps i) row)
 
 -- ---- gain
 
@@ -58,7 +59,7 @@ CanAllMove steps s = Each s.frames (λ i row. CanMove (steps i) row)
 -- those of no frame are coded jointly (mode 1, 2.4.2.3)
 pub record AreSeparate (s : SurveyFields) : Type 0 where
   pub two : s.class.channels ≢ 1
-  pub each : Each s.frames (λ i row. row.header.mode ≢ 1)
+  pub each : HoldsOfEach s.frames (λ i row. row.header.mode ≢ 1)
 
 -- these channels can change
 abbrev pub CanChange : Channels → SurveyFields → Type 0
@@ -70,7 +71,7 @@ CanChange Right s = AreSeparate s
 -- law says that it is its bytes), its undo item has a value of the form or
 -- isn't there, the numbers of the new item are from -999 to 999, the new tag
 -- has at most 1,048,576 bytes, and the file with it at most 1,073,741,824.
-pub record CanBeNoted (shift : Shift) (input : Input) : Type 0 where
+pub record CanBeNoted (shift : Shift) (input : FileInput) : Type 0 where
   pub tag : TagFields
   pub read : file_tag input.bytes input.survey ≡ Ok tag
   pub undo : Undo
@@ -78,12 +79,12 @@ pub record CanBeNoted (shift : Shift) (input : Input) : Type 0 where
       ⊎ ((undo_from 32 tag.items ≡ Missing) × (undo ≡ no_undo))
   pub left : unsigned_abs (next_undo shift undo).left ≤ 999
   pub right : unsigned_abs (next_undo shift undo).right ≤ 999
-  pub tag_fits : length (tag_bytes (tag_with (next_undo shift undo) tag)) ≤ longest_tag
-  pub file_fits : output_length input.survey (tag_bytes (tag_with (next_undo shift undo) tag))
+  pub tag_fits : length (tag_bytes (tag_with_undo (next_undo shift undo) tag)) ≤ longest_tag
+  pub file_fits : output_length input.survey (tag_bytes (tag_with_undo (next_undo shift undo) tag))
       ≤ longest_file
 
 -- the channels can change, all gains can move, and the change can be noted if it is to be
-pub record IsLegalGain (shift : Shift) (tags : Bool) (input : Input) : Type 0 where
+pub record IsLegalGain (shift : Shift) (tags : Bool) (input : FileInput) : Type 0 where
   pub channels : CanChange shift.channels input.survey
   pub gains : CanAllMove (λ i. steps_of shift) input.survey
   pub noted : tags ≡ true → CanBeNoted shift input
@@ -92,7 +93,7 @@ pub record IsLegalGain (shift : Shift) (tags : Bool) (input : Input) : Type 0 wh
 
 -- the tag of the file is read, it has an undo item with a
 -- value of the form, and all gains can move by its steps
-pub record IsLegalUndo (input : Input) : Type 0 where
+pub record IsLegalUndo (input : FileInput) : Type 0 where
   pub tag : TagFields
   pub read : file_tag input.bytes input.survey ≡ Ok tag
   pub undo : Undo
@@ -105,15 +106,16 @@ pub record IsLegalUndo (input : Input) : Type 0 where
 -- of its points is at an earlier frame than the next, and the gains of each frame
 -- can move by the steps of the curve at its number, or by as many the other way.
 pub record IsLegalFade (sheet : List ℕ) (back : Bool) (files : Contents)
-    (input : Input) : Type 0 where
+    (input : FileInput) : Type 0 where
   pub bytes : List ℕ
   pub there : files sheet ≡ Some bytes
   pub small : length bytes ≤ longest_sheet
   pub points : List EnvelopePoint
   pub read : envelope_of bytes ≡ Ok points
-  pub rising : EachNext points (λ p q. frame_of input.survey.class (length input.survey.frames) p
-      < frame_of input.survey.class (length input.survey.frames) q)
-  pub gains : CanAllMove (λ i. alike (steps_back back
+  pub rising : HoldsOfEachNext points
+      (λ p q. point_frame input.survey.class (length input.survey.frames) p
+      < point_frame input.survey.class (length input.survey.frames) q)
+  pub gains : CanAllMove (λ i. equal_steps (steps_back back
       (steps_at (map (curve_point input.survey.class (length input.survey.frames)) points) i)))
       input.survey
 
@@ -126,44 +128,44 @@ IsRange s from to =
     × (frame_at s.class (length s.frames) to ≤ length s.frames)
 
 -- so it is between each position and the next
-abbrev pub ArePieces : SurveyFields → List Place → Type 0
-ArePieces s places = EachNext places (IsRange s)
+abbrev pub ArePieceRanges : SurveyFields → List Place → Type 0
+ArePieceRanges s places = HoldsOfEachNext places (IsRange s)
 
 -- The sheet is there, has at most 65,536 bytes, and is a cue sheet without fault
 -- (`cue_of`); from each start to the next, and from the last to the end, there is a frame.
-pub record IsLegalSheet (sheet : List ℕ) (files : Contents) (input : Input) : Type 0 where
+pub record IsLegalSheet (sheet : List ℕ) (files : Contents) (input : FileInput) : Type 0 where
   pub bytes : List ℕ
   pub there : files sheet ≡ Some bytes
   pub small : length bytes ≤ longest_sheet
   pub starts : List Place
   pub read : cue_of bytes ≡ Ok starts
-  pub pieces : ArePieces input.survey (starts ++ End ∷ [])
+  pub pieces : ArePieceRanges input.survey (starts ++ End ∷ [])
 
 -- ---- cut --exact
 
 -- how many samples players play of a file: those of all frames
 -- but for the encoder delay and the padding that its head says
-abbrev pub samples_played : Input → ℕ
+abbrev pub samples_played : FileInput → ℕ
 samples_played input = length_of_played (played_of (fields_of_head input.bytes input.survey.head)
     input.survey.class (length input.survey.frames))
 
 -- the number of the sample that a place names
-abbrev pub sample_number : Input → ExactPlace → ℕ
+abbrev pub sample_number : FileInput → ExactPlace → ℕ
 sample_number input place = sample_at input.survey.class (samples_played input) place
 
 -- between the places there is a sample, and neither is after the last that is played
-abbrev pub IsSampleRange : ExactPlace → ExactPlace → Input → Type 0
+abbrev pub IsSampleRange : ExactPlace → ExactPlace → FileInput → Type 0
 IsSampleRange from to input = (sample_number input from < sample_number input to)
     × (sample_number input to ≤ samples_played input)
 
 -- ---- split --exact
 
 -- between each place and the next there are such samples
-abbrev pub AreSamplePieces : Input → List ExactPlace → Type 0
-AreSamplePieces input places = EachNext places (λ from to. IsSampleRange from to input)
+abbrev pub AreSamplePieces : FileInput → List ExactPlace → Type 0
+AreSamplePieces input places = HoldsOfEachNext places (λ from to. IsSampleRange from to input)
 
 -- the same of the starts of a cue sheet, and the end
-pub record IsLegalExactSheet (sheet : List ℕ) (files : Contents) (input : Input) : Type 0 where
+pub record IsLegalExactSheet (sheet : List ℕ) (files : Contents) (input : FileInput) : Type 0 where
   pub bytes : List ℕ
   pub there : files sheet ≡ Some bytes
   pub small : length bytes ≤ longest_sheet
@@ -179,29 +181,30 @@ IsRate rate class = (slot : SlotFields) × Contains all_slots slot × (rate_of c
 
 -- Some list of slots of this bit rate, padded or not, has room for the main data of all
 -- frames, after a lead-in of such a slot or without one (main_data_begin, 2.4.2.7).
-abbrev pub HasRoom : ℕ → SurveyFields → Type 0
-HasRoom rate s = (lead_in : Bool) × CanBeLaidFrom (window_of s.class.version) lead_in
+abbrev pub HasRateRoom : ℕ → SurveyFields → Type 0
+HasRateRoom rate s = (lead_in : Bool) × CanBeLaidFromMenu (window_of s.class.version) lead_in
     (menu_in (Constant rate) s.class) (map need_of s.frames)
 
 -- No such list has room, and this is the first frame,
 -- counted from 0, up to which none has even after a lead-in.
 abbrev pub IsFirstUnfit : ℕ → SurveyFields → ℕ → Type 0
 IsFirstUnfit rate s i =
-    IsUnfit (window_of s.class.version) (menu_in (Constant rate) s.class) (map need_of s.frames) i
+    IsFirstUnfitFrame (window_of s.class.version) (menu_in (Constant rate) s.class)
+    (map need_of s.frames) i
 
 -- with the least slots, with the fewest bytes, and with
 -- all slots from a bit rate on there is always room
 abbrev pub IsLegalPack : PackMode → SurveyFields → Type 0
 IsLegalPack Least s = Unit {0}
 IsLegalPack Best s = Unit {0}
-IsLegalPack (Constant rate) s = IsRate rate s.class × HasRoom rate s
+IsLegalPack (Constant rate) s = IsRate rate s.class × HasRateRoom rate s
 IsLegalPack (Floor rate) s = IsRate rate s.class
 
 -- ---- join
 
 -- all inputs are of one class: version, sampling frequency and number of channels are the same
-abbrev pub AreOfOneClass : List Input → Type 0
-AreOfOneClass inputs = (i j : ℕ) (p q : Input) → slice_get inputs i ≡ Some p
+abbrev pub AreInputsOfOneClass : List FileInput → Type 0
+AreInputsOfOneClass inputs = (i j : ℕ) (p q : FileInput) → slice_get inputs i ≡ Some p
     → slice_get inputs j ≡ Some q → p.survey.class ≡ q.survey.class
 
 -- ---- salvage
@@ -215,5 +218,5 @@ pub record IsLegalSalvage (input : List ℕ) (files : Contents) : Type 0 where
   pub long : length bytes ≤ longest_file
   pub first : PlacedFrame
   pub begins : first_frame bytes (front_end_of bytes) ≡ Some first
-  pub some : 0 < length (frames_in (things_from bytes first))
-  pub few : length (frames_in (things_from bytes first)) ≤ most_frames
+  pub some : 0 < length (frames_of_things (things_from bytes first))
+  pub few : length (frames_of_things (things_from bytes first)) ≤ most_frames

@@ -2,51 +2,51 @@
 use Rattle.std.specs.Prelude.{All, Contains, length, List, Ok, slice_get, Some, suc, ℕ, [], ◌+◌}
 use Rattle.std.specs.Prelude.{◌∷◌, ◌≡◌, ◌≤◌}
 use Rattle.outside.specs.Files.{Contents}
-use Rattle.sync_survey.specs.Faults.{longest_file, surveyed_freely, SurveyFields}
+use Rattle.sync_survey.specs.Faults.{longest_file, SurveyFields, unbounded_survey}
 
 -- ---- lists
 
 -- this holds of each element and its number, counted from 0
-abbrev pub Each : {A : Type 0} → List A → (ℕ → A → Type 0) → Type 0
-Each {A} xs P = (i : ℕ) (x : A) → slice_get xs i ≡ Some x → P i x
+abbrev pub HoldsOfEach : {A : Type 0} → List A → (ℕ → A → Type 0) → Type 0
+HoldsOfEach {A} xs P = (i : ℕ) (x : A) → slice_get xs i ≡ Some x → P i x
 
 -- this holds of each element and the next
-abbrev pub EachNext : {A : Type 0} → List A → (A → A → Type 0) → Type 0
-EachNext {A} xs P =
+abbrev pub HoldsOfEachNext : {A : Type 0} → List A → (A → A → Type 0) → Type 0
+HoldsOfEachNext {A} xs P =
     (i : ℕ) (x y : A) → slice_get xs i ≡ Some x → slice_get xs (suc i) ≡ Some y → P x y
 
 -- ---- names
 
 -- no input's name is an output's
-abbrev pub AreApart : List (List ℕ) → List (List ℕ) → Type 0
-AreApart inputs outputs = All (λ name. Contains outputs name → ⊥) inputs
+abbrev pub AreNamesApart : List (List ℕ) → List (List ℕ) → Type 0
+AreNamesApart inputs outputs = All (λ name. Contains outputs name → ⊥) inputs
 
 -- ---- files
 
 -- an input's bytes, and their survey
-pub record Input : Type 0 where
+pub record FileInput : Type 0 where
   pub bytes : List ℕ
   pub survey : SurveyFields
 
 -- the name's file is there, has at most 1,073,741,824 bytes, and is well-formed
-pub record IsInput (files : Contents) (name : List ℕ) (input : Input) : Type 0 where
+pub record IsInput (files : Contents) (name : List ℕ) (input : FileInput) : Type 0 where
   pub there : files name ≡ Some input.bytes
   pub long : length input.bytes ≤ longest_file
-  pub well_formed : surveyed_freely input.bytes ≡ Ok input.survey
+  pub well_formed : unbounded_survey input.bytes ≡ Ok input.survey
 
 -- so is each of these
-abbrev pub AreInputs : Contents → List (List ℕ) → List Input → Type 0
+abbrev pub AreInputs : Contents → List (List ℕ) → List FileInput → Type 0
 AreInputs files [] [] = Unit {0}
 AreInputs files (name ∷ names) (input ∷ inputs) =
     IsInput files name input × AreInputs files names inputs
 AreInputs files _ _ = ⊥
 
 -- how many frames they have together
-abbrev pub frames_of : List Input → ℕ
-frames_of [] = 0
-frames_of (input ∷ inputs) = length input.survey.frames + frames_of inputs
+abbrev pub input_frames : List FileInput → ℕ
+input_frames [] = 0
+input_frames (input ∷ inputs) = length input.survey.frames + input_frames inputs
 
 -- there is one, and this holds of it
-abbrev pub OfOne : (Input → Type 0) → List Input → Type 0
-OfOne P (input ∷ []) = P input
-OfOne P _ = ⊥
+abbrev pub HoldsOfOne : (FileInput → Type 0) → List FileInput → Type 0
+HoldsOfOne P (input ∷ []) = P input
+HoldsOfOne P _ = ⊥

@@ -1,22 +1,23 @@
 -- When a command that was asked for is legal.
 use Rattle.std.specs.Prelude.{false, length, List, true, ℕ, [], ◌++◌, ◌∷◌, ◌≤◌}
-use Rattle.commands.specs.One.{most_frames}
-use Rattle.job_words.specs.Asked.{Asked, Cut, CutExact, Drill, Fade, Gain, Help, InfoFile, Join}
-use Rattle.job_words.specs.Asked.{ListFile, Pack, Salvage, SplitAt, SplitBy, SplitExact, Undo}
-use Rattle.job_words.specs.Asked.{Version}
-use Rattle.legality.specs.Choices.{AreOfOneClass, ArePieces, AreSamplePieces, IsFirstUnfit}
-use Rattle.legality.specs.Choices.{IsLegalExactSheet, IsLegalFade, IsLegalGain, IsLegalPack}
-use Rattle.legality.specs.Choices.{IsLegalSalvage, IsLegalSheet, IsLegalUndo, IsRange, IsRate}
-use Rattle.legality.specs.Choices.{IsSampleRange}
-use Rattle.legality.specs.Inputs.{AreApart, AreInputs, frames_of, Input, IsInput, OfOne}
+use Rattle.commands.specs.SingleOutput.{most_frames}
+use Rattle.job_words.specs.Request.{Cut, CutExact, Drill, Fade, Gain, Help, InfoFile, Join}
+use Rattle.job_words.specs.Request.{ListFile, Pack, Request, Salvage, SplitAt, SplitBy, SplitExact}
+use Rattle.job_words.specs.Request.{Undo, Version}
+use Rattle.legality.specs.Choices.{AreInputsOfOneClass, ArePieceRanges, AreSamplePieces}
+use Rattle.legality.specs.Choices.{IsFirstUnfit, IsLegalExactSheet, IsLegalFade, IsLegalGain}
+use Rattle.legality.specs.Choices.{IsLegalPack, IsLegalSalvage, IsLegalSheet, IsLegalUndo, IsRange}
+use Rattle.legality.specs.Choices.{IsRate, IsSampleRange}
+use Rattle.legality.specs.Inputs.{AreInputs, AreNamesApart, FileInput, HoldsOfOne, input_frames}
+use Rattle.legality.specs.Inputs.{IsInput}
 use Rattle.outside.specs.Files.{Contents}
-use Rattle.pack_edits.specs.Modes.{allowed_by}
+use Rattle.pack_edits.specs.Modes.{allowed_frames}
 use Rattle.requests.specs.Names.{piece_names}
 
 -- ---- the files
 
 -- those that are read as streams
-abbrev pub sources_of : Asked → List (List ℕ)
+abbrev pub sources_of : Request → List (List ℕ)
 sources_of Help = []
 sources_of Version = []
 sources_of (ListFile input) = input ∷ []
@@ -35,14 +36,14 @@ sources_of (Fade back input output sheet) = input ∷ []
 sources_of (Salvage input output) = []
 
 -- and those that are read as sheets, or as a damaged file
-abbrev pub others_of : Asked → List (List ℕ)
+abbrev pub others_of : Request → List (List ℕ)
 others_of (SplitBy exact input prefix sheet) = sheet ∷ []
 others_of (Fade back input output sheet) = sheet ∷ []
 others_of (Salvage input output) = input ∷ []
 others_of _ = []
 
 -- those that may be written
-abbrev pub outputs_of : Asked → List (List ℕ)
+abbrev pub outputs_of : Request → List (List ℕ)
 outputs_of Help = []
 outputs_of Version = []
 outputs_of (ListFile input) = []
@@ -61,53 +62,59 @@ outputs_of (Fade back input output sheet) = output ∷ []
 outputs_of (Salvage input output) = output ∷ []
 
 -- how many frames the inputs may have together
-abbrev pub most_of : Asked → ℕ
-most_of (Pack mode input output) = allowed_by mode
-most_of _ = most_frames
+abbrev pub most_frames_of : Request → ℕ
+most_frames_of (Pack mode input output) = allowed_frames mode
+most_frames_of _ = most_frames
 
 -- ---- the choices
 
 -- the choices of a command are legal for these inputs
-abbrev pub AreLegal : Asked → Contents → List Input → Type 0
-AreLegal Help files inputs = Unit {0}
-AreLegal Version files inputs = Unit {0}
-AreLegal (ListFile input) files inputs = Unit {0}
-AreLegal (InfoFile input) files inputs = Unit {0}
-AreLegal (Gain shift tags input output) files inputs = OfOne (IsLegalGain shift tags) inputs
-AreLegal (Undo input output) files inputs = OfOne IsLegalUndo inputs
-AreLegal (Cut from to least input output) files inputs =
-    OfOne (λ i. IsRange i.survey from to) inputs
-AreLegal (CutExact input from to output) files inputs = OfOne (IsSampleRange from to) inputs
-AreLegal (Pack mode input output) files inputs = OfOne (λ i. IsLegalPack mode i.survey) inputs
-AreLegal (SplitAt input prefix places) files inputs = OfOne (λ i. ArePieces i.survey places) inputs
-AreLegal (SplitExact input prefix places) files inputs =
-    OfOne (λ i. AreSamplePieces i places) inputs
-AreLegal (SplitBy false input prefix sheet) files inputs = OfOne (IsLegalSheet sheet files) inputs
-AreLegal (SplitBy true input prefix sheet) files inputs =
-    OfOne (IsLegalExactSheet sheet files) inputs
-AreLegal (Join seamless output inputs_asked) files inputs = AreOfOneClass inputs
-AreLegal (Drill seed count) files inputs = Unit {0}
-AreLegal (Fade back input output sheet) files inputs = OfOne (IsLegalFade sheet back files) inputs
-AreLegal (Salvage input output) files inputs = IsLegalSalvage input files
+abbrev pub AreLegalChoices : Request → Contents → List FileInput → Type 0
+AreLegalChoices Help files inputs = Unit {0}
+AreLegalChoices Version files inputs = Unit {0}
+AreLegalChoices (ListFile input) files inputs = Unit {0}
+AreLegalChoices (InfoFile input) files inputs = Unit {0}
+AreLegalChoices (Gain shift tags input output) files inputs =
+    HoldsOfOne (IsLegalGain shift tags) inputs
+AreLegalChoices (Undo input output) files inputs = HoldsOfOne IsLegalUndo inputs
+AreLegalChoices (Cut from to least input output) files inputs =
+    HoldsOfOne (λ i. IsRange i.survey from to) inputs
+AreLegalChoices (CutExact input from to output) files inputs =
+    HoldsOfOne (IsSampleRange from to) inputs
+AreLegalChoices (Pack mode input output) files inputs =
+    HoldsOfOne (λ i. IsLegalPack mode i.survey) inputs
+AreLegalChoices (SplitAt input prefix places) files inputs =
+    HoldsOfOne (λ i. ArePieceRanges i.survey places) inputs
+AreLegalChoices (SplitExact input prefix places) files inputs =
+    HoldsOfOne (λ i. AreSamplePieces i places) inputs
+AreLegalChoices (SplitBy false input prefix sheet) files inputs =
+    HoldsOfOne (IsLegalSheet sheet files) inputs
+AreLegalChoices (SplitBy true input prefix sheet) files inputs =
+    HoldsOfOne (IsLegalExactSheet sheet files) inputs
+AreLegalChoices (Join seamless output inputs_asked) files inputs = AreInputsOfOneClass inputs
+AreLegalChoices (Drill seed count) files inputs = Unit {0}
+AreLegalChoices (Fade back input output sheet) files inputs =
+    HoldsOfOne (IsLegalFade sheet back files) inputs
+AreLegalChoices (Salvage input output) files inputs = IsLegalSalvage input files
 
 -- ---- all of it
 
 -- No input is an output; each input that is read as a stream is there, no longer than allowed,
 -- and well-formed, and together they have no more frames than allowed; and the choices are legal.
-pub record IsLegalFor (asked : Asked) (files : Contents) : Type 0 where
-  pub names : AreApart (sources_of asked ++ others_of asked) (outputs_of asked)
-  pub inputs : List Input
+pub record IsLegalFor (asked : Request) (files : Contents) : Type 0 where
+  pub names : AreNamesApart (sources_of asked ++ others_of asked) (outputs_of asked)
+  pub inputs : List FileInput
   pub are : AreInputs files (sources_of asked) inputs
-  pub few : frames_of inputs ≤ most_of asked
-  pub choices : AreLegal asked files inputs
+  pub few : input_frames inputs ≤ most_frames_of asked
+  pub choices : AreLegalChoices asked files inputs
 
 -- ---- a packing with one bit rate that is refused
 
 -- The input is there, no longer than allowed and well-formed, the bit rate is one of its class, and
 -- no list of its slots has room for the main data; this is the first frame up to which none has.
 pub record IsUnfitFor (rate : ℕ) (input output : List ℕ) (files : Contents) (i : ℕ) : Type 0 where
-  pub names : AreApart (input ∷ []) (output ∷ [])
-  pub read : Input
+  pub names : AreNamesApart (input ∷ []) (output ∷ [])
+  pub read : FileInput
   pub is : IsInput files input read
   pub few : length read.survey.frames ≤ most_frames
   pub named : IsRate rate read.survey.class

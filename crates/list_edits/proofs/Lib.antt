@@ -1,9 +1,9 @@
 -- The lemmas of this crate.
-pub mod PairsLaws
-pub mod DecimalLaws
-pub mod RateLaws
-pub mod ThingsLaws
-pub mod ListingLaws
-pub mod TextLaws
-pub mod InfoLaws
-pub mod TotalsLaws
+pub mod PairsLemmas
+pub mod DecimalLemmas
+pub mod RateLemmas
+pub mod ThingsLemmas
+pub mod ListingLemmas
+pub mod TextLemmas
+pub mod InfoLemmas
+pub mod TotalsLemmas

@@ -4,12 +4,12 @@ use Rattle.std.specs.Prelude.{Bool, codes, decimal, flat_map, if◌then◌else�
 use Rattle.std.specs.Prelude.{Option, Some, true, ℕ, [], ◌&&◌, ◌++◌, ◌-◌, ◌==◌, ◌∷◌}
 use Rattle.commands.specs.Command.{Command}
 use Rattle.exact_span.specs.{Extensions.counts_of, PlayedPositions.{length_of_played, played_of}}
-use Rattle.exact_span.specs.declared.extensions.Counts.{Counts}
+use Rattle.exact_span.specs.declared.extensions.HeadCounts.{HeadCounts}
 use Rattle.frame_header.specs.Fields.{ClassFields}
-use Rattle.info_header.specs.{Info.text_of, declared.fields.Info.Info}
+use Rattle.info_header.specs.{Info.vbr_text, declared.fields.Info.Info}
 use Rattle.laying.specs.KeptFields.{fields_of_head}
 use Rattle.list_edits.specs.{Listing.{class_text, hundredths, time_text}, TextCommand.text_command}
-use Rattle.list_edits.specs.Totals.{areas_in, greatest_rate, least_rate, lost_in, main_data_in}
+use Rattle.list_edits.specs.Totals.{file_areas, greatest_rate, least_rate, lost_count, main_data_in}
 use Rattle.list_edits.specs.Totals.{stream_length}
 use Rattle.moved_gains.specs.GainExtremes.{extremes_of, extremes_of_both}
 use Rattle.moved_gains.specs.declared.gain_extremes.Gains.{Gains}
@@ -28,12 +28,12 @@ frames_line class count lost =
     ++ (time_text (hundredths class count) ++ codes "\n"))))
 
 -- what is after the least of two numbers: the greatest, where it is another
-abbrev pub up_to : ℕ → ℕ → List ℕ
-up_to least greatest = if least == greatest then [] else codes " to " ++ decimal greatest
+abbrev pub greatest_text : ℕ → ℕ → List ℕ
+greatest_text least greatest = if least == greatest then [] else codes " to " ++ decimal greatest
 
 -- the least and the greatest bit rate, in kbit/s, or the only one
 abbrev pub rates_line : ℕ → ℕ → List ℕ
-rates_line least greatest = decimal least ++ (up_to least greatest ++ codes " kbit/s\n")
+rates_line least greatest = decimal least ++ (greatest_text least greatest ++ codes " kbit/s\n")
 
 -- how many bytes of main data there are, and how many there could be
 abbrev pub main_data_line : ℕ → ℕ → List ℕ
@@ -51,7 +51,7 @@ number_text (Some n) unit = codes ", " ++ (decimal n ++ unit)
 abbrev pub head_line : Option Info → List ℕ
 head_line None = codes "no head\n"
 head_line (Some info) =
-    text_of info.vbr ++ (codes " head" ++ (number_text info.frames (codes " frames")
+    vbr_text info.vbr ++ (codes " head" ++ (number_text info.frames (codes " frames")
     ++ (number_text info.bytes (codes " bytes") ++ codes "\n")))
 
 -- the head has no such number, or this one
@@ -78,7 +78,7 @@ here_lines head frames bytes =
 -- ---- what is played
 
 -- delay and padding, in samples, where the head counts
-abbrev pub counts_text : Option Counts → List ℕ
+abbrev pub counts_text : Option HeadCounts → List ℕ
 counts_text None = []
 counts_text (Some counts) =
     codes "delay " ++ (decimal counts.delay ++ (codes ", padding "
@@ -93,8 +93,8 @@ played_line head class frames =
 -- ---- the gains that move
 
 -- by how many steps they can move down and up
-abbrev pub steps_text : Gains → List ℕ
-steps_text g =
+abbrev pub step_range_text : Gains → List ℕ
+step_range_text g =
     codes "steps -" ++ (decimal g.least ++ (codes " to +"
     ++ (decimal (255 - g.greatest) ++ codes "\n")))
 
@@ -103,12 +103,12 @@ abbrev pub gains_text : Option Gains → List ℕ
 gains_text None = codes "no gains\n"
 gains_text (Some g) =
     codes "gains " ++ (decimal g.least ++ (codes " to "
-    ++ (decimal g.greatest ++ (codes ", " ++ steps_text g))))
+    ++ (decimal g.greatest ++ (codes ", " ++ step_range_text g))))
 
 -- the steps of both channels together
 abbrev pub both_text : Option Gains → List ℕ
 both_text None = codes "no gains\n"
-both_text (Some g) = steps_text g
+both_text (Some g) = step_range_text g
 
 -- of the one channel
 abbrev pub mono_lines : Option Gains → List (List ℕ)
@@ -132,9 +132,9 @@ unfoldable pub info_lines : Option Info → SurveyFields → List (List ℕ)
 info_lines head s =
     let rows = s.frames in
     let count = length rows in
-    class_line s.class ∷ frames_line s.class count (lost_in rows)
+    class_line s.class ∷ frames_line s.class count (lost_count rows)
     ∷ rates_line (least_rate rows) (greatest_rate rows)
-    ∷ main_data_line (main_data_in rows) (areas_in s)
+    ∷ main_data_line (main_data_in rows) (file_areas s)
     ∷ head_line head ∷ (here_lines head count (stream_length s)
     ++ (played_line head s.class count
     ∷ gain_lines s.class.channels (extremes_of 0 rows) (extremes_of 1 rows)

@@ -6,7 +6,7 @@ use Rattle.frame_header.specs.Fields.{ClassFields}
 use Rattle.frame_header.specs.Tables.{class_of, frequency_of, length_of, rate_of, samples_of}
 use Rattle.frame_header.specs.declared.version.Version.{Version, TheVariants.{One, Two, TwoFive}}
 use Rattle.list_edits.specs.{Decimals.two_digits, TextCommand.text_command}
-use Rattle.list_edits.specs.{Things.{in_order, things_of}, declared.things.Thing.Thing}
+use Rattle.list_edits.specs.{Things.{ordered_things, things_of}, declared.things.Thing.Thing}
 use Rattle.list_edits.specs.declared.things.Thing.TheVariants.{Block, FirstHead, Frame, Junk}
 use Rattle.side_info.specs.Side.{payload_bits}
 use Rattle.sync_survey.specs.{Faults.SurveyFields, Row.Row}
@@ -48,18 +48,19 @@ frame_line number row =
 
 -- the line of a thing: its kind, its offset and its length in bytes; of a frame what `frame_line`
 -- says
-unfoldable pub line_of : Thing → List ℕ
-line_of (Block piece) =
+unfoldable pub thing_line : Thing → List ℕ
+thing_line (Block piece) =
     codes "block " ++ (kind_name piece.block.kind ++ extent piece.offset piece.block.length)
-line_of (Junk at size) = codes "junk" ++ extent at size
-line_of (FirstHead at header) = codes "head" ++ extent at (length_of (class_of header) header.slot)
-line_of (Frame number row) = frame_line number row
+thing_line (Junk at size) = codes "junk" ++ extent at size
+thing_line (FirstHead at header) =
+    codes "head" ++ extent at (length_of (class_of header) header.slot)
+thing_line (Frame number row) = frame_line number row
 
 -- the line of the first of these things, after which the others are left
 pub record IsNextLine (things rest : List Thing) (text : List ℕ) : Type 0 where
   pub thing : Thing
   pub first : things ≡ thing ∷ rest
-  pub line : line_of thing ≡ text
+  pub line : thing_line thing ≡ text
 
 -- ---- the summary
 
@@ -93,12 +94,12 @@ summary class count =
 -- ---- the command
 
 -- the lines of these things
-abbrev pub lines_of : List Thing → List ℕ
-lines_of ts = flat_map line_of ts
+abbrev pub thing_lines : List Thing → List ℕ
+thing_lines ts = flat_map thing_line ts
 
 -- the lines of all things of a file in order of their offsets, and the summary
 unfoldable pub listing : SurveyFields → List ℕ
-listing s = lines_of (in_order (things_of s)) ++ summary s.class (length s.frames)
+listing s = thing_lines (ordered_things (things_of s)) ++ summary s.class (length s.frames)
 
 -- the text is the listing of the input
 abbrev pub list_command : List ℕ → Command

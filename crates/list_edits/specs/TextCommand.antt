@@ -1,23 +1,24 @@
 -- A command that reads one file and sends a text of it. It writes no file.
 use Rattle.std.specs.Prelude.{Err, false, IfErr, List, None, Ok, OnOk, Option, Result, Some, ℕ, []}
 use Rattle.std.specs.Prelude.{◌∷◌, ◌≡◌}
-use Rattle.commands.specs.{Command.{Command, HoldsStreams, Made}, Left.{HasNumbers, IsDone, Leaves}}
-use Rattle.commands.specs.{One.most_frames, Said.{fault_of, Says}}
-use Rattle.commands.specs.declared.fault.EditFault.{EditFault, TheVariants.Input}
+use Rattle.commands.specs.AfterCall.{HasNumbers, IsCommandDone, IsCommandFault}
+use Rattle.commands.specs.{Command.{Command, HoldsStreams, Made}, SentText.{answer_fault, SaysText}}
+use Rattle.commands.specs.{SingleOutput.most_frames, declared.fault.EditFault.EditFault}
+use Rattle.commands.specs.declared.fault.EditFault.TheVariants.{Input}
 use Rattle.outside.specs.{Counts.OnlyReads, Seen.{Heard, Seen}}
 use Rattle.sync_survey.specs.{Faults.SurveyFields, Survey.survey_of}
 use Rattle.sync_survey.specs.declared.survey_fault.SurveyFault.{SurveyFault, TheVariants.Absent}
 
 -- the text of a survey, or its fault
-abbrev pub text_by : (SurveyFields → List ℕ) → Result SurveyFields SurveyFault
+abbrev pub surveyed_text : (SurveyFields → List ℕ) → Result SurveyFields SurveyFault
     → Result Made EditFault
-text_by text (Err fault) = Err (Input 0 fault)
-text_by text (Ok s) = Ok (record { outputs = []; text = text s })
+surveyed_text text (Err fault) = Err (Input 0 fault)
+surveyed_text text (Ok s) = Ok (record { outputs = []; text = text s })
 
 -- the text of a file's bytes and their survey, where the file is there
-abbrev pub text_where : (List ℕ → SurveyFields → List ℕ) → Option (List ℕ) → Result Made EditFault
-text_where text None = Err (Input 0 Absent)
-text_where text (Some file) = text_by (text file) (survey_of file most_frames)
+abbrev pub input_text : (List ℕ → SurveyFields → List ℕ) → Option (List ℕ) → Result Made EditFault
+input_text text None = Err (Input 0 Absent)
+input_text text (Some file) = surveyed_text (text file) (survey_of file most_frames)
 
 -- nothing is written to the folder, and the text is that of the input
 abbrev pub text_command : (List ℕ → SurveyFields → List ℕ) → List ℕ → Command
@@ -26,7 +27,7 @@ text_command text input = record {
   outputs = [];
   sources = input ∷ [];
   always = None;
-  makes = λ files. text_where text (files input);
+  makes = λ files. input_text text (files input);
   streams = λ files. [];
   refuses = λ refusal. false;
 }
@@ -34,10 +35,10 @@ text_command text input = record {
 -- What the call of such a command says, whatever its answer.
 pub record IsTextRun (command : Command) (old new : Seen) (heard now : Heard)
     (answer : Result (Unit {0}) EditFault) : Type 0 where
-  pub done : OnOk answer (IsDone command old new)
-  pub left : IfErr answer (Leaves command old new)
+  pub done : OnOk answer (IsCommandDone command old new)
+  pub left : IfErr answer (IsCommandFault command old new)
   -- the text, of which a prefix was sent where a write failed
-  pub says : Says command old.files heard now (fault_of answer)
+  pub says : SaysText command old.files heard now (answer_fault answer)
   -- the fault is right over a folder that tells nothing too
   pub numbers : IfErr answer (HasNumbers command)
   -- the input is well-formed

@@ -6,7 +6,7 @@ use Rattle.list_edits.specs.declared.things.Thing.{Thing}
 use Rattle.list_edits.specs.declared.things.Thing.TheVariants.{Block, FirstHead, Frame, Junk}
 use Rattle.list_edits.specs.declared.things.Things.{Things}
 use Rattle.sync_survey.specs.{Faults.SurveyFields, Merge.{firsts_left, seconds_left}}
-use Rattle.sync_survey.specs.{Order.{merged_by, ordered_by}, Row.Row, declared.places.Head.Head}
+use Rattle.sync_survey.specs.{Order.{merged_list, ordered_list}, Row.Row, declared.places.Head.Head}
 
 -- the offset of a thing
 abbrev pub offset_of : Thing → ℕ
@@ -22,9 +22,9 @@ abbrev pub junk_of : SurveyFields → List Thing
 junk_of s = if nat_lt s.junk s.first then Junk s.junk (s.first - s.junk) ∷ [] else []
 
 -- the head, where the first frame is one
-abbrev pub head_of : ℕ → Option Head → List Thing
-head_of first None = []
-head_of first (Some head) = FirstHead first head.header ∷ []
+abbrev pub head_thing : ℕ → Option Head → List Thing
+head_thing first None = []
+head_thing first (Some head) = FirstHead first head.header ∷ []
 
 -- frames with their numbers, from this one on
 abbrev pub frames_from : ℕ → List Row → List Thing
@@ -32,21 +32,21 @@ frames_from number rows = map (λ (p : ℕ × Row). Frame p.0 p.1) (enumerate_fr
 
 -- the junk, the head and the frames of a file
 abbrev pub stream_things : SurveyFields → List Thing
-stream_things s = junk_of s ++ (head_of s.first s.head ++ frames_from 0 s.frames)
+stream_things s = junk_of s ++ (head_thing s.first s.head ++ frames_from 0 s.frames)
 
 -- all things of a file
 unfoldable pub things_of : SurveyFields → List Thing
 things_of s = map Block s.blocks ++ stream_things s
 
 -- the things in order of their offsets
-abbrev pub in_order : List Thing → List Thing
-in_order = ordered_by offset_of
+abbrev pub ordered_things : List Thing → List Thing
+ordered_things = ordered_list offset_of
 
 -- ---- what a walk over them hasn't met yet
 
 -- the junk and the head, where the walk hasn't met them yet
-abbrev pub leading : Things → List Thing
-leading t = option_to_list t.junk ++ option_to_list t.head
+abbrev pub leading_things : Things → List Thing
+leading_things t = option_to_list t.junk ++ option_to_list t.head
 
 -- the offset of the first of these, if there is one
 abbrev pub IsLeadingOffset : Option ℕ → List Thing → Type 0
@@ -59,5 +59,6 @@ abbrev pub frames_left : Things → List Thing
 frames_left t = frames_from t.others.next_second (seconds_left t.others)
 
 -- all that the walk hasn't met yet, in order
-unfoldable pub left : Things → List Thing
-left t = merged_by offset_of (map Block (firsts_left t.others)) (leading t ++ frames_left t)
+unfoldable pub things_left : Things → List Thing
+things_left t =
+    merged_list offset_of (map Block (firsts_left t.others)) (leading_things t ++ frames_left t)

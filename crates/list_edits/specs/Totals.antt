@@ -5,7 +5,7 @@ use Rattle.std.specs.Prelude.{sum_by, unwrap_or, ℕ, ◌*◌, ◌+◌, ◌≡�
 use Rattle.frame_header.specs.{Fields.HeaderFields, Tables.{class_of, length_of, rate_of}}
 use Rattle.list_edits.specs.declared.totals.{HeaderTotals.HeaderTotals, SideTotals.SideTotals}
 use Rattle.list_edits.specs.declared.totals.Totals.{Totals}
-use Rattle.moved_gains.specs.GainExtremes.{extremes, extremes_of, gains_at, joined}
+use Rattle.moved_gains.specs.GainExtremes.{extremes, extremes_of, joined_extremes, row_gains}
 use Rattle.side_info.specs.Side.{payload_bytes}
 use Rattle.sync_survey.specs.{Faults.SurveyFields, MainData.{head_area, own_area}, Row.Row}
 use Rattle.sync_survey.specs.declared.places.Head.{Head}
@@ -13,57 +13,57 @@ use Rattle.sync_survey.specs.declared.places.Head.{Head}
 -- ---- frames and their main data
 
 -- how many of these frames are lost
-abbrev pub lost_in : List Row → ℕ
-lost_in rows = length (filter (λ (r : Row). r.lost) rows)
+abbrev pub lost_count : List Row → ℕ
+lost_count rows = length (filter (λ (r : Row). r.lost) rows)
 
 -- ---- bit rates in kbit/s
 
 -- the bit rate of a frame in kbit/s
-abbrev pub rate_in : Row → ℕ
-rate_in r = rate_of (class_of r.header) r.header.slot
+abbrev pub row_rate : Row → ℕ
+row_rate r = rate_of (class_of r.header) r.header.slot
 
 -- those of these frames
-abbrev pub rates_in : List Row → List ℕ
-rates_in rows = map rate_in rows
+abbrev pub row_rates : List Row → List ℕ
+row_rates rows = map row_rate rows
 
 -- the least of the frames, of which there is one at least
 abbrev pub least_rate : List Row → ℕ
-least_rate rows = unwrap_or (reduce min (rates_in rows)) 0
+least_rate rows = unwrap_or (reduce min (row_rates rows)) 0
 
 -- the greatest of them
 abbrev pub greatest_rate : List Row → ℕ
-greatest_rate rows = unwrap_or (reduce max (rates_in rows)) 0
+greatest_rate rows = unwrap_or (reduce max (row_rates rows)) 0
 
 -- ---- bytes
 
 -- the main data of a frame; a lost one has none
-abbrev pub main_data_at : Row → ℕ
-main_data_at r = if r.lost then 0 else payload_bytes r.side
+abbrev pub row_main_data : Row → ℕ
+row_main_data r = if r.lost then 0 else payload_bytes r.side
 
 -- those of all these frames
 abbrev pub main_data_in : List Row → ℕ
-main_data_in rows = sum_by main_data_at rows
+main_data_in rows = sum_by row_main_data rows
 
 -- the areas of frames
 abbrev pub row_areas : List Row → ℕ
 row_areas rows = sum_by (λ (r : Row). own_area r.header) rows
 
 -- those of the head and of all frames, which are the main data of the file
-abbrev pub areas_in : SurveyFields → ℕ
-areas_in s = head_area s.head + row_areas s.frames
+abbrev pub file_areas : SurveyFields → ℕ
+file_areas s = head_area s.head + row_areas s.frames
 
 -- a frame with this header, from the header to the end of its area
-abbrev pub frame_length : HeaderFields → ℕ
-frame_length h = length_of (class_of h) h.slot
+abbrev pub header_frame_length : HeaderFields → ℕ
+header_frame_length h = length_of (class_of h) h.slot
 
 -- the length of the head in bytes
 abbrev pub head_length : Option Head → ℕ
 head_length None = 0
-head_length (Some head) = frame_length head.header
+head_length (Some head) = header_frame_length head.header
 
 -- the length of these frames together in bytes
 abbrev pub row_lengths : List Row → ℕ
-row_lengths rows = sum_by (λ (r : Row). frame_length r.header) rows
+row_lengths rows = sum_by (λ (r : Row). header_frame_length r.header) rows
 
 -- the length of the head and all frames in bytes
 abbrev pub stream_length : SurveyFields → ℕ
@@ -83,7 +83,7 @@ no_sides = record { lost = 0; main_data = 0; left = None; right = None }
 abbrev pub with_header : HeaderFields → HeaderTotals → HeaderTotals
 with_header h t = record {
   areas = t.areas + own_area h;
-  lengths = t.lengths + frame_length h;
+  lengths = t.lengths + header_frame_length h;
   least_rate = min t.least_rate (rate_of (class_of h) h.slot);
   greatest_rate = max t.greatest_rate (rate_of (class_of h) h.slot);
 }
@@ -92,9 +92,9 @@ with_header h t = record {
 abbrev pub with_side : Row → SideTotals → SideTotals
 with_side r t = record {
   lost = t.lost + (if r.lost then 1 else 0);
-  main_data = t.main_data + main_data_at r;
-  left = joined t.left (extremes (gains_at 0 r));
-  right = joined t.right (extremes (gains_at 1 r));
+  main_data = t.main_data + row_main_data r;
+  left = joined_extremes t.left (extremes (row_gains 0 r));
+  right = joined_extremes t.right (extremes (row_gains 1 r));
 }
 
 -- they are those of these frames
@@ -105,7 +105,7 @@ pub record AreTotals (rows : List Row) (t : Totals) : Type 0 where
   pub few_lengths : t.headers.lengths ≤ 1441 * length rows
   pub least_rate : t.headers.least_rate ≡ least_rate rows
   pub greatest_rate : t.headers.greatest_rate ≡ greatest_rate rows
-  pub lost : t.sides.lost ≡ lost_in rows
+  pub lost : t.sides.lost ≡ lost_count rows
   pub main_data : t.sides.main_data ≡ main_data_in rows
   pub left : t.sides.left ≡ extremes_of 0 rows
   pub right : t.sides.right ≡ extremes_of 1 rows

@@ -1,13 +1,13 @@
 //! The one body of the commands that send a text of one file.
 ghost use Rattle.std.specs.Prelude.{◌≡◌, ◌≤◌, ℕ, List, [], Ok, IfOk, OnOk, OnErr, IfErr, length};
-ghost use Rattle.outside.specs.Files.{sent_more, IsThere};
-ghost use Rattle.outside.specs.Passed.{SentPrefix};
+ghost use Rattle.outside.specs.Files.{sent_and_more, IsFileThere};
+ghost use Rattle.outside.specs.BufferOutput.{SentPrefix};
 ghost use Rattle.outside.specs.Counts.{HasCause};
 ghost use Rattle.outside.specs.Seen.{OnFile, OnlyRead};
-ghost use Rattle.sync_survey.specs.Faults.{SurveyFields, tells};
-ghost use Rattle.sync_survey.specs.Survey.{survey_of, IsLaidOut};
-ghost use Rattle.commands.specs.Left.{IsOfSurvey};
-ghost use Rattle.commands.specs.One.{most_frames, IsFileFault};
+ghost use Rattle.sync_survey.specs.Faults.{SurveyFields, survey_view};
+ghost use Rattle.sync_survey.specs.Survey.{survey_of, IsSurveyLaidOut};
+ghost use Rattle.commands.specs.AfterCall.{HasSurveyNumbers};
+ghost use Rattle.commands.specs.SingleOutput.{most_frames, IsFileFault};
 ghost use Rattle.list_edits.specs.TextCommand.{text_command, IsTextRun};
 
 use commands::{EditFault, MOST_FRAMES, survey_at};
@@ -28,16 +28,16 @@ pub(crate) trait FileText: Sized + Drop {
     /// # Errors
     /// `Input(0, ..)` with `Read` and `Shrunk` where the input could not be read.
     fn read<D: Folder>(folder: &mut D, input: &str, survey: &Survey) -> Result<Self, EditFault>
-        requires there { IsThere (D.seen folder.old).files input.now }
-        requires laid { IsLaidOut (tells survey.now) }
+        requires there { IsFileThere (D.seen folder.old).files input.now }
+        requires laid { IsSurveyLaidOut (survey_view survey.now) }
         requires surveyed { OnFile (D.seen folder.old) input.now
-            (λ bytes. survey_of bytes most_frames ≡ Ok (tells survey.now)) }
+            (λ bytes. survey_of bytes most_frames ≡ Ok (survey_view survey.now)) }
         ensures text { IfOk result (λ it. OnFile (D.seen folder.old) input.now
-            (λ bytes. text bytes (tells survey.now) ≡ said it (tells survey.now))) }
+            (λ bytes. text bytes (survey_view survey.now) ≡ said it (survey_view survey.now))) }
         ensures refused { IfErr result (IsFileFault 0 most_frames input.now
             (D.seen folder.old)
             (D.seen folder.new)) }
-        ensures numbers { IfErr result (IsOfSurvey 0) }
+        ensures numbers { IfErr result (HasSurveyNumbers 0) }
         ensures reads { OnlyRead result (D.seen folder.old) (D.seen folder.new) };
 
     /// Sends the text of the file with this survey. It takes no memory.
@@ -45,12 +45,12 @@ pub(crate) trait FileText: Sized + Drop {
     /// # Errors
     /// Where a write failed. Then a prefix of the text was sent.
     fn send<T: Sink>(&self, survey: &Survey, buffer: SendBuffer, out: &mut T) -> Result<(), Failed>
-        requires laid { IsLaidOut (tells survey.now) }
-        requires few { length (tells survey.now).frames ≤ most_frames }
+        requires laid { IsSurveyLaidOut (survey_view survey.now) }
+        requires few { length (survey_view survey.now).frames ≤ most_frames }
         requires empty { buffer ≡ [] }
-        ensures sent { OnOk result ((T.heard out.new).sent ≡ sent_more (T.heard out.old).sent
-            (said self.now (tells survey.now))) }
-        ensures prefix { OnErr result (SentPrefix (said self.now (tells survey.now))
+        ensures sent { OnOk result ((T.heard out.new).sent ≡ sent_and_more (T.heard out.old).sent
+            (said self.now (survey_view survey.now))) }
+        ensures prefix { OnErr result (SentPrefix (said self.now (survey_view survey.now))
             (T.heard out.old).sent (T.heard out.new).sent) }
         ensures cause { HasCause (T.heard out.old).faults (T.heard out.new).faults result };
 }
@@ -65,12 +65,12 @@ fn tell<K: FileText, T: Sink>(
     buffer: SendBuffer,
     out: &mut T,
 ) -> Result<(), EditFault>
-    requires laid { IsLaidOut (tells survey.now) }
-    requires few { length (tells survey.now).frames ≤ most_frames }
+    requires laid { IsSurveyLaidOut (survey_view survey.now) }
+    requires few { length (survey_view survey.now).frames ≤ most_frames }
     requires empty { buffer ≡ [] }
-    ensures sent { OnOk result ((T.heard out.new).sent ≡ sent_more (T.heard out.old).sent
-        (K.said text.now (tells survey.now))) }
-    ensures prefix { OnErr result (SentPrefix (K.said text.now (tells survey.now))
+    ensures sent { OnOk result ((T.heard out.new).sent ≡ sent_and_more (T.heard out.old).sent
+        (K.said text.now (survey_view survey.now))) }
+    ensures prefix { OnErr result (SentPrefix (K.said text.now (survey_view survey.now))
         (T.heard out.old).sent (T.heard out.new).sent) }
     ensures cause { HasCause (T.heard out.old).faults (T.heard out.new).faults result }
     ensures fault { IfErr result (λ fault. fault ≡ EditFault.Sent) }

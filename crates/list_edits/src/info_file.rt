@@ -1,11 +1,11 @@
 //! The info command over a folder.
 ghost use Rattle.std.specs.Prelude.{◌≡◌, ◌≤◌, [], OnOk, OnErr, length, flat_map, option_copied};
-ghost use Rattle.outside.specs.Files.{sent_more};
-ghost use Rattle.outside.specs.Passed.{SentPrefix};
+ghost use Rattle.outside.specs.Files.{sent_and_more};
+ghost use Rattle.outside.specs.BufferOutput.{SentPrefix};
 ghost use Rattle.outside.specs.Counts.{HasCause};
-ghost use Rattle.sync_survey.specs.Faults.{tells};
-ghost use Rattle.sync_survey.specs.Survey.{IsLaidOut};
-ghost use Rattle.commands.specs.One.{most_frames};
+ghost use Rattle.sync_survey.specs.Faults.{survey_view};
+ghost use Rattle.sync_survey.specs.Survey.{IsSurveyLaidOut};
+ghost use Rattle.commands.specs.SingleOutput.{most_frames};
 ghost use Rattle.list_edits.specs.InfoText.{info_text, info_of, info_command};
 ghost use Rattle.list_edits.specs.TextCommand.{IsTextRun};
 
@@ -25,7 +25,7 @@ use sync_survey::Survey;
 /// Where a write failed. Then a prefix of the text was sent.
 fn send_lines<T: Sink>(lines: &[Line], mut buffer: SendBuffer, out: &mut T) -> Result<(), Failed>
     requires empty { buffer ≡ [] }
-    ensures sent { OnOk result ((T.heard out.new).sent ≡ sent_more (T.heard out.old).sent
+    ensures sent { OnOk result ((T.heard out.new).sent ≡ sent_and_more (T.heard out.old).sent
         (flat_map (λ line. line) lines.now)) }
     ensures prefix { OnErr result (SentPrefix (flat_map (λ line. line) lines.now)
         (T.heard out.old).sent (T.heard out.new).sent) }
@@ -47,13 +47,13 @@ fn send_info<T: Sink>(
     buffer: SendBuffer,
     out: &mut T,
 ) -> Result<(), Failed>
-    requires laid { IsLaidOut (tells survey.now) }
-    requires few { length (tells survey.now).frames ≤ most_frames }
+    requires laid { IsSurveyLaidOut (survey_view survey.now) }
+    requires few { length (survey_view survey.now).frames ≤ most_frames }
     requires empty { buffer ≡ [] }
-    ensures sent { OnOk result ((T.heard out.new).sent ≡ sent_more (T.heard out.old).sent
-        (info_text (option_copied head.entry) (tells survey.now))) }
+    ensures sent { OnOk result ((T.heard out.new).sent ≡ sent_and_more (T.heard out.old).sent
+        (info_text (option_copied head.entry) (survey_view survey.now))) }
     ensures prefix { OnErr result (SentPrefix (info_text (option_copied head.entry)
-        (tells survey.now)) (T.heard out.old).sent (T.heard out.new).sent) }
+        (survey_view survey.now)) (T.heard out.old).sent (T.heard out.new).sent) }
     ensures cause { HasCause (T.heard out.old).faults (T.heard out.new).faults result }
 {
     send_lines(&info_lines(survey, head), buffer, out)

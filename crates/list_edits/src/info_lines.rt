@@ -1,15 +1,15 @@
 //! The lines in which `info` says what a file is.
 ghost use Rattle.std.specs.Prelude.{◌≡◌, ◌+◌, ◌≤◌, if◌then◌else◌, [], ◌++◌, codes, length, flat_map, option_copied};
-ghost use Rattle.sync_survey.specs.Faults.{tells};
-ghost use Rattle.sync_survey.specs.Survey.{IsLaidOut};
-ghost use Rattle.commands.specs.One.{most_frames};
-ghost use Rattle.moved_gains.specs.GainExtremes.{joined as joined_lem};
-ghost use Rattle.list_edits.specs.InfoText.{class_line as class_line_lem, frames_line as frames_line_lem, rates_line as rates_line_lem, main_data_line as main_data_line_lem, number_text, head_line as head_line_lem, agrees as agrees_lem, is_as_said as is_as_said_lem, but_line, counts_text, played_line as played_line_lem, steps_text, gains_text, both_text, mono_lines as mono_lines_lem, stereo_lines as stereo_lines_lem, gain_lines as gain_lines_lem, info_text};
+ghost use Rattle.sync_survey.specs.Faults.{survey_view};
+ghost use Rattle.sync_survey.specs.Survey.{IsSurveyLaidOut};
+ghost use Rattle.commands.specs.SingleOutput.{most_frames};
+ghost use Rattle.moved_gains.specs.GainExtremes.{joined_extremes};
+ghost use Rattle.list_edits.specs.InfoText.{class_line, frames_line, rates_line, main_data_line, number_text, head_line, agrees, is_as_said, but_line, counts_text, played_line, step_range_text, gains_text, both_text, mono_lines, stereo_lines, gain_lines, info_text};
 
 use crate::line::Line;
 use crate::lines::{put_class, set_duration};
 use crate::totals::{Totals, areas_in, stream_length, totals_in};
-use exact_span::{Counts, Played, counts_of};
+use exact_span::{HeadCounts, Played, counts_of};
 use frame_header::Class;
 use info_header::Info;
 use moved_gains::{Gains, joined};
@@ -17,7 +17,7 @@ use sync_survey::Survey;
 
 /// What all frames share.
 fn class_line(class: Class) -> Line
-    ensures { result ≡ class_line_lem class }
+    ensures { result ≡ class_line class }
 {
     let mut line = Line::new();
     line.put(b"\n");
@@ -27,7 +27,7 @@ fn class_line(class: Class) -> Line
 
 /// How many frames there are, how many of them are lost, and how long they sound.
 fn frames_line(class: Class, count: u64, lost: u64) -> Line
-    ensures { result ≡ frames_line_lem class count lost }
+    ensures { result ≡ frames_line class count lost }
 {
     let mut line = Line::new();
     set_duration(&mut line, class, count);
@@ -38,7 +38,7 @@ fn frames_line(class: Class, count: u64, lost: u64) -> Line
 
 /// The least and the greatest bit rate in kbit/s, or the only one.
 fn rates_line(least: u32, greatest: u32) -> Line
-    ensures { result ≡ rates_line_lem least greatest }
+    ensures { result ≡ rates_line least greatest }
 {
     let mut line = Line::new();
     line.put(b" kbit/s\n");
@@ -52,7 +52,7 @@ fn rates_line(least: u32, greatest: u32) -> Line
 
 /// How many bytes of main data there are, and how many there could be.
 fn main_data_line(bytes: u64, areas: u64) -> Line
-    ensures { result ≡ main_data_line_lem bytes areas }
+    ensures { result ≡ main_data_line bytes areas }
 {
     let mut line = Line::new();
     line.put_counted(areas, b" bytes are main data\n");
@@ -74,7 +74,7 @@ fn put_said(line: &mut Line, number: Option<u32>, unit: &[u8])
 
 /// The text of the head, and its numbers of frames and of bytes.
 fn head_line(head: Option<&Info>) -> Line
-    ensures { result ≡ head_line_lem (option_copied head.entry) }
+    ensures { result ≡ head_line (option_copied head.entry) }
 {
     let mut line = Line::new();
     let Some(info) = head else {
@@ -95,7 +95,7 @@ fn head_line(head: Option<&Info>) -> Line
 
 /// Whether the head has no such number, or this one.
 fn agrees(said: Option<u32>, number: u64) -> bool
-    ensures { result ≡ agrees_lem said number }
+    ensures { result ≡ agrees said number }
 {
     match said {
         Some(said) => u64::from(said) == number,
@@ -105,7 +105,7 @@ fn agrees(said: Option<u32>, number: u64) -> bool
 
 /// Whether neither number of the head says that there are more frames or bytes than these, or fewer.
 fn is_as_said(head: Option<&Info>, frames: u64, bytes: u64) -> bool
-    ensures { result ≡ is_as_said_lem (option_copied head.entry) frames bytes }
+    ensures { result ≡ is_as_said (option_copied head.entry) frames bytes }
 {
     match head {
         Some(info) => agrees(info.frames, frames) && agrees(info.bytes, bytes),
@@ -115,7 +115,7 @@ fn is_as_said(head: Option<&Info>, frames: u64, bytes: u64) -> bool
 
 /// How many frames and bytes there are, where the head says otherwise; else nothing.
 fn here_line(head: Option<&Info>, frames: u64, bytes: u64) -> Line
-    ensures { result ≡ (if is_as_said_lem (option_copied head.entry) frames bytes then [] else
+    ensures { result ≡ (if is_as_said (option_copied head.entry) frames bytes then [] else
         but_line frames bytes) }
 {
     let mut line = Line::new();
@@ -129,7 +129,7 @@ fn here_line(head: Option<&Info>, frames: u64, bytes: u64) -> Line
 }
 
 /// Puts delay and padding before a line, where the head counts.
-fn put_delay(line: &mut Line, counts: Option<Counts>)
+fn put_delay(line: &mut Line, counts: Option<HeadCounts>)
     requires { length line.old + 80 ≤ 192 }
     ensures { line.new ≡ counts_text counts ++ line.old }
 {
@@ -142,7 +142,7 @@ fn put_delay(line: &mut Line, counts: Option<Counts>)
 
 /// Delay and padding, where the head counts, and how many samples are played.
 fn played_line(head: Option<&Info>, class: Class, frames: u32) -> Line
-    ensures { result ≡ played_line_lem (option_copied head.entry) class frames }
+    ensures { result ≡ played_line (option_copied head.entry) class frames }
 {
     let mut line = Line::new();
     line.put_counted(Played::of(head, class, frames).length(), b" samples\n");
@@ -154,7 +154,7 @@ fn played_line(head: Option<&Info>, class: Class, frames: u32) -> Line
 /// Puts by how many steps these gains can move, down and up, before an empty line.
 fn put_steps(line: &mut Line, gains: Gains)
     requires { line.old ≡ [] }
-    ensures steps { line.new ≡ steps_text gains }
+    ensures steps { line.new ≡ step_range_text gains }
     ensures few { length line.new ≤ 64 }
 {
     line.put(b"\n");
@@ -198,7 +198,7 @@ fn both_line(gains: Option<Gains>) -> Line
 /// The line of the one channel, which has these gains, and two empty ones.
 fn mono_lines(gains: Option<Gains>) -> (Line, Line, Line)
     ensures { result.0 ++ (result.1 ++ (result.2 ++ [])) ≡ flat_map (λ line. line)
-        (mono_lines_lem gains) }
+        (mono_lines gains) }
 {
     (channel_line(b"mono: ", gains), Line::new(), Line::new())
 }
@@ -206,7 +206,7 @@ fn mono_lines(gains: Option<Gains>) -> (Line, Line, Line)
 /// The lines of the two channels, which have these gains, and that of both.
 fn stereo_lines(left: Option<Gains>, right: Option<Gains>) -> (Line, Line, Line)
     ensures { result.0 ++ (result.1 ++ (result.2 ++ [])) ≡ flat_map (λ line. line)
-        (stereo_lines_lem left right (joined_lem left right)) }
+        (stereo_lines left right (joined_extremes left right)) }
 {
     (
         channel_line(b"left: ", left),
@@ -218,7 +218,7 @@ fn stereo_lines(left: Option<Gains>, right: Option<Gains>) -> (Line, Line, Line)
 /// The lines of so many channels. If there is one, `left` has its gains.
 fn gain_lines(channels: u8, left: Option<Gains>, right: Option<Gains>) -> (Line, Line, Line)
     ensures { result.0 ++ (result.1 ++ (result.2 ++ [])) ≡ flat_map (λ line. line)
-        (gain_lines_lem channels left right (joined_lem left right)) }
+        (gain_lines channels left right (joined_extremes left right)) }
 {
     if channels == 1 {
         mono_lines(left)
@@ -229,10 +229,10 @@ fn gain_lines(channels: u8, left: Option<Gains>, right: Option<Gains>) -> (Line,
 
 /// All lines of a surveyed file with this head, at most 10. The others are empty.
 pub(crate) fn info_lines(survey: &Survey, head: Option<&Info>) -> [Line; 10]
-    requires laid { IsLaidOut (tells survey.now) }
-    requires few { length (tells survey.now).frames ≤ most_frames }
+    requires laid { IsSurveyLaidOut (survey_view survey.now) }
+    requires few { length (survey_view survey.now).frames ≤ most_frames }
     ensures { flat_map (λ line. line) result ≡ info_text (option_copied head.entry)
-        (tells survey.now) }
+        (survey_view survey.now) }
 {
     let class = survey.class();
     let count = survey.frames().len();

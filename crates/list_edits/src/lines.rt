@@ -1,7 +1,7 @@
 //! The lines of a listing.
 ghost use Rattle.std.specs.Prelude.{◌≡◌, ◌+◌, ◌<◌, ◌≤◌, ◌++◌, true, false, [], length, codes};
-ghost use Rattle.list_edits.specs.Listing.{kind_name as kind_name_lem, version_name as version_name_lem, extent as extent_lem, frame_line as frame_line_lem, line_of, IsNextLine, time_text, hundredths, class_text, summary};
-ghost use Rattle.list_edits.specs.Things.{left};
+ghost use Rattle.list_edits.specs.Listing.{kind_name, version_name, extent, frame_line, thing_line, IsNextLine, time_text, hundredths, class_text, summary};
+ghost use Rattle.list_edits.specs.Things.{things_left};
 
 use crate::leading_digits::LeadingDigits;
 use crate::line::Line;
@@ -14,7 +14,7 @@ use tag_blocks::Kind;
 
 // The end of a line: the offset of a thing, and its length, in bytes.
 fn set_extent(line: &mut Line, at: u64, size: u64)
-    ensures text { line.new ≡ extent_lem at size }
+    ensures text { line.new ≡ extent at size }
     ensures few { length line.new ≤ 64 }
 {
     line.clear();
@@ -24,7 +24,7 @@ fn set_extent(line: &mut Line, at: u64, size: u64)
 }
 
 fn kind_name<'a>(kind: Kind) -> &'a [u8]
-    ensures name { result.now ≡ kind_name_lem kind }
+    ensures name { result.now ≡ kind_name kind }
     ensures few { length result.now ≤ 8 }
 {
     match kind {
@@ -54,7 +54,7 @@ impl Common {
 // The number of a frame, its offset, its bit rate in kbit/s, its main_data_begin in bytes, how many bits its main data are, and whether it is lost.
 #[inline(always)]
 fn set_frame_line(line: &mut Line, common: &mut Common, number: u64, row: &Row)
-    ensures { line.new ≡ frame_line_lem number row.now }
+    ensures { line.new ≡ frame_line number row.now }
 {
     let front = row.front();
     let class = front.class();
@@ -83,9 +83,9 @@ fn set_frame_line(line: &mut Line, common: &mut Common, number: u64, row: &Row)
 }
 
 // Makes the text the line of a thing.
-#[tactic(auto, unfolding(crate::specs::Listing::line_of))]
+#[tactic(auto, unfolding(crate::specs::Listing::thing_line))]
 fn set_line(line: &mut Line, common: &mut Common, thing: &Thing)
-    ensures { line.new ≡ line_of thing.now }
+    ensures { line.new ≡ thing_line thing.now }
 {
     match thing {
         Thing::Block(piece) => {
@@ -108,8 +108,8 @@ fn set_line(line: &mut Line, common: &mut Common, thing: &Thing)
 // As `set_next_line`. It is apart from it, since the compiler would make room for a thing of each kind at every frame.
 #[inline(never)]
 fn set_other_line(line: &mut Line, common: &mut Common, things: &mut Things) -> bool
-    ensures line { result ≡ true → IsNextLine (left things.old) (left things.new) line.new }
-    ensures none { result ≡ false → left things.old ≡ [] }
+    ensures line { result ≡ true → IsNextLine (things_left things.old) (things_left things.new) line.new }
+    ensures none { result ≡ false → things_left things.old ≡ [] }
 {
     match things.next() {
         Some(thing) => {
@@ -121,11 +121,11 @@ fn set_other_line(line: &mut Line, common: &mut Common, things: &mut Things) -> 
 }
 
 /// Makes the text the line of the next thing; false, with any text, once all were met.
-#[tactic(auto, unfolding(crate::specs::Listing::line_of))]
+#[tactic(auto, unfolding(crate::specs::Listing::thing_line))]
 #[inline]
 pub(crate) fn set_next_line(line: &mut Line, common: &mut Common, things: &mut Things) -> bool
-    ensures line { result ≡ true → IsNextLine (left things.old) (left things.new) line.new }
-    ensures none { result ≡ false → left things.old ≡ [] }
+    ensures line { result ≡ true → IsNextLine (things_left things.old) (things_left things.new) line.new }
+    ensures none { result ≡ false → things_left things.old ≡ [] }
 {
     match things.next_frame() {
         Some((number, row)) => {
@@ -137,7 +137,7 @@ pub(crate) fn set_next_line(line: &mut Line, common: &mut Common, things: &mut T
 }
 
 fn version_name<'a>(version: Version) -> &'a [u8]
-    ensures name { result.now ≡ version_name_lem version }
+    ensures name { result.now ≡ version_name version }
     ensures few { length result.now ≤ 8 }
 {
     match version {

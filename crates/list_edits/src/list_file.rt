@@ -1,10 +1,10 @@
 //! The list command over a folder.
 ghost use Rattle.std.specs.Prelude.{◌≡◌, [], OnOk, OnErr};
-ghost use Rattle.outside.specs.Files.{sent_more};
-ghost use Rattle.outside.specs.Passed.{SentPrefix};
+ghost use Rattle.outside.specs.Files.{sent_and_more};
+ghost use Rattle.outside.specs.BufferOutput.{SentPrefix};
 ghost use Rattle.outside.specs.Counts.{HasCause};
-ghost use Rattle.sync_survey.specs.Faults.{tells};
-ghost use Rattle.sync_survey.specs.Survey.{IsLaidOut};
+ghost use Rattle.sync_survey.specs.Faults.{survey_view};
+ghost use Rattle.sync_survey.specs.Survey.{IsSurveyLaidOut};
 ghost use Rattle.list_edits.specs.Listing.{listing, list_command};
 ghost use Rattle.list_edits.specs.TextCommand.{IsTextRun};
 
@@ -22,11 +22,11 @@ use sync_survey::Survey;
 /// # Errors
 /// Where a write failed. Then a prefix of the text was sent.
 fn send_listing<T: Sink>(survey: &Survey, mut buffer: SendBuffer, out: &mut T) -> Result<(), Failed>
-    requires laid { IsLaidOut (tells survey.now) }
+    requires laid { IsSurveyLaidOut (survey_view survey.now) }
     requires empty { buffer ≡ [] }
-    ensures sent { OnOk result ((T.heard out.new).sent ≡ sent_more (T.heard out.old).sent
-        (listing (tells survey.now))) }
-    ensures prefix { OnErr result (SentPrefix (listing (tells survey.now)) (T.heard out.old).sent
+    ensures sent { OnOk result ((T.heard out.new).sent ≡ sent_and_more (T.heard out.old).sent
+        (listing (survey_view survey.now))) }
+    ensures prefix { OnErr result (SentPrefix (listing (survey_view survey.now)) (T.heard out.old).sent
         (T.heard out.new).sent) }
     ensures cause { HasCause (T.heard out.old).faults (T.heard out.new).faults result }
 {

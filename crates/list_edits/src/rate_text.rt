@@ -1,7 +1,7 @@
 //! The bit rate of a frame as its line has it.
 ghost use Rattle.std.specs.Prelude.{◌≡◌, ◌+◌, ◌-◌, ◌≤◌, ◌++◌, length, drop, slice_index};
 ghost use Rattle.frame_header.specs.Tables.{rates, rate_of};
-ghost use Rattle.list_edits.specs.Listing.{rate_text as rate_text_lem};
+ghost use Rattle.list_edits.specs.Listing.{rate_text};
 
 use crate::line::Line;
 use frame_header::{Class, Slot, Version};
@@ -60,7 +60,7 @@ static MPEG_2_TEXTS: [RateText; 14] = [
 #[inline]
 fn spaced_text(version: Version, slot: Slot) -> &'static RateText
     ensures text { drop result.now.spaces result.now.text
-        ≡ rate_text_lem (slice_index (rates version) (slot.rate_index - 1)) }
+        ≡ rate_text (slice_index (rates version) (slot.rate_index - 1)) }
     ensures few { result.now.spaces ≤ 16 }
     ensures size { length result.now.text ≡ 16 }
 {
@@ -76,7 +76,7 @@ fn spaced_text(version: Version, slot: Slot) -> &'static RateText
 #[inline]
 pub(crate) fn put_rate(line: &mut Line, class: Class, slot: Slot)
     requires { length line.old + 16 ≤ 192 }
-    ensures rate { line.new ≡ rate_text_lem (rate_of class slot) ++ line.old }
+    ensures rate { line.new ≡ rate_text (rate_of class slot) ++ line.old }
     ensures few { length line.new ≤ length line.old + 16 }
 {
     let rate = spaced_text(class.version, slot);

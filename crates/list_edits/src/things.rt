@@ -1,8 +1,8 @@
 //! What is in a file, in order of the offsets.
 ghost use Rattle.std.specs.Prelude.{◌≡◌, [], ◌∷◌, option_to_list, IfSome, IfNone, MatchOption};
-ghost use Rattle.sync_survey.specs.Faults.{tells};
-ghost use Rattle.sync_survey.specs.Survey.{IsLaidOut};
-ghost use Rattle.list_edits.specs.Things.{offset_of, things_of, in_order, junk_of as junk_of_lem, head_of as head_of_lem, leading, left, IsLeadingOffset};
+ghost use Rattle.sync_survey.specs.Faults.{survey_view};
+ghost use Rattle.sync_survey.specs.Survey.{IsSurveyLaidOut};
+ghost use Rattle.list_edits.specs.Things.{offset_of, things_of, ordered_things, junk_of, head_thing, leading_things, things_left, IsLeadingOffset};
 ghost use Rattle.list_edits.specs.declared.things.Thing.TheVariants.{Frame};
 
 use frame_header::Header;
@@ -42,7 +42,7 @@ pub(crate) struct Things<'a> {
 }
 
 fn junk_of(survey: &Survey) -> Option<Thing>
-    ensures { option_to_list result ≡ junk_of_lem (tells survey.now) }
+    ensures { option_to_list result ≡ junk_of (survey_view survey.now) }
 {
     let (at, length) = survey.junk();
     if length == 0 {
@@ -52,7 +52,7 @@ fn junk_of(survey: &Survey) -> Option<Thing>
 }
 
 fn head_of(survey: &Survey) -> Option<Thing>
-    ensures { option_to_list result ≡ head_of_lem (tells survey.now).first (tells survey.now).head }
+    ensures { option_to_list result ≡ head_thing (survey_view survey.now).first (survey_view survey.now).head }
 {
     let head = survey.head()?;
     Some(Thing::FirstHead(survey.first(), head.header))
@@ -61,8 +61,8 @@ fn head_of(survey: &Survey) -> Option<Thing>
 impl<'a> Things<'a> {
     /// All things of the file.
     pub(crate) fn of(survey: &'a Survey) -> Things<'a>
-        requires { IsLaidOut (tells survey.now) }
-        ensures { left result ≡ in_order (things_of (tells survey.now)) }
+        requires { IsSurveyLaidOut (survey_view survey.now) }
+        ensures { things_left result ≡ ordered_things (things_of (survey_view survey.now)) }
     {
         Things {
             junk: junk_of(survey),
@@ -74,7 +74,7 @@ impl<'a> Things<'a> {
     /// The next thing, if it is a frame: its number, and its row. None if it is another, or all were met.
     #[inline]
     pub(crate) fn next_frame(&mut self) -> Option<(u64, &'a Row)>
-        ensures met { IfSome result (λ f. left self.old ≡ Frame f.0 f.1.now ∷ left self.new) }
+        ensures met { IfSome result (λ f. things_left self.old ≡ Frame f.0 f.1.now ∷ things_left self.new) }
         ensures stays { IfNone result (self.new ≡ self.old) }
     {
         if self.junk.is_some() {
@@ -90,7 +90,7 @@ impl<'a> Things<'a> {
 
     /// The next thing, in order of the offsets; none once all were met.
     pub(crate) fn next(&mut self) -> Option<Thing>
-        ensures { MatchOption result (left self.old ≡ []) (λ t. left self.old ≡ t ∷ left self.new) }
+        ensures { MatchOption result (things_left self.old ≡ []) (λ t. things_left self.old ≡ t ∷ things_left self.new) }
     {
         let Some(offset) = self.leading_offset() else {
             return self.next_other();
@@ -103,7 +103,7 @@ impl<'a> Things<'a> {
 
     /// The offset of the junk, or else of the head, if one of them is left.
     fn leading_offset(&self) -> Option<u64>
-        ensures { IsLeadingOffset result (leading self.now) }
+        ensures { IsLeadingOffset result (leading_things self.now) }
     {
         if let Some(junk) = &self.junk {
             return Some(junk.offset());
@@ -114,8 +114,8 @@ impl<'a> Things<'a> {
 
     /// The junk, or else the head, if one of them is left.
     fn next_leading(&mut self) -> Option<Thing>
-        ensures met { MatchOption result (leading self.old ≡ [])
-            (λ t. leading self.old ≡ t ∷ leading self.new) }
+        ensures met { MatchOption result (leading_things self.old ≡ [])
+            (λ t. leading_things self.old ≡ t ∷ leading_things self.new) }
         ensures same { self.new.others ≡ self.old.others }
     {
         if self.junk.is_some() {
@@ -126,8 +126,8 @@ impl<'a> Things<'a> {
 
     /// The next thing that is neither the junk nor the head.
     fn next_other(&mut self) -> Option<Thing>
-        requires { leading self.old ≡ [] }
-        ensures { MatchOption result (left self.old ≡ []) (λ t. left self.old ≡ t ∷ left self.new) }
+        requires { leading_things self.old ≡ [] }
+        ensures { MatchOption result (things_left self.old ≡ []) (λ t. things_left self.old ≡ t ∷ things_left self.new) }
     {
         let number = self.others.seconds_met() as u64;
         match self.others.next()? {

@@ -1,12 +1,12 @@
 //! What the frames of a file are together, by one walk over them.
 ghost use Rattle.std.specs.Prelude.{◌≡◌, ◌+◌, ◌*◌, ◌^◌, ◌<◌, ◌≤◌, length};
 ghost use Rattle.frame_header.specs.Tables.{class_of};
-ghost use Rattle.sync_survey.specs.MainData.{head_area as head_area_lem};
-ghost use Rattle.sync_survey.specs.Faults.{tells};
-ghost use Rattle.sync_survey.specs.Survey.{IsLaidOut};
-ghost use Rattle.commands.specs.One.{most_frames};
-ghost use Rattle.moved_gains.specs.Moving.{AreOfClass};
-ghost use Rattle.list_edits.specs.Totals.{areas_in as areas_in_lem, head_length as head_length_lem, stream_length as stream_length_lem, rate_in, with_header, with_side, no_sides, no_headers, AreTotals};
+ghost use Rattle.sync_survey.specs.MainData.{head_area};
+ghost use Rattle.sync_survey.specs.Faults.{survey_view};
+ghost use Rattle.sync_survey.specs.Survey.{IsSurveyLaidOut};
+ghost use Rattle.commands.specs.SingleOutput.{most_frames};
+ghost use Rattle.moved_gains.specs.Moving.{AreFramesOfClass};
+ghost use Rattle.list_edits.specs.Totals.{file_areas, head_length, stream_length, row_rate, with_header, with_side, no_sides, no_headers, AreTotals};
 
 use frame_header::{Class, Version};
 use moved_gains::{Gains, gains_in, joined};
@@ -43,7 +43,7 @@ pub(crate) struct Totals {
 #[inline(always)]
 fn bit_rate(class: Class, row: &Row) -> u32
     requires { class_of row.now.header ≡ class }
-    ensures { result ≡ rate_in row.now }
+    ensures { result ≡ row_rate row.now }
 {
     class.rate(row.front().slot())
 }
@@ -118,7 +118,7 @@ impl SideTotals {
 /// The totals of frames of this class.
 #[inline(always)]
 fn totals_of(class: Class, rows: &[Row]) -> Totals
-    requires classed { AreOfClass class rows.now }
+    requires classed { AreFramesOfClass class rows.now }
     requires some { 0 < length rows.now }
     requires few { length rows.now ≤ most_frames }
     ensures { AreTotals rows.now result }
@@ -135,9 +135,9 @@ fn totals_of(class: Class, rows: &[Row]) -> Totals
 /// The totals of the frames of a surveyed file. In MPEG-1 with two channels, the most frequent class, the compiler knows the
 /// places of all fields. It takes no memory.
 pub(crate) fn totals_in(survey: &Survey) -> Totals
-    requires laid { IsLaidOut (tells survey.now) }
-    requires few { length (tells survey.now).frames ≤ most_frames }
-    ensures { AreTotals (tells survey.now).frames result }
+    requires laid { IsSurveyLaidOut (survey_view survey.now) }
+    requires few { length (survey_view survey.now).frames ≤ most_frames }
+    ensures { AreTotals (survey_view survey.now).frames result }
 {
     let class = survey.class();
     let rows = survey.frames();
@@ -149,7 +149,7 @@ pub(crate) fn totals_in(survey: &Survey) -> Totals
 
 /// How many bytes the head's area has, if there is a head.
 fn head_area(head: Option<Head>) -> u64
-    ensures area { result ≡ head_area_lem head }
+    ensures area { result ≡ head_area head }
     ensures few { result ≤ 1441 }
 {
     match head {
@@ -160,16 +160,16 @@ fn head_area(head: Option<Head>) -> u64
 
 /// How many bytes the areas of the head and of all frames have, of which these are the totals.
 pub(crate) fn areas_in(survey: &Survey, totals: &Totals) -> u64
-    requires totals { AreTotals (tells survey.now).frames totals.now }
-    requires few { length (tells survey.now).frames ≤ most_frames }
-    ensures { result ≡ areas_in_lem (tells survey.now) }
+    requires totals { AreTotals (survey_view survey.now).frames totals.now }
+    requires few { length (survey_view survey.now).frames ≤ most_frames }
+    ensures { result ≡ file_areas (survey_view survey.now) }
 {
     head_area(survey.head()) + totals.headers.areas
 }
 
 /// How many bytes the head has, if there is one.
 fn head_length(head: Option<Head>) -> u64
-    ensures length { result ≡ head_length_lem head }
+    ensures length { result ≡ head_length head }
     ensures few { result ≤ 1441 }
 {
     match head {
@@ -180,9 +180,9 @@ fn head_length(head: Option<Head>) -> u64
 
 /// How many bytes the head and all frames have, of which these are the totals.
 pub(crate) fn stream_length(survey: &Survey, totals: &Totals) -> u64
-    requires totals { AreTotals (tells survey.now).frames totals.now }
-    requires few { length (tells survey.now).frames ≤ most_frames }
-    ensures { result ≡ stream_length_lem (tells survey.now) }
+    requires totals { AreTotals (survey_view survey.now).frames totals.now }
+    requires few { length (survey_view survey.now).frames ≤ most_frames }
+    ensures { result ≡ stream_length (survey_view survey.now) }
 {
     head_length(survey.head()) + totals.headers.lengths
 }

@@ -4,6 +4,6 @@ use Rattle.moved_gains.specs.Passing.{Passing}
 use Rattle.outside.specs.{Feed.IsFedFrom, Files.Files}
 
 -- what is held is of the input's bytes, and nothing waits for the output
-pub record AreFresh (buffers : Passing) (files : Files) (input : List ℕ) : Type 0 where
+pub record IsPassingFresh (buffers : Passing) (files : Files) (input : List ℕ) : Type 0 where
   pub fed : IsFedFrom buffers.feed files input
   pub none : buffers.waiting ≡ []

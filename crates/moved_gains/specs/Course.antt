@@ -7,17 +7,17 @@ use Rattle.requests.specs.declared.shift.Steps.{Steps}
 use Rattle.sync_survey.specs.Row.{Row}
 
 -- every frame by the same steps
-abbrev pub even : Steps → ℕ → Steps
-even steps at = steps
+abbrev pub constant_steps : Steps → ℕ → Steps
+constant_steps steps at = steps
 
 -- the same steps for both channels, without wrap
-abbrev pub alike : ℤ → Steps
-alike steps = record { left = steps; right = steps; wrap = false }
+abbrev pub equal_steps : ℤ → Steps
+equal_steps steps = record { left = steps; right = steps; wrap = false }
 
 -- the steps of a frame of this number, counted from 0
-abbrev pub steps_in : Course → ℕ → Steps
-steps_in (Even steps) frame = steps
-steps_in (Along curve back) frame = alike (steps_back back (steps_at curve frame))
+abbrev pub course_steps : Course → ℕ → Steps
+course_steps (Even steps) frame = steps
+course_steps (Along curve back) frame = equal_steps (steps_back back (steps_at curve frame))
 
 -- how many of these frames are before an offset: the number of the one that is there
 abbrev pub number_at : List Row → ℕ → ℕ
@@ -26,9 +26,10 @@ number_at (row ∷ rows) at =
     if nat_lt row.offset at then suc (number_at rows at) else number_at rows at
 
 -- frame i of these is the one of number i at its offset
-abbrev pub AreNumbered : List Row → Type 0
-AreNumbered rows = (i : ℕ) (row : Row) → slice_get rows i ≡ Some row → number_at rows row.offset ≡ i
+abbrev pub AreRowsNumbered : List Row → Type 0
+AreRowsNumbered rows =
+    (i : ℕ) (row : Row) → slice_get rows i ≡ Some row → number_at rows row.offset ≡ i
 
 -- the steps of the frame that is at an offset of a file with these frames
-abbrev pub steps_over : Course → List Row → ℕ → Steps
-steps_over course rows at = steps_in course (number_at rows at)
+abbrev pub steps_at_offset : Course → List Row → ℕ → Steps
+steps_at_offset course rows at = course_steps course (number_at rows at)

@@ -4,7 +4,7 @@
 use Rattle.std.specs.{Int.int_rem_euclid, Option.option_or}
 use Rattle.std.specs.Prelude.{Bool, if◌then◌else◌, List, nat_lt, negsuc, None, not, Option, pos}
 use Rattle.std.specs.Prelude.{Some, true, unsigned_abs, ℕ, ℤ, ◌+ℤ◌, [], ◌&&◌, ◌==◌, ◌∷◌}
-use Rattle.moved_gains.specs.declared.gains.Stuck.{Stuck}
+use Rattle.moved_gains.specs.declared.gains.OutOfRange.{OutOfRange}
 use Rattle.requests.specs.declared.shift.Steps.{Steps}
 use Rattle.side_info.specs.{Side.granule_in, declared.{granule.Granule.Granule, side.Side.Side}}
 
@@ -17,14 +17,15 @@ abbrev pub moved_gain : ℤ → ℕ → ℕ
 moved_gain steps gain = unsigned_abs (int_rem_euclid (pos gain +ℤ steps) (pos 256))
 
 -- a granule with its gain moved; a silent one stays
-abbrev pub moved : ℤ → Granule → Granule
-moved steps g =
+abbrev pub moved_granule : ℤ → Granule → Granule
+moved_granule steps g =
     if is_silent_granule g then g else record g { global_gain = moved_gain steps g.global_gain }
 
 -- a granule with channel 0 moved by the steps of the left and channel 1 by those of the right
 abbrev pub moved_channels : Steps → Side → ℕ → List Granule
 moved_channels steps s granule =
-    moved steps.left (granule_in s granule 0) ∷ moved steps.right (granule_in s granule 1) ∷ []
+    moved_granule steps.left (granule_in s granule 0)
+    ∷ moved_granule steps.right (granule_in s granule 1) ∷ []
 
 -- all other side fields stay
 unfoldable pub moved_side : Steps → Side → Side
@@ -32,26 +33,27 @@ moved_side steps s =
     record s { granules = moved_channels steps s 0 ∷ moved_channels steps s 1 ∷ [] }
 
 -- so does a frame that is lost, whole
-abbrev pub moved_unless : Bool → Steps → Side → Side
-moved_unless lost steps s = if lost then s else moved_side steps s
+abbrev pub moved_side_unless_lost : Bool → Steps → Side → Side
+moved_side_unless_lost lost steps s = if lost then s else moved_side steps s
 
 -- ---- the range
 
 -- the number isn't from 0 to 255
-abbrev pub is_outside : ℤ → Bool
-is_outside (pos n) = nat_lt 255 n
-is_outside (negsuc n) = true
+abbrev pub is_out_of_range : ℤ → Bool
+is_out_of_range (pos n) = nat_lt 255 n
+is_out_of_range (negsuc n) = true
 
 -- the gain of this granule and channel would leave the range
-abbrev pub stuck_at : ℤ → Side → ℕ → ℕ → Option Stuck
-stuck_at steps s granule channel = let g = granule_in s granule channel in
-    if not (is_silent_granule g) && is_outside (pos g.global_gain +ℤ steps)
+abbrev pub gain_out_of_range : ℤ → Side → ℕ → ℕ → Option OutOfRange
+gain_out_of_range steps s granule channel = let g = granule_in s granule channel in
+    if not (is_silent_granule g) && is_out_of_range (pos g.global_gain +ℤ steps)
     then Some (record { granule = granule; channel = channel; gain = g.global_gain }) else None
 
 -- the first gain of a frame that would leave the range,
 -- in order of granules and channels; none with wrap
-unfoldable pub stuck_in : Steps → Side → Option Stuck
-stuck_in steps s =
+unfoldable pub side_out_of_range : Steps → Side → Option OutOfRange
+side_out_of_range steps s =
     if steps.wrap then None
-    else option_or (stuck_at steps.left s 0 0) (option_or (stuck_at steps.right s 0 1)
-    (option_or (stuck_at steps.left s 1 0) (stuck_at steps.right s 1 1)))
+    else option_or (gain_out_of_range steps.left s 0 0)
+    (option_or (gain_out_of_range steps.right s 0 1)
+    (option_or (gain_out_of_range steps.left s 1 0) (gain_out_of_range steps.right s 1 1)))

@@ -7,12 +7,12 @@ use Rattle.std.specs.Prelude.{◌<◌, ◌∷◌, ◌≡◌, ◌≤◌, ◌⊎�
 use Rattle.bit_fields.specs.Bits.{AreBytes, bits}
 use Rattle.frame_header.specs.{Fields.HeaderFields, HeaderBits.header_widths, Tables.class_of}
 use Rattle.frame_header.specs.declared.version.Version.{Version}
-use Rattle.moved_gains.specs.{Change.{Change, changed}, Gains.is_silent_granule, Moving.row_end}
-use Rattle.moved_gains.specs.TagPlace.{tag_at, tag_length}
+use Rattle.moved_gains.specs.{Change.{file_with_change, FileChange}, Gains.is_silent_granule}
+use Rattle.moved_gains.specs.{Moving.row_end, TagPlace.{tag_length, tag_offset}}
 use Rattle.outside.specs.Pass.{bytes_between}
 use Rattle.side_info.specs.{Frame.side_in, Granule.granule_widths, Side.{front_widths, granules_in}}
 use Rattle.side_info.specs.declared.{granule.Granule.Granule, side.Side.Side}
-use Rattle.sync_survey.specs.{Faults.{surveyed, SurveyFields}, Row.Row}
+use Rattle.sync_survey.specs.{Faults.{survey_fields, SurveyFields}, Row.Row}
 
 -- ---- a frame
 
@@ -22,8 +22,8 @@ pub record Field : Type 0 where
   pub changes : Bool
 
 -- fields of these widths that stay
-abbrev pub staying : List ℕ → List Field
-staying widths = map (λ width. record { width = width; changes = false }) widths
+abbrev pub fixed_fields : List ℕ → List Field
+fixed_fields widths = map (λ width. record { width = width; changes = false }) widths
 
 -- global_gain may change, unless part2_3_length is 0
 abbrev pub gain_field : Granule → Field
@@ -33,36 +33,36 @@ gain_field g = record { width = 8; changes = not (is_silent_granule g) }
 abbrev pub granule_fields : Version → Granule → List Field
 granule_fields version g =
     let widths = granule_widths version in
-    staying (take 2 widths) ++ (gain_field g ∷ staying (drop 3 widths))
+    fixed_fields (take 2 widths) ++ (gain_field g ∷ fixed_fields (drop 3 widths))
 
 -- the check word of a protected frame may change
-abbrev pub word_fields : Bool → List Field
-word_fields protected = if protected then record { width = 16; changes = true } ∷ [] else []
+abbrev pub crc_fields : Bool → List Field
+crc_fields protected = if protected then record { width = 16; changes = true } ∷ [] else []
 
 -- the fields of the side information: those before the granules, and each granule and channel
 abbrev pub side_fields : HeaderFields → Side → List Field
 side_fields h s =
     let c = class_of h in
-    staying (front_widths c) ++ flat_map (granule_fields c.version) (granules_in c s)
+    fixed_fields (front_widths c) ++ flat_map (granule_fields c.version) (granules_in c s)
 
 -- All fields of a frame before its area, in their order (ISO/IEC 11172-3 and 13818-3, 2.4.1.2 to
 -- 2.4.1.7): header, check word and side information.
 abbrev pub frame_fields : HeaderFields → Side → List Field
-frame_fields h s = staying header_widths ++ (word_fields h.protected ++ side_fields h s)
+frame_fields h s = fixed_fields header_widths ++ (crc_fields h.protected ++ side_fields h s)
 
 -- all bits are the same, except those of fields that may change; so are all after the fields
-abbrev pub AreSameBut : List Field → List ℕ → List ℕ → Type 0
-AreSameBut [] old new = new ≡ old
-AreSameBut (field ∷ fields) old new =
+abbrev pub DiffersInFields : List Field → List ℕ → List ℕ → Type 0
+DiffersInFields [] old new = new ≡ old
+DiffersInFields (field ∷ fields) old new =
     (field.changes ≡ false → take field.width new ≡ take field.width old)
-    × AreSameBut fields (drop field.width old) (drop field.width new)
+    × DiffersInFields fields (drop field.width old) (drop field.width new)
 
 -- The new bytes of a frame are as many, and differ in gains and in the check word alone; if no gain
 -- differs, they are the old ones.
 pub record DiffersInGains (h : HeaderFields) (old new : List ℕ) : Type 0 where
   pub size : length new ≡ length old
   pub all : AreBytes new
-  pub fields : AreSameBut (frame_fields h (side_in h old)) (bits old) (bits new)
+  pub fields : DiffersInFields (frame_fields h (side_in h old)) (bits old) (bits new)
   pub word : side_in h new ≡ side_in h old → new ≡ old
 
 -- ---- a file
@@ -74,9 +74,9 @@ pub record Patch : Type 0 where
   pub now : List ℕ
 
 -- the file from an offset on, with these patches: all bytes between them, and after the last, stay
-abbrev pub patched : List ℕ → ℕ → List Patch → List ℕ
-patched file at [] = drop at file
-patched file at (p ∷ ps) = bytes_between file at p.from ++ (p.now ++ patched file p.to ps)
+abbrev pub patched_file : List ℕ → ℕ → List Patch → List ℕ
+patched_file file at [] = drop at file
+patched_file file at (p ∷ ps) = bytes_between file at p.from ++ (p.now ++ patched_file file p.to ps)
 
 -- the next of these begins after the offset
 abbrev pub BeginsAfter : ℕ → List Patch → Type 0
@@ -84,10 +84,10 @@ BeginsAfter at [] = Unit {0}
 BeginsAfter at (p ∷ ps) = at < p.from
 
 -- each ends before the next begins, and no two begin at one offset
-abbrev pub AreInOrder : ℕ → List Patch → Type 0
-AreInOrder at [] = Unit {0}
-AreInOrder at (p ∷ ps) =
-    (at ≤ p.from) × (p.from ≤ p.to) × BeginsAfter p.from ps × AreInOrder p.to ps
+abbrev pub ArePatchesInOrder : ℕ → List Patch → Type 0
+ArePatchesInOrder at [] = Unit {0}
+ArePatchesInOrder at (p ∷ ps) =
+    (at ≤ p.from) × (p.from ≤ p.to) × BeginsAfter p.from ps × ArePatchesInOrder p.to ps
 
 -- the junk before the first frame is left out
 pub record LeavesJunk (s : SurveyFields) (p : Patch) : Type 0 where
@@ -97,8 +97,8 @@ pub record LeavesJunk (s : SurveyFields) (p : Patch) : Type 0 where
 
 -- the tag is replaced or left out, or put right after the last frame of a file that has none
 pub record ReplacesTag (MayBeTag : List ℕ → Type 0) (s : SurveyFields) (p : Patch) : Type 0 where
-  pub from : p.from ≡ tag_at s
-  pub to : p.to ≡ tag_at s + tag_length s
+  pub from : p.from ≡ tag_offset s
+  pub to : p.to ≡ tag_offset s + tag_length s
   pub now : MayBeTag p.now
 
 -- a frame that is lost stays, and any other may differ in gains and check word
@@ -115,11 +115,11 @@ pub record MovesFrame (file : List ℕ) (s : SurveyFields) (p : Patch) : Type 0 
   pub now : MayBecome row (bytes_between file p.from p.to) p.now
 
 -- each patch is one of these
-abbrev pub AreAllowed : (List ℕ → Type 0) → List ℕ → SurveyFields → List Patch → Type 0
-AreAllowed MayBeTag file s [] = Unit {0}
-AreAllowed MayBeTag file s (p ∷ ps) =
+abbrev pub ArePatchesAllowed : (List ℕ → Type 0) → List ℕ → SurveyFields → List Patch → Type 0
+ArePatchesAllowed MayBeTag file s [] = Unit {0}
+ArePatchesAllowed MayBeTag file s (p ∷ ps) =
     (LeavesJunk s p ⊎ (ReplacesTag MayBeTag s p ⊎ MovesFrame file s p))
-    × AreAllowed MayBeTag file s ps
+    × ArePatchesAllowed MayBeTag file s ps
 
 -- What is written is the file with patches that leave out its junk, put what may be a tag in the
 -- place of its tag, and move the gains of its frames. So every other byte stays, and all stay in
@@ -127,13 +127,13 @@ AreAllowed MayBeTag file s (p ∷ ps) =
 pub record KeepsAll (MayBeTag : List ℕ → Type 0) (file : List ℕ) (s : SurveyFields)
     (new : List ℕ) : Type 0 where
   pub patches : List Patch
-  pub in_order : AreInOrder 0 patches
-  pub allowed : AreAllowed MayBeTag file s patches
-  pub written : new ≡ patched file 0 patches
+  pub in_order : ArePatchesInOrder 0 patches
+  pub allowed : ArePatchesAllowed MayBeTag file s patches
+  pub written : new ≡ patched_file file 0 patches
 
 -- so it is for every change of a file without fault, whatever the steps of each frame, and the tag
 abbrev pub ChangesKeepAll : Type 0
 ChangesKeepAll =
-    (change : Change) (file : List ℕ) (allowed : ℕ) (s : SurveyFields) → AreBytes file
-    → surveyed file allowed ≡ Ok s
-    → KeepsAll (λ tag. change.tag ≡ Some tag) file s (changed change file s)
+    (change : FileChange) (file : List ℕ) (allowed : ℕ) (s : SurveyFields) → AreBytes file
+    → survey_fields file allowed ≡ Ok s
+    → KeepsAll (λ tag. change.tag ≡ Some tag) file s (file_with_change change file s)

@@ -3,11 +3,11 @@
 use Rattle.std.specs.Prelude.{drop, if◌then◌else◌, length, List, nat_le, None, Option, slice_get}
 use Rattle.std.specs.Prelude.{Some, take, ℕ, [], ◌&&◌, ◌++◌, ◌+◌, ◌∷◌, ◌≡◌}
 use Rattle.frame_header.specs.{Fields.ClassFields, Tables.{class_of, length_of, overhead_of}}
-use Rattle.moved_gains.specs.{Change.Change, Gains.moved_side, TagPlace.{tag_at, tag_length}}
-use Rattle.moved_gains.specs.declared.moving.NewTag.{NewTag}
+use Rattle.moved_gains.specs.{Change.FileChange, Gains.moved_side}
+use Rattle.moved_gains.specs.{TagPlace.{tag_length, tag_offset}, declared.moving.NewTag.NewTag}
 use Rattle.outside.specs.Pass.{bytes_between}
 use Rattle.requests.specs.declared.shift.Steps.{Steps}
-use Rattle.side_info.specs.Frame.{frame_with, side_in}
+use Rattle.side_info.specs.Frame.{frame_with_side, side_in}
 use Rattle.sync_survey.specs.{Faults.SurveyFields, Row.Row}
 
 -- the length of a frame in bytes
@@ -32,15 +32,15 @@ AreRowsOf file [] = Unit {0}
 AreRowsOf file (row ∷ rows) = IsRowOf file row × AreRowsOf file rows
 
 -- the rows are of frames of this class
-abbrev pub AreOfClass : ClassFields → List Row → Type 0
-AreOfClass class rows =
+abbrev pub AreFramesOfClass : ClassFields → List Row → Type 0
+AreFramesOfClass class rows =
     (i : ℕ) (row : Row) → slice_get rows i ≡ Some row → class_of row.header ≡ class
 
 -- the bytes of a frame, or the first of them up to
 -- its area, with its gains moved; a lost frame stays
 abbrev pub moved_bytes : Steps → Row → List ℕ → List ℕ
 moved_bytes steps row bytes =
-    if row.lost then bytes else frame_with row.header (moved_side steps row.side) bytes
+    if row.lost then bytes else frame_with_side row.header (moved_side steps row.side) bytes
 
 -- the bytes of a frame of the file
 abbrev pub row_bytes : List ℕ → Row → List ℕ
@@ -57,28 +57,28 @@ bytes_around tag from to file =
     bytes_between file from tag.at ++ (tag.bytes.now ++ bytes_between file tag.end to)
 
 -- the bytes from one offset to another, with the new tag if what it replaces is among them
-abbrev pub copied : Option NewTag → List ℕ → ℕ → ℕ → List ℕ
-copied None file from to = bytes_between file from to
-copied (Some tag) file from to =
+abbrev pub copied_bytes : Option NewTag → List ℕ → ℕ → ℕ → List ℕ
+copied_bytes None file from to = bytes_between file from to
+copied_bytes (Some tag) file from to =
     if nat_le from tag.at && (nat_le tag.at tag.end && nat_le tag.end to)
     then bytes_around tag from to file else bytes_between file from to
 
 -- The bytes of the file from an offset on, with the gains of these
 -- frames moved, which are after it in their order, each by the steps at
 -- its offset; and with the new tag, if what it replaces is between them.
-unfoldable pub written_from : (ℕ → Steps) → Option NewTag → List ℕ → ℕ → List Row → List ℕ
-written_from steps tag file at [] = copied tag file at (length file)
-written_from steps tag file at (row ∷ rows) =
-    copied tag file at row.offset ++ (moved_row_bytes (steps row.offset) file row
-    ++ written_from steps tag file (row_end row) rows)
+unfoldable pub bytes_written_from : (ℕ → Steps) → Option NewTag → List ℕ → ℕ → List Row → List ℕ
+bytes_written_from steps tag file at [] = copied_bytes tag file at (length file)
+bytes_written_from steps tag file at (row ∷ rows) =
+    copied_bytes tag file at row.offset ++ (moved_row_bytes (steps row.offset) file row
+    ++ bytes_written_from steps tag file (row_end row) rows)
 
 -- the new tag of a change is in place of the file's
 abbrev pub IsTagOf : SurveyFields → Option (List ℕ) → Option NewTag → Type 0
 IsTagOf s None None = Unit {0}
 IsTagOf s (Some bytes) (Some tag) =
-    (tag.at ≡ tag_at s) × (tag.end ≡ tag_at s + tag_length s) × (tag.bytes.now ≡ bytes)
+    (tag.at ≡ tag_offset s) × (tag.end ≡ tag_offset s + tag_length s) × (tag.bytes.now ≡ bytes)
 IsTagOf s _ _ = ⊥
 
 -- the new tag of this change is in place of the file's
-abbrev pub IsNewTag : SurveyFields → Change → Option NewTag → Type 0
+abbrev pub IsNewTag : SurveyFields → FileChange → Option NewTag → Type 0
 IsNewTag s change tag = IsTagOf s change.tag tag

@@ -3,51 +3,54 @@
 use Rattle.std.specs.Prelude.{Bool, false, is_some, IsTrue, List, not, pos, true, ℕ, ℤ, [], ◌&&◌}
 use Rattle.std.specs.Prelude.{◌||◌, ◌∷◌, ◌≡◌}
 use Rattle.frame_header.specs.{Fields.ClassFields, Tables.class_of}
-use Rattle.moved_gains.specs.{Course.{alike, even}, Edited.stuck_of}
-use Rattle.moved_gains.specs.GainExtremes.{extremes_of, extremes_of_both, takes}
-use Rattle.moved_gains.specs.Moving.{AreOfClass}
+use Rattle.moved_gains.specs.{Course.{constant_steps, equal_steps}, Edited.row_out_of_range}
+use Rattle.moved_gains.specs.GainExtremes.{extremes_of, extremes_of_both, takes_steps}
+use Rattle.moved_gains.specs.Moving.{AreFramesOfClass}
 use Rattle.requests.specs.declared.shift.Steps.{Steps}
 use Rattle.side_info.specs.Side.{SideFits}
 use Rattle.sync_survey.specs.Row.{Row}
 
 -- each field of their side information is within its bits
-abbrev pub AreFitting : List Row → Type 0
-AreFitting [] = Unit {0}
-AreFitting (row ∷ rows) = SideFits (class_of row.header) row.side × AreFitting rows
+abbrev pub AreSidesFitting : List Row → Type 0
+AreSidesFitting [] = Unit {0}
+AreSidesFitting (row ∷ rows) = SideFits (class_of row.header) row.side × AreSidesFitting rows
 
 -- a gain of these frames would leave the range, each frame moved by the steps at its offset
-unfoldable pub some_stuck : (ℕ → Steps) → List Row → Bool
-some_stuck steps [] = false
-some_stuck steps (row ∷ rows) = is_some (stuck_of (steps row.offset) row) || some_stuck steps rows
+unfoldable pub is_some_out_of_range : (ℕ → Steps) → List Row → Bool
+is_some_out_of_range steps [] = false
+is_some_out_of_range steps (row ∷ rows) =
+    is_some (row_out_of_range (steps row.offset) row) || is_some_out_of_range steps rows
 
 -- so many steps for each channel, without wrap
-abbrev pub apart : ℤ → ℤ → Steps
-apart left right = record { left = left; right = right; wrap = false }
+abbrev pub separate_steps : ℤ → ℤ → Steps
+separate_steps left right = record { left = left; right = right; wrap = false }
 
 -- When a gain of these frames would leave the range.
 pub record TakeSteps (rows : List Row) : Type 0 where
   -- where all move by the same steps: exactly where the gains of a channel don't take those of the
   -- channel
-  pub apart_is : (left right : ℤ) → some_stuck (even (apart left right)) rows
-      ≡ not (takes (extremes_of 0 rows) left && takes (extremes_of 1 rows) right)
+  pub apart_is : (left right : ℤ)
+      → is_some_out_of_range (constant_steps (separate_steps left right)) rows
+      ≡ not (takes_steps (extremes_of 0 rows) left && takes_steps (extremes_of 1 rows) right)
   -- and where both channels do: exactly where the gains of both together don't take them
-  pub both : (steps : ℤ) → some_stuck (even (alike steps)) rows
-      ≡ not (takes (extremes_of_both rows) steps)
+  pub both : (steps : ℤ) → is_some_out_of_range (constant_steps (equal_steps steps)) rows
+      ≡ not (takes_steps (extremes_of_both rows) steps)
   -- and where one channel alone moves: exactly where its own gains don't
-  pub left : (steps : ℤ) → some_stuck (even (apart steps (pos 0))) rows
-      ≡ not (takes (extremes_of 0 rows) steps)
-  pub right : (steps : ℤ) → some_stuck (even (apart (pos 0) steps)) rows
-      ≡ not (takes (extremes_of 1 rows) steps)
+  pub left : (steps : ℤ) → is_some_out_of_range (constant_steps (separate_steps steps (pos 0))) rows
+      ≡ not (takes_steps (extremes_of 0 rows) steps)
+  pub right : (steps : ℤ)
+      → is_some_out_of_range (constant_steps (separate_steps (pos 0) steps)) rows
+      ≡ not (takes_steps (extremes_of 1 rows) steps)
   -- where each frame has steps of its own: nowhere if the gains of both channels take them all
-  pub each : (steps : ℕ → ℤ) → ((at : ℕ) → IsTrue (takes (extremes_of_both rows) (steps at)))
-      → some_stuck (λ at. alike (steps at)) rows ≡ false
+  pub each : (steps : ℕ → ℤ) → ((at : ℕ) → IsTrue (takes_steps (extremes_of_both rows) (steps at)))
+      → is_some_out_of_range (λ at. equal_steps (steps at)) rows ≡ false
   -- with wrap: nowhere
   pub wrap : (steps : ℕ → Steps) → ((at : ℕ) → (steps at).wrap ≡ true)
-      → some_stuck steps rows ≡ false
+      → is_some_out_of_range steps rows ≡ false
   -- frames of one channel have its gains alone
-  pub mono : (class : ClassFields) → AreOfClass class rows → class.channels ≡ 1
+  pub mono : (class : ClassFields) → AreFramesOfClass class rows → class.channels ≡ 1
       → extremes_of_both rows ≡ extremes_of 0 rows
 
 -- of any frames
 abbrev pub GainsTakeSteps : Type 0
-GainsTakeSteps = (rows : List Row) → AreFitting rows → TakeSteps rows
+GainsTakeSteps = (rows : List Row) → AreSidesFitting rows → TakeSteps rows

@@ -1,9 +1,9 @@
 -- What a change of gains makes of the survey of a file, and of the stream that the file holds.
-pub use Rattle.sync_survey.specs.Faults.{HoldsStream, stream_by, stream_of as stream_in}
+pub use Rattle.sync_survey.specs.Faults.{HoldsStream, stream_of as stream_in, surveyed_stream}
 use Rattle.std.specs.List.{enumerate_from}
 use Rattle.std.specs.Prelude.{drop, if◌then◌else◌, List, map, nat_lt, option_map, take, ℕ, ◌++◌}
 use Rattle.std.specs.Prelude.{◌-◌, ◌≡◌}
-use Rattle.moved_gains.specs.Gains.{moved_side, moved_unless}
+use Rattle.moved_gains.specs.Gains.{moved_side, moved_side_unless_lost}
 use Rattle.requests.specs.declared.shift.Steps.{Steps}
 use Rattle.sync_survey.specs.Faults.{IsWellFormed, stream_of_survey, SurveyFields}
 use Rattle.sync_survey.specs.{MainData.{main_bytes, stream_frame, StreamFrame}, Row.Row}
@@ -17,29 +17,29 @@ junk_length s = s.first - s.junk
 
 -- a frame that isn't lost has its gains moved by the steps at its
 -- offset, and each is so many bytes nearer to the beginning of the file
-abbrev pub moved_row : (ℕ → Steps) → ℕ → Row → Row
-moved_row steps gap row = record row {
+abbrev pub edited_row : (ℕ → Steps) → ℕ → Row → Row
+edited_row steps gap row = record row {
   offset = row.offset - gap;
-  side = moved_unless row.lost (steps row.offset) row.side;
+  side = moved_side_unless_lost row.lost (steps row.offset) row.side;
 }
 
 -- a head is so many bytes nearer to the beginning, and stays as it is
-abbrev pub moved_head : ℕ → Head → Head
-moved_head gap head = record head { offset = head.offset - gap }
+abbrev pub edited_head : ℕ → Head → Head
+edited_head gap head = record head { offset = head.offset - gap }
 
 -- a block before the first frame stays where it is, and
 -- one after it is so many bytes nearer to the beginning
-abbrev pub moved_block : ℕ → ℕ → Piece → Piece
-moved_block first gap piece =
+abbrev pub edited_block : ℕ → ℕ → Piece → Piece
+edited_block first gap piece =
     if nat_lt piece.offset first then piece else record piece { offset = piece.offset - gap }
 
 -- What a survey tells of the edited file: the same frames with moved gains, blocks, head and
 -- class, at their offsets without the junk. The first frame begins where the junk began.
-unfoldable pub moved_survey : (ℕ → Steps) → SurveyFields → SurveyFields
-moved_survey steps s = record {
-  frames = map (moved_row steps (junk_length s)) s.frames;
-  blocks = map (moved_block s.first (junk_length s)) s.blocks;
-  head = option_map (moved_head (junk_length s)) s.head;
+unfoldable pub edited_survey : (ℕ → Steps) → SurveyFields → SurveyFields
+edited_survey steps s = record {
+  frames = map (edited_row steps (junk_length s)) s.frames;
+  blocks = map (edited_block s.first (junk_length s)) s.blocks;
+  head = option_map (edited_head (junk_length s)) s.head;
   junk = s.junk;
   first = s.junk;
   class = s.class;
@@ -47,8 +47,8 @@ moved_survey steps s = record {
 }
 
 -- the bytes of the file except the junk before its first frame
-abbrev pub without_junk : SurveyFields → List ℕ → List ℕ
-without_junk s file = take s.junk file ++ drop s.first file
+abbrev pub file_without_junk : SurveyFields → List ℕ → List ℕ
+file_without_junk s file = take s.junk file ++ drop s.first file
 
 -- ---- the stream
 

@@ -38,8 +38,8 @@ last_end rows = end_of (slice_get rows (length rows - 1))
     end_of (Some r) = frame_end r
 
 -- the offset of the tag, or the place for one, right after the last frame
-abbrev pub tag_at : SurveyFields → ℕ
-tag_at s = place_of s.frames (tag_block s)
+abbrev pub tag_offset : SurveyFields → ℕ
+tag_offset s = place_of s.frames (tag_block s)
   where
     place_of : List Row → Option Piece → ℕ
     place_of rows (Some b) = b.offset
@@ -61,51 +61,52 @@ IsTagBytes bytes =
     (bytes ≡ []) ⊎ (block_front bytes ≡ Some (record { kind = Ape; length = length bytes }))
 
 -- the file with these bytes in the place of its tag
-unfoldable pub with_tag : List ℕ → SurveyFields → List ℕ → List ℕ
-with_tag bytes s file = take (tag_at s) file ++ (bytes ++ drop (tag_at s + tag_length s) file)
+unfoldable pub file_with_tag : List ℕ → SurveyFields → List ℕ → List ℕ
+file_with_tag bytes s file =
+    take (tag_offset s) file ++ (bytes ++ drop (tag_offset s + tag_length s) file)
 
 -- ---- what a survey tells of that file
 
 -- where what is at an offset of the file is then, if the new
 -- tag has n bytes: what was after the tag follows the new one
-abbrev pub moved_at : ℕ → SurveyFields → ℕ → ℕ
-moved_at n s at = if nat_lt at (tag_at s) then at else at - tag_length s + n
+abbrev pub retagged_offset : ℕ → SurveyFields → ℕ → ℕ
+retagged_offset n s at = if nat_lt at (tag_offset s) then at else at - tag_length s + n
 
 -- a frame at the offset where it is then
-abbrev pub moved_row : ℕ → SurveyFields → Row → Row
-moved_row n s r = record r { offset = moved_at n s r.offset }
+abbrev pub retagged_row : ℕ → SurveyFields → Row → Row
+retagged_row n s r = record r { offset = retagged_offset n s r.offset }
 
 -- a head at the offset where it is then
-abbrev pub moved_head : ℕ → SurveyFields → Head → Head
-moved_head n s head = record head { offset = moved_at n s head.offset }
+abbrev pub retagged_head : ℕ → SurveyFields → Head → Head
+retagged_head n s head = record head { offset = retagged_offset n s head.offset }
 
 -- a block at the offset where it is then
-abbrev pub moved_piece : ℕ → SurveyFields → Piece → Piece
-moved_piece n s piece = record piece { offset = moved_at n s piece.offset }
+abbrev pub retagged_piece : ℕ → SurveyFields → Piece → Piece
+retagged_piece n s piece = record piece { offset = retagged_offset n s piece.offset }
 
 -- the block of the new tag, if it has bytes
 abbrev pub new_blocks : ℕ → SurveyFields → List Piece
 new_blocks n s = if n == 0 then []
-    else record { offset = tag_at s; block = record { kind = Ape; length = n } } ∷ []
+    else record { offset = tag_offset s; block = record { kind = Ape; length = n } } ∷ []
 
 -- the block is before the tag
 abbrev pub stands_before : SurveyFields → Piece → Bool
-stands_before s piece = nat_lt piece.offset (tag_at s)
+stands_before s piece = nat_lt piece.offset (tag_offset s)
 
 -- the block is after the tag
 abbrev pub stands_behind : SurveyFields → Piece → Bool
-stands_behind s piece = nat_le (tag_at s + tag_length s) piece.offset
+stands_behind s piece = nat_le (tag_offset s + tag_length s) piece.offset
 
 -- What a survey tells of the file once its tag has n bytes: the same frames, head and blocks, at
 -- the offsets at which they are then, and the new block among the others where the old one was.
-unfoldable pub retagged : ℕ → SurveyFields → SurveyFields
-retagged n s = record {
-  frames = map (moved_row n s) s.frames;
+unfoldable pub retagged_fields : ℕ → SurveyFields → SurveyFields
+retagged_fields n s = record {
+  frames = map (retagged_row n s) s.frames;
   blocks = filter (stands_before s) s.blocks
-      ++ (new_blocks n s ++ map (moved_piece n s) (filter (stands_behind s) s.blocks));
-  head = option_map (moved_head n s) s.head;
-  junk = moved_at n s s.junk;
-  first = moved_at n s s.first;
+      ++ (new_blocks n s ++ map (retagged_piece n s) (filter (stands_behind s) s.blocks));
+  head = option_map (retagged_head n s) s.head;
+  junk = retagged_offset n s s.junk;
+  first = retagged_offset n s s.first;
   class = s.class;
   length = s.length - tag_length s + n;
 }

@@ -1,12 +1,12 @@
 -- The tag of a file, and why it isn't read.
 use Rattle.std.specs.Prelude.{drop, Err, if◌then◌else◌, length, List, nat_lt, None, Ok, Option}
 use Rattle.std.specs.Prelude.{Result, Some, take, ℕ, [], ◌+◌, ◌<◌, ◌≡◌, ◌≤◌}
-use Rattle.moved_gains.specs.TagPlace.{tag_at, tag_block, tag_length}
+use Rattle.moved_gains.specs.TagPlace.{tag_block, tag_length, tag_offset}
 use Rattle.moved_gains.specs.declared.tag_fault.FileTagFault.{FileTagFault}
 use Rattle.moved_gains.specs.declared.tag_fault.FileTagFault.TheVariants.{Bad, Memory, Read}
 use Rattle.moved_gains.specs.declared.tag_fault.FileTagFault.TheVariants.{TooLarge}
-use Rattle.outside.specs.{Counts.Counts, Exact.HasReadCause, Files.{Files, Holds, IsThere}}
-use Rattle.sync_survey.specs.{Faults.SurveyFields, Survey.{IsLaidOut, survey_of}}
+use Rattle.outside.specs.{Counts.Counts, Files.{Files, Holds, IsFileThere}, ReadCauses.HasReadCause}
+use Rattle.sync_survey.specs.{Faults.SurveyFields, Survey.{IsSurveyLaidOut, survey_of}}
 use Rattle.sync_survey.specs.declared.places.Piece.{Piece}
 use Rattle.tag_blocks.specs.{Blocks.block_front, Tags.{tag_of, TagFields}}
 use Rattle.tag_blocks.specs.declared.{block.Kind.TheVariants.Ape, tag_fault.TagFault.TagFault}
@@ -22,16 +22,16 @@ empty_tag = record { header_flags = 0xa0000000; footer_flags = 0x80000000; items
 
 -- the same tag, or its fault with the offset counted from the file's first byte, by the offset of
 -- the block in the file
-abbrev pub in_file : ℕ → Result TagFields TagFault → Result TagFields FileTagFault
-in_file at (Ok tag) = Ok tag
-in_file at (Err (BadTag inside)) = Err (Bad (at + inside))
-in_file at (Err NoMemory) = Err Memory
+abbrev pub tag_result_in_file : ℕ → Result TagFields TagFault → Result TagFields FileTagFault
+tag_result_in_file at (Ok tag) = Ok tag
+tag_result_in_file at (Err (BadTag inside)) = Err (Bad (at + inside))
+tag_result_in_file at (Err NoMemory) = Err Memory
 
 -- the tag of a block that is at an offset of a file, or
 -- why it isn't read: it is too long, or else at fault
 abbrev pub tag_of_block : ℕ → List ℕ → Result TagFields FileTagFault
 tag_of_block at block = if nat_lt longest_tag (length block) then Err (TooLarge (length block))
-    else in_file at (tag_of block)
+    else tag_result_in_file at (tag_of block)
 
 -- the tag of a file
 unfoldable pub file_tag : List ℕ → SurveyFields → Result TagFields FileTagFault
@@ -42,18 +42,18 @@ file_tag file s = tag_in (tag_block s)
     tag_in (Some b) = tag_of_block b.offset (take b.block.length (drop b.offset file))
 
 -- the survey is that of the file, for some number of frames that was allowed
-abbrev pub IsSurveyOf : List ℕ → SurveyFields → Type 0
-IsSurveyOf file s = (allowed : ℕ) × (survey_of file allowed ≡ Ok s)
+abbrev pub IsFileSurvey : List ℕ → SurveyFields → Type 0
+IsFileSurvey file s = (allowed : ℕ) × (survey_of file allowed ≡ Ok s)
 
 -- the name is there, and this is its survey, by which it is laid out as every such file is
-pub record IsSurveyed (name : List ℕ) (files : Files) (s : SurveyFields) : Type 0 where
-  pub there : IsThere files name
-  pub laid : IsLaidOut s
-  pub surveyed : (bytes : List ℕ) → Holds files name bytes → IsSurveyOf bytes s
+pub record IsSurveyedFile (name : List ℕ) (files : Files) (s : SurveyFields) : Type 0 where
+  pub there : IsFileThere files name
+  pub laid : IsSurveyLaidOut s
+  pub surveyed : (bytes : List ℕ) → Holds files name bytes → IsFileSurvey bytes s
 
 -- and the block is the one of its tag
 pub record HasTagBlock (name : List ℕ) (files : Files) (s : SurveyFields) (b : Piece) : Type 0 where
-  pub known : IsSurveyed name files s
+  pub known : IsSurveyedFile name files s
   pub tag : tag_block s ≡ Some b
 
 -- where the bytes of the file are told, its tag is refused with this fault
@@ -67,8 +67,9 @@ RefusesTag name files s fault =
 abbrev pub IsTagCause : List ℕ → Files → SurveyFields → Counts → Counts → FileTagFault → Type 0
 IsTagCause name files s before after (TooLarge size) = RefusesTag name files s (TooLarge size)
     × (size ≡ tag_length s) × (longest_tag < size) × (after ≡ before)
-IsTagCause name files s before after (Bad at) = RefusesTag name files s (Bad at) × (tag_at s ≤ at)
-    × (0 < tag_length s → at < tag_at s + tag_length s) × (after ≡ before)
+IsTagCause name files s before after (Bad at) =
+    RefusesTag name files s (Bad at) × (tag_offset s ≤ at)
+    × (0 < tag_length s → at < tag_offset s + tag_length s) × (after ≡ before)
 IsTagCause name files s before after (Read fault) =
     HasReadCause name s.length files before after fault
 IsTagCause name files s before after Memory = after ≡ before

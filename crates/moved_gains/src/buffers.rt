@@ -2,11 +2,11 @@
 ghost use Rattle.std.specs.Prelude.{◌≡◌, ◌≢◌, ◌+◌, ◌-◌, ◌^◌, ◌<◌, ◌≤◌, ◌++◌, List, ℕ, [], length, take, drop, IfOk, IfErr, OnOk, OnErr};
 ghost use Rattle.frame_header.specs.Tables.{class_of};
 ghost use Rattle.side_info.specs.Frame.{side_in};
-ghost use Rattle.outside.specs.Files.{Files, Holds, IsThere, appended};
+ghost use Rattle.outside.specs.Files.{Files, Holds, IsFileThere, with_appended_bytes};
 ghost use Rattle.outside.specs.Seen.{OnFile};
-ghost use Rattle.outside.specs.Passed.{PassedOn, AppendedPrefix};
-ghost use Rattle.outside.specs.Pass.{IsReady, IsOfRead, bytes_at, bytes_between, Writes, WritesPrefix, route_of, HasPassCause};
-ghost use Rattle.moved_gains.specs.Buffers.{AreFresh};
+ghost use Rattle.outside.specs.BufferOutput.{AppendsWaiting, AppendedPrefix};
+ghost use Rattle.outside.specs.Pass.{IsPassReady, IsReadPassFault, bytes_at, bytes_between, WritesMadeBytes, WritesPrefix, route_of, HasPassCause};
+ghost use Rattle.moved_gains.specs.Buffers.{IsPassingFresh};
 ghost use Rattle.moved_gains.specs.Moving.{row_overhead, moved_bytes};
 ghost use Rattle.outside.specs.Pass.{PassMakes};
 ghost use Rattle.moved_gains.specs.Passing.{BuffersFill, HasInput, ReadBehind};
@@ -21,7 +21,7 @@ use std::marker::Model;
 /// What waits for the output of a pass, and what is held of its input after that, in one buffer of 65,536 bytes: so a byte
 /// that goes on isn't copied. Contracts see both.
 #[derive(Drop)]
-pub struct Buffers {
+pub struct GainBuffers {
     room: Vec<u8>,
     // The offset in the input of the first byte that is held.
     place: u64,
@@ -30,15 +30,15 @@ pub struct Buffers {
     end: usize,
 }
 
-impl Model for Buffers {
+impl Model for GainBuffers {
     ghost use Rattle.std.specs.Prelude.{◌-◌, [], take, drop};
-    ghost use Rattle.moved_gains.specs.Passing.{Passing, IsWithin};
+    ghost use Rattle.moved_gains.specs.Passing.{Passing, AreBufferBounds};
 
     ghost Value = { Passing };
 
     ghost view = { λ b. record { feed = record { place = b.place; held = take (b.end - b.done) (drop b.done b.room.items); given = [] }; waiting = take b.done b.room.items } };
 
-    ghost invariant = { λ b. IsWithin b.room.items b.place b.done b.end };
+    ghost invariant = { λ b. AreBufferBounds b.room.items b.place b.done b.end };
 }
 
 /// Appends bytes to the output.
@@ -46,8 +46,8 @@ impl Model for Buffers {
 /// # Errors
 /// `Write` where a write failed.
 fn hand_on<D: Folder>(folder: &mut D, pass: &Pass, bytes: &[u8]) -> Result<(), PassFault>
-    requires { IsThere (D.seen folder.old).files pass.now.output.now }
-    ensures appended { OnOk result ((D.seen folder.new).files ≡ appended (D.seen folder.old).files
+    requires { IsFileThere (D.seen folder.old).files pass.now.output.now }
+    ensures appended { OnOk result ((D.seen folder.new).files ≡ with_appended_bytes (D.seen folder.old).files
         pass.now.output.now bytes.now) }
     ensures prefix { OnErr result (AppendedPrefix pass.now.output.now bytes.now
         (D.seen folder.old).files (D.seen folder.new).files) }
@@ -92,16 +92,16 @@ fn read_behind<D: Folder>(
     Ok(end)
 }
 
-impl Buffers {
+impl GainBuffers {
     /// Buffers in which nothing is held and nothing waits. All memory of a pass is taken here.
     ///
     /// # Errors
     /// Where there is no memory.
-    pub fn new(alloc: Global) -> Result<Buffers, AllocError>
+    pub fn new(alloc: Global) -> Result<GainBuffers, AllocError>
         ensures fresh { IfOk result (λ buffers. (files : Files) (input : List ℕ) →
-            AreFresh buffers files input) }
+            IsPassingFresh buffers files input) }
     {
-        Ok(Buffers {
+        Ok(GainBuffers {
             room: vec![in alloc; 0; BUFFER_SIZE]?,
             place: 0,
             done: 0,
@@ -121,7 +121,7 @@ impl Buffers {
         at: u64,
         n: usize,
     ) -> Result<(), PassFault>
-        requires ready { IsReady pass.now (D.seen folder.old).files self.old.feed }
+        requires ready { IsPassReady pass.now (D.seen folder.old).files self.old.feed }
         requires few { n ≤ most_given }
         requires within { at + n ≤ pass.now.length }
         ensures { BuffersFill pass.now at n self.old self.new (D.seen folder.old)
@@ -142,7 +142,7 @@ impl Buffers {
         at: u64,
         n: usize,
     ) -> Result<(), PassFault>
-        requires ready { IsReady pass.now (D.seen folder.old).files self.old.feed }
+        requires ready { IsPassReady pass.now (D.seen folder.old).files self.old.feed }
         requires few { n ≤ most_given }
         requires within { at + n ≤ pass.now.length }
         ensures { BuffersFill pass.now at n self.old self.new (D.seen folder.old)
@@ -207,8 +207,8 @@ impl Buffers {
         pass: &Pass,
         piece: &[u8],
     ) -> Result<(), PassFault>
-        requires ready { IsReady pass.now (D.seen folder.old).files self.old.feed }
-        ensures passed { OnOk result (PassedOn pass.now.output.now
+        requires ready { IsPassReady pass.now (D.seen folder.old).files self.old.feed }
+        ensures passed { OnOk result (AppendsWaiting pass.now.output.now
             (self.old.waiting ++ piece.now) self.new.waiting (D.seen folder.old).files
             (D.seen folder.new).files) }
         ensures prefix { OnErr result (AppendedPrefix pass.now.output.now
@@ -216,7 +216,7 @@ impl Buffers {
         ensures done { OnOk result ((D.seen folder.new).counts ≡ (D.seen folder.old).counts) }
         ensures cause { IfErr result (HasPassCause (route_of pass.now) (D.seen folder.old).files
             (D.seen folder.old).counts (D.seen folder.new).counts) }
-        ensures ready { OnOk result (IsReady pass.now (D.seen folder.new).files self.new.feed) }
+        ensures ready { OnOk result (IsPassReady pass.now (D.seen folder.new).files self.new.feed) }
     {
         hand_on(folder, pass, &self.room[..self.done])?;
         // What is held comes again where it is needed.
@@ -230,9 +230,9 @@ impl Buffers {
     /// # Errors
     /// `Write` where a write failed.
     pub(crate) fn finish<D: Folder>(&mut self, folder: &mut D, pass: &Pass) -> Result<(), PassFault>
-        requires { IsThere (D.seen folder.old).files pass.now.output.now }
+        requires { IsFileThere (D.seen folder.old).files pass.now.output.now }
         ensures appended { OnOk result ((D.seen folder.new).files
-            ≡ appended (D.seen folder.old).files pass.now.output.now self.old.waiting) }
+            ≡ with_appended_bytes (D.seen folder.old).files pass.now.output.now self.old.waiting) }
         ensures prefix { OnErr result (AppendedPrefix pass.now.output.now self.old.waiting
             (D.seen folder.old).files (D.seen folder.new).files) }
         ensures done { OnOk result ((D.seen folder.new).counts ≡ (D.seen folder.old).counts) }
@@ -257,7 +257,7 @@ impl Buffers {
         from: u64,
         to: u64,
     ) -> Result<(), PassFault>
-        requires ready { IsReady pass.now (D.seen folder.old).files self.old.feed }
+        requires ready { IsPassReady pass.now (D.seen folder.old).files self.old.feed }
         requires ordered { from ≤ to }
         requires within { to ≤ pass.now.length }
         ensures { PassMakes pass.now (λ file. bytes_between file from to) self.old.waiting
@@ -281,7 +281,7 @@ impl Buffers {
         at: u64,
         n: usize,
     ) -> Result<(), PassFault>
-        requires ready { IsReady pass.now (D.seen folder.old).files self.old.feed }
+        requires ready { IsPassReady pass.now (D.seen folder.old).files self.old.feed }
         requires few { n ≤ most_given }
         requires within { at + n ≤ pass.now.length }
         ensures { PassMakes pass.now (bytes_at at n) self.old.waiting self.new.waiting self.new.feed

@@ -1,13 +1,13 @@
 //! By how many steps each frame of a file moves.
 ghost use Rattle.std.specs.Prelude.{◌≡◌};
-ghost use Rattle.moved_gains.specs.Course.{alike as alike_lem, steps_in};
+ghost use Rattle.moved_gains.specs.Course.{equal_steps, course_steps};
 
 use fade_plan::Curve;
 use requests::Steps;
 
 /// The same steps for both channels, without wrap.
 fn alike(steps: i16) -> Steps
-    ensures { result ≡ alike_lem steps }
+    ensures { result ≡ equal_steps steps }
 {
     Steps {
         left: steps,
@@ -31,7 +31,7 @@ impl Course {
     /// curve faster that is asked for frames one after another (`Curve::steps_near`). It takes no memory.
     #[inline]
     pub fn steps(&self, frame: u32, near: &mut usize) -> Steps
-        ensures { result ≡ steps_in self.now frame }
+        ensures { result ≡ course_steps self.now frame }
     {
         match self {
             Course::Even(steps) => *steps,

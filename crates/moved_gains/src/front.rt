@@ -1,8 +1,8 @@
 //! Gains moved in the bytes of a frame.
 ghost use Rattle.std.specs.Prelude.{◌≡◌, ◌≤◌, length};
 ghost use Rattle.frame_header.specs.Tables.{class_of};
-ghost use Rattle.side_info.specs.Frame.{side_in, frame_with};
-ghost use Rattle.moved_gains.specs.Gains.{moved_side as moved_side_lem};
+ghost use Rattle.side_info.specs.Frame.{side_in, frame_with_side};
+ghost use Rattle.moved_gains.specs.Gains.{moved_side};
 ghost use Rattle.moved_gains.specs.Moving.{row_length, row_overhead, moved_bytes};
 ghost use Rattle.frame_header.specs.Limits.{most_frame_length};
 
@@ -35,8 +35,8 @@ pub(crate) fn frame_length(class: Class, row: &Row) -> u32
 fn move_in_class(class: Class, steps: &Steps, row: &Row, front: &mut [u8])
     requires class { class_of row.now.header ≡ class }
     requires room { row_overhead row.now ≤ length front.old }
-    ensures { side_in row.now.header front.old ≡ row.now.side → front.new ≡ frame_with
-        row.now.header (moved_side_lem steps.now row.now.side) front.old }
+    ensures { side_in row.now.header front.old ≡ row.now.side → front.new ≡ frame_with_side
+        row.now.header (moved_side steps.now row.now.side) front.old }
 {
     let own = row.front();
     put_gains(own, class, &moved_side(steps, &own.side_in(class)), front);

@@ -2,7 +2,7 @@
 ghost use Rattle.std.specs.Prelude.{◌≡◌, ◌<◌, [], IfNone, IfSome};
 ghost use Rattle.frame_header.specs.Tables.{class_of};
 ghost use Rattle.side_info.specs.Side.{granule_in};
-ghost use Rattle.moved_gains.specs.GainExtremes.{gain_that_moves, gains_in as gains_in_lem, gains_at as gains_at_lem, moving_gains, extremes, extremes_of, joined as joined_lem, HasChannel, AreExtremes};
+ghost use Rattle.moved_gains.specs.GainExtremes.{gain_that_moves, side_gains, row_gains, moving_gains, extremes, extremes_of, joined_extremes, HasChannel, AreExtremes};
 
 use frame_header::{Class, Version};
 use side_info::Side;
@@ -18,7 +18,7 @@ pub struct Gains {
 /// The least and the greatest of some gains and of others, together. `None` stands for no gain.
 #[inline(always)]
 pub fn joined(some: Option<Gains>, others: Option<Gains>) -> Option<Gains>
-    ensures { result ≡ joined_lem some others }
+    ensures { result ≡ joined_extremes some others }
 {
     let Some(some) = some else {
         return others;
@@ -56,7 +56,7 @@ fn gain_of(side: &Side, granule: u8, channel: u8) -> Option<Gains>
 #[inline(always)]
 pub fn gains_in(side: &Side, channel: u8) -> Option<Gains>
     requires { channel < 2 }
-    ensures { result ≡ extremes (gains_in_lem channel side.now) }
+    ensures { result ≡ extremes (side_gains channel side.now) }
 {
     joined(gain_of(side, 0, channel), gain_of(side, 1, channel))
 }
@@ -66,7 +66,7 @@ pub fn gains_in(side: &Side, channel: u8) -> Option<Gains>
 fn gains_in_class(class: Class, row: &Row, channel: u8) -> Option<Gains>
     requires class { class_of row.now.header ≡ class }
     requires channel { channel < 2 }
-    ensures { result ≡ extremes (gains_in_lem channel row.now.side) }
+    ensures { result ≡ extremes (side_gains channel row.now.side) }
 {
     gains_in(&row.front().side_in(class), channel)
 }
@@ -78,7 +78,7 @@ fn gains_in_class(class: Class, row: &Row, channel: u8) -> Option<Gains>
 fn gains_at(class: Class, row: &Row, channel: u8) -> Option<Gains>
     requires class { class_of row.now.header ≡ class }
     requires channel { channel < 2 }
-    ensures { result ≡ extremes (gains_at_lem channel row.now) }
+    ensures { result ≡ extremes (row_gains channel row.now) }
 {
     if row.lost() {
         return None;

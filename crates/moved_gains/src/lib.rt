@@ -17,11 +17,11 @@ mod tag_laws;
 mod tag_places;
 mod tag_reading;
 
-pub use buffers::Buffers;
+pub use buffers::GainBuffers;
 pub use change::Change;
 pub use course::Course;
 pub use gain_extremes::{Gains, gains_in, gains_of, joined};
-pub use gains::{Stuck, stuck_in};
+pub use gains::{OutOfRange, first_out_of_range};
 pub use laws::{changes_keep_all, gains_take_steps};
 pub use moving::write_changed;
 pub use tag_fault::FileTagFault;

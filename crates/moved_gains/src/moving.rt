@@ -2,20 +2,20 @@
 //! its frames moved, except those of lost ones, and with another tag if that changes.
 ghost use Rattle.std.specs.Prelude.{◌≡◌, ◌≢◌, ◌+◌, ◌<◌, ◌≤◌, ◌^◌, List, ℕ, length, IfOk, IfErr, OnOk, Ok};
 ghost use Rattle.frame_header.specs.Tables.{class_of};
-ghost use Rattle.outside.specs.Files.{IsThere};
+ghost use Rattle.outside.specs.Files.{IsFileThere};
 ghost use Rattle.outside.specs.Seen.{OnFile};
-ghost use Rattle.outside.specs.Pass.{IsReady, Writes, WritesPrefix, Appends, AppendsPrefix, route, route_of, HasPassCause};
-ghost use Rattle.sync_survey.specs.Faults.{tells};
-ghost use Rattle.sync_survey.specs.Survey.{survey_of, AreLaid, IsLaidOut};
-ghost use Rattle.moved_gains.specs.Buffers.{AreFresh};
+ghost use Rattle.outside.specs.Pass.{IsPassReady, WritesMadeBytes, WritesPrefix, AppendsMadeBytes, AppendsPrefix, route, route_of, HasPassCause};
+ghost use Rattle.sync_survey.specs.Faults.{survey_view};
+ghost use Rattle.sync_survey.specs.Survey.{survey_of, FramesAreLaid, IsSurveyLaidOut};
+ghost use Rattle.moved_gains.specs.Buffers.{IsPassingFresh};
 ghost use Rattle.sync_survey.specs.Limits.{most_frames};
-ghost use Rattle.moved_gains.specs.Change.{changed, change_in};
-ghost use Rattle.moved_gains.specs.Course.{steps_over, AreNumbered};
-ghost use Rattle.moved_gains.specs.Moving.{row_end, IsRowOf, AreRowsOf, AreOfClass, moved_row_bytes, bytes_around, copied, written_from, IsNewTag};
+ghost use Rattle.moved_gains.specs.Change.{file_with_change, change_in};
+ghost use Rattle.moved_gains.specs.Course.{steps_at_offset, AreRowsNumbered};
+ghost use Rattle.moved_gains.specs.Moving.{row_end, IsRowOf, AreRowsOf, AreFramesOfClass, moved_row_bytes, bytes_around, copied_bytes, bytes_written_from, IsNewTag};
 ghost use Rattle.outside.specs.Pass.{PassMakes};
-ghost use Rattle.moved_gains.specs.Passing.{MoveAnswer, MovesAnswer, ChangedAnswer};
+ghost use Rattle.moved_gains.specs.Passing.{MoveFrameAnswer, MoveFramesAnswer, ChangedAnswer};
 
-use crate::buffers::Buffers;
+use crate::buffers::GainBuffers;
 use crate::change::Change;
 use crate::course::Course;
 use crate::front::{MovedRow, frame_length};
@@ -54,12 +54,12 @@ impl<'a> GainPass<'a> {
         folder: &mut D,
         from: u64,
         to: u64,
-        buffers: &mut Buffers,
+        buffers: &mut GainBuffers,
     ) -> Result<(), PassFault>
-        requires ready { IsReady self.now.pass (D.seen folder.old).files buffers.old.feed }
+        requires ready { IsPassReady self.now.pass (D.seen folder.old).files buffers.old.feed }
         requires ordered { from ≤ to }
         requires within { to ≤ self.now.pass.length }
-        ensures { PassMakes self.now.pass (λ file. copied self.now.tag file from to)
+        ensures { PassMakes self.now.pass (λ file. copied_bytes self.now.tag file from to)
             buffers.old.waiting buffers.new.waiting buffers.new.feed (D.seen folder.old)
             (D.seen folder.new) result }
     {
@@ -82,9 +82,9 @@ impl<'a> GainPass<'a> {
         from: u64,
         tag: &NewTag,
         to: u64,
-        buffers: &mut Buffers,
+        buffers: &mut GainBuffers,
     ) -> Result<(), PassFault>
-        requires ready { IsReady self.now.pass (D.seen folder.old).files buffers.old.feed }
+        requires ready { IsPassReady self.now.pass (D.seen folder.old).files buffers.old.feed }
         requires ordered { from ≤ tag.now.at }
         requires around { tag.now.at ≤ tag.now.end }
         requires behind { tag.now.end ≤ to }
@@ -106,14 +106,14 @@ impl<'a> GainPass<'a> {
         &self,
         folder: &mut D,
         moved: &MovedRow,
-        buffers: &mut Buffers,
+        buffers: &mut GainBuffers,
     ) -> Result<u64, PassFault>
-        requires ready { IsReady self.now.pass (D.seen folder.old).files buffers.old.feed }
+        requires ready { IsPassReady self.now.pass (D.seen folder.old).files buffers.old.feed }
         requires class { class_of moved.now.row.now.header ≡ self.now.class }
         requires within { row_end moved.now.row.now ≤ self.now.pass.length }
         requires told { OnFile (D.seen folder.old) self.now.pass.input.now
             (λ file. IsRowOf file moved.now.row.now) }
-        ensures { MoveAnswer self.now.pass (λ file. moved_row_bytes moved.now.steps file
+        ensures { MoveFrameAnswer self.now.pass (λ file. moved_row_bytes moved.now.steps file
             moved.now.row.now) (row_end moved.now.row.now) buffers.old buffers.new
             (D.seen folder.old) (D.seen folder.new) result }
     {
@@ -135,17 +135,17 @@ impl<'a> GainPass<'a> {
         folder: &mut D,
         from: u64,
         rows: &[Row],
-        buffers: &mut Buffers,
+        buffers: &mut GainBuffers,
     ) -> Result<(), PassFault>
-        requires ready { IsReady self.now.pass (D.seen folder.old).files buffers.old.feed }
-        requires laid { AreLaid from rows.now self.now.pass.length }
-        requires classed { AreOfClass self.now.class rows.now }
-        requires numbered { AreNumbered rows.now }
+        requires ready { IsPassReady self.now.pass (D.seen folder.old).files buffers.old.feed }
+        requires laid { FramesAreLaid from rows.now self.now.pass.length }
+        requires classed { AreFramesOfClass self.now.class rows.now }
+        requires numbered { AreRowsNumbered rows.now }
         requires few { length rows.now < 2 ^ 32 }
         requires told { OnFile (D.seen folder.old) self.now.pass.input.now
             (λ file. AreRowsOf file rows.now) }
-        ensures { MovesAnswer self.now.pass (λ file. written_from
-            (steps_over self.now.course.now rows.now) self.now.tag file from rows.now) buffers.old
+        ensures { MoveFramesAnswer self.now.pass (λ file. bytes_written_from
+            (steps_at_offset self.now.course.now rows.now) self.now.tag file from rows.now) buffers.old
             buffers.new (D.seen folder.old) (D.seen folder.new) result }
     {
         let mut at = from;
@@ -161,8 +161,8 @@ impl<'a> GainPass<'a> {
 
 /// The new tag of a change, in place of the input's, if it changes.
 fn new_tag<'a>(survey: &Survey, change: &'a Change) -> Option<NewTag<'a>>
-    requires { IsLaidOut (tells survey.now) }
-    ensures { IsNewTag (tells survey.now) (change_in change.now (tells survey.now)) result }
+    requires { IsSurveyLaidOut (survey_view survey.now) }
+    ensures { IsNewTag (survey_view survey.now) (change_in change.now (survey_view survey.now)) result }
 {
     let bytes = change.tag.as_ref()?;
     let place = tag_place(survey);
@@ -186,17 +186,17 @@ pub fn write_changed<D: Folder>(
     output: &str,
     survey: &Survey,
     change: &Change,
-    buffers: &mut Buffers,
+    buffers: &mut GainBuffers,
 ) -> Result<(), PassFault>
     requires apart { input.now ≢ output.now }
-    requires source { IsThere (D.seen folder.old).files input.now }
-    requires target { IsThere (D.seen folder.old).files output.now }
-    requires laid { IsLaidOut (tells survey.now) }
+    requires source { IsFileThere (D.seen folder.old).files input.now }
+    requires target { IsFileThere (D.seen folder.old).files output.now }
+    requires laid { IsSurveyLaidOut (survey_view survey.now) }
     requires exact { OnFile (D.seen folder.old) input.now
-        (λ file. survey_of file most_frames ≡ Ok (tells survey.now)) }
-    requires fresh { AreFresh buffers.old (D.seen folder.old).files input.now }
-    ensures { ChangedAnswer (route input.now output.now (tells survey.now).length)
-        (λ file. changed (change_in change.now (tells survey.now)) file (tells survey.now))
+        (λ file. survey_of file most_frames ≡ Ok (survey_view survey.now)) }
+    requires fresh { IsPassingFresh buffers.old (D.seen folder.old).files input.now }
+    ensures { ChangedAnswer (route input.now output.now (survey_view survey.now).length)
+        (λ file. file_with_change (change_in change.now (survey_view survey.now)) file (survey_view survey.now))
         (D.seen folder.old) (D.seen folder.new) result }
 {
     let pass = Pass {

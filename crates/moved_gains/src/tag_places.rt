@@ -1,9 +1,9 @@
 //! Where the tag of a file is.
 ghost use Rattle.std.specs.Prelude.{◌≡◌, ◌≤◌, option_copied};
 ghost use Rattle.std.specs.List.{find};
-ghost use Rattle.sync_survey.specs.Faults.{tells, longest_file};
-ghost use Rattle.sync_survey.specs.Survey.{IsLaidOut};
-ghost use Rattle.moved_gains.specs.TagPlace.{is_tag as is_tag_lem, tag_block, tag_at, tag_length, last_end as last_end_lem};
+ghost use Rattle.sync_survey.specs.Faults.{survey_view, longest_file};
+ghost use Rattle.sync_survey.specs.Survey.{IsSurveyLaidOut};
+ghost use Rattle.moved_gains.specs.TagPlace.{is_tag, tag_block, tag_offset, tag_length, last_end};
 
 use sync_survey::{Piece, Row, Survey};
 use tag_blocks::Kind;
@@ -19,29 +19,29 @@ pub struct TagPlace {
 
 /// Whether the block is an APEv2 tag.
 fn is_tag(piece: &Piece) -> bool
-    ensures { result ≡ is_tag_lem piece.now }
+    ensures { result ≡ is_tag piece.now }
 {
     matches!(piece.block.kind, Kind::Ape)
 }
 
 /// The first of the blocks that is an APEv2 tag.
 fn first_of(blocks: &[Piece]) -> Option<&Piece>
-    ensures { option_copied result ≡ find is_tag_lem blocks.now }
+    ensures { option_copied result ≡ find is_tag blocks.now }
 {
     blocks.iter().find(|piece| is_tag(piece))
 }
 
 /// The block of the file's tag: its first APEv2 block. `None` if the file has none.
 pub fn first_tag(survey: &Survey) -> Option<Piece>
-    ensures { result ≡ tag_block (tells survey.now) }
+    ensures { result ≡ tag_block (survey_view survey.now) }
 {
     first_of(survey.blocks()).copied()
 }
 
 /// The end of the last frame, 0 if there is none.
 fn last_end(frames: &[Row]) -> u64
-    requires { last_end_lem frames.now ≤ longest_file }
-    ensures { result ≡ last_end_lem frames.now }
+    requires { last_end frames.now ≤ longest_file }
+    ensures { result ≡ last_end frames.now }
 {
     match frames.last() {
         Some(row) => u64::from(row.offset()) + u64::from(row.header().length()),
@@ -52,9 +52,9 @@ fn last_end(frames: &[Row]) -> u64
 /// The offset and the length of the file's tag, or where a new one goes: right after the last frame, with
 /// length 0.
 pub fn tag_place(survey: &Survey) -> TagPlace
-    requires { IsLaidOut (tells survey.now) }
-    ensures offset { result.offset ≡ tag_at (tells survey.now) }
-    ensures length { result.length ≡ tag_length (tells survey.now) }
+    requires { IsSurveyLaidOut (survey_view survey.now) }
+    ensures offset { result.offset ≡ tag_offset (survey_view survey.now) }
+    ensures length { result.length ≡ tag_length (survey_view survey.now) }
 {
     match first_tag(survey) {
         Some(piece) => TagPlace {

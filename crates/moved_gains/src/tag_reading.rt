@@ -2,11 +2,11 @@
 ghost use Rattle.std.specs.Prelude.{◌≡◌, ℕ, ◌+◌, ◌^◌, ◌≤◌, ◌<◌, List, length, take, drop, Some, None, Ok, Err, IfOk, IfErr, OnOk};
 ghost use Rattle.outside.specs.Counts.{OnlyReads};
 ghost use Rattle.outside.specs.Seen.{OnFile};
-ghost use Rattle.sync_survey.specs.Faults.{tells};
+ghost use Rattle.sync_survey.specs.Faults.{survey_view};
 ghost use Rattle.tag_blocks.specs.declared.block.Kind.TheVariants.{Ape};
 ghost use Rattle.tag_blocks.specs.Blocks.{block_front};
 ghost use Rattle.moved_gains.specs.TagPlace.{tag_block, tag_length};
-ghost use Rattle.moved_gains.specs.TagReading.{empty_tag, longest_tag, tag_of_block, file_tag, IsSurveyed, HasTagBlock, IsTagCause, IsBlockCause};
+ghost use Rattle.moved_gains.specs.TagReading.{empty_tag, longest_tag, tag_of_block, file_tag, IsSurveyedFile, HasTagBlock, IsTagCause, IsBlockCause};
 
 use crate::tag_fault::FileTagFault;
 use crate::tag_places::first_tag;
@@ -26,13 +26,13 @@ fn read_block<D: Folder>(
     survey: &Survey,
     piece: &Piece,
 ) -> Result<Vec<u8>, FileTagFault>
-    requires found { HasTagBlock name.now (D.seen folder.old).files (tells survey.now) piece.now }
+    requires found { HasTagBlock name.now (D.seen folder.old).files (survey_view survey.now) piece.now }
     requires few { piece.now.block.length ≤ longest_tag }
     ensures length { IfOk result (λ block. length block.items ≡ piece.now.block.length) }
     ensures bytes { IfOk result (λ block. OnFile (D.seen folder.old) name.now
         (λ bytes. block.items ≡ take piece.now.block.length (drop piece.now.offset bytes))) }
     ensures done { OnOk result ((D.seen folder.new).counts ≡ (D.seen folder.old).counts) }
-    ensures cause { IfErr result (IsTagCause name.now (D.seen folder.old).files (tells survey.now)
+    ensures cause { IfErr result (IsTagCause name.now (D.seen folder.old).files (survey_view survey.now)
         (D.seen folder.old).counts (D.seen folder.new).counts) }
     ensures files { (D.seen folder.new).files ≡ (D.seen folder.old).files }
     ensures counts { OnlyReads (D.seen folder.old).counts (D.seen folder.new).counts }
@@ -82,13 +82,13 @@ fn read_piece<D: Folder>(
     survey: &Survey,
     piece: &Piece,
 ) -> Result<Tag, FileTagFault>
-    requires { HasTagBlock name.now (D.seen folder.old).files (tells survey.now) piece.now }
+    requires { HasTagBlock name.now (D.seen folder.old).files (survey_view survey.now) piece.now }
     ensures exact { IfOk result (λ tag. OnFile (D.seen folder.old) name.now
-        (λ bytes. file_tag bytes (tells survey.now) ≡ Ok tag)) }
+        (λ bytes. file_tag bytes (survey_view survey.now) ≡ Ok tag)) }
     ensures large { longest_tag < piece.now.block.length
         → result ≡ Err (FileTagFault.TooLarge piece.now.block.length) }
     ensures done { OnOk result ((D.seen folder.new).counts ≡ (D.seen folder.old).counts) }
-    ensures cause { IfErr result (IsTagCause name.now (D.seen folder.old).files (tells survey.now)
+    ensures cause { IfErr result (IsTagCause name.now (D.seen folder.old).files (survey_view survey.now)
         (D.seen folder.old).counts (D.seen folder.new).counts) }
     ensures files { (D.seen folder.new).files ≡ (D.seen folder.old).files }
     ensures counts { OnlyReads (D.seen folder.old).counts (D.seen folder.new).counts }
@@ -119,15 +119,15 @@ pub fn read_tag<D: Folder>(
     name: &str,
     survey: &Survey,
 ) -> Result<Tag, FileTagFault>
-    requires { IsSurveyed name.now (D.seen folder.old).files (tells survey.now) }
+    requires { IsSurveyedFile name.now (D.seen folder.old).files (survey_view survey.now) }
     ensures exact { IfOk result (λ tag. OnFile (D.seen folder.old) name.now
-        (λ bytes. file_tag bytes (tells survey.now) ≡ Ok tag)) }
+        (λ bytes. file_tag bytes (survey_view survey.now) ≡ Ok tag)) }
     // Whether the files are told or not.
-    ensures none { tag_block (tells survey.now) ≡ None → result ≡ Ok empty_tag }
-    ensures large { longest_tag < tag_length (tells survey.now)
-        → result ≡ Err (FileTagFault.TooLarge (tag_length (tells survey.now))) }
+    ensures none { tag_block (survey_view survey.now) ≡ None → result ≡ Ok empty_tag }
+    ensures large { longest_tag < tag_length (survey_view survey.now)
+        → result ≡ Err (FileTagFault.TooLarge (tag_length (survey_view survey.now))) }
     ensures done { OnOk result ((D.seen folder.new).counts ≡ (D.seen folder.old).counts) }
-    ensures cause { IfErr result (IsTagCause name.now (D.seen folder.old).files (tells survey.now)
+    ensures cause { IfErr result (IsTagCause name.now (D.seen folder.old).files (survey_view survey.now)
         (D.seen folder.old).counts (D.seen folder.new).counts) }
     ensures files { (D.seen folder.new).files ≡ (D.seen folder.old).files }
     ensures counts { OnlyReads (D.seen folder.old).counts (D.seen folder.new).counts }

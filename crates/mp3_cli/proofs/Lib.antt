@@ -1,6 +1,6 @@
 -- The lemmas of this crate.
-pub mod LegalLaws
-pub mod RunLaws
-pub mod WrittenLaws
-pub mod FewestLaws
-pub mod ProgramRuns
+pub mod LegalLemmas
+pub mod RunLemmas
+pub mod WrittenLemmas
+pub mod FewestLemmas
+pub mod ProgramRunLemmas

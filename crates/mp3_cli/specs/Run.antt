@@ -1,24 +1,25 @@
 -- What the program does, from its words and the files that are there.
 use Rattle.std.specs.Prelude.{Err, false, IfOk, IfSome, IsErr, List, None, Ok, Option, Result, Some}
 use Rattle.std.specs.Prelude.{true, ℕ, [], ◌↔◌, ◌∷◌, ◌≡◌, ◌≢◌, ◌≤◌}
-use Rattle.commands.specs.Command.{AreSound, clash_of, Command, Made, written}
-use Rattle.commands.specs.{Left.{HasNumbers, IsDone, Leaves}, Said.Says}
-use Rattle.commands.specs.declared.fault.EditFault.{EditFault, TheVariants.EqualNames}
+use Rattle.commands.specs.AfterCall.{HasNumbers, IsCommandDone, IsCommandFault}
+use Rattle.commands.specs.Command.{AreSoundFiles, clash_of, Command, Made, written_files}
+use Rattle.commands.specs.{SentText.SaysText, declared.fault.EditFault.EditFault}
+use Rattle.commands.specs.declared.fault.EditFault.TheVariants.{EqualNames}
 use Rattle.cut_edits.specs.{Chosen.cut_command, Exact.exact_command}
 use Rattle.drill.specs.Drilled.{drill_command}
 use Rattle.gain_edits.specs.{Fade.fade_command, Gain.gain_command, Undo.undo_command}
-use Rattle.job_words.specs.Asked.{Asked, Cut, CutExact, Drill, Fade, Gain, Help, InfoFile, Join}
-use Rattle.job_words.specs.Asked.{ListFile, Pack, Salvage, SplitAt, SplitBy, SplitExact, Undo}
-use Rattle.job_words.specs.{Asked.Version, Words.job_of}
+use Rattle.job_words.specs.Request.{Cut, CutExact, Drill, Fade, Gain, Help, InfoFile, Join}
+use Rattle.job_words.specs.Request.{ListFile, Pack, Request, Salvage, SplitAt, SplitBy, SplitExact}
+use Rattle.job_words.specs.{Request.{Undo, Version}, Words.job_of}
 use Rattle.join_edits.specs.{Join.join_command, Seamless.seamless_command}
-use Rattle.legality.specs.{Laws.Makes, Legal.IsLegalFor}
+use Rattle.legality.specs.{Laws.AcceptsFiles, Legal.IsLegalFor}
 use Rattle.list_edits.specs.{InfoText.info_command, Listing.list_command}
 use Rattle.outside.specs.Counts.{NoneFell, Rose}
-use Rattle.outside.specs.Files.{Contents, Files, IfTold, OnlyTouches, sent_more, Told}
+use Rattle.outside.specs.Files.{Contents, Files, IfTold, OnlyTouches, sent_and_more, Told}
 use Rattle.outside.specs.Seen.{Heard, Seen}
 use Rattle.pack_edits.specs.{Fewest.WritesFewest, Modes.pack_mode_command}
-use Rattle.program_texts.specs.Texts.{bad_word_line, fault_line, GotLine, help_text, said_command}
-use Rattle.program_texts.specs.Texts.{status_of, version_text}
+use Rattle.program_texts.specs.Texts.{bad_word_line, fault_line, fixed_text_command, GotLine}
+use Rattle.program_texts.specs.Texts.{help_text, status_of, version_text}
 use Rattle.salvage_edits.specs.Salvaged.{salvage_command}
 use Rattle.split_edits.specs.Split.{split_at_command, split_by_command, split_exact_at_command}
 use Rattle.split_edits.specs.Split.{split_exact_by_command}
@@ -26,9 +27,9 @@ use Rattle.sync_survey.specs.Faults.{IsWellFormed, stream_of}
 use Rattle.theorems.specs.Chosen.{chosen_of, ConsistsOf, Frames}
 
 -- what is asked for, as a command
-abbrev pub command_of : Asked → Command
-command_of Help = said_command help_text
-command_of Version = said_command version_text
+abbrev pub command_of : Request → Command
+command_of Help = fixed_text_command help_text
+command_of Version = fixed_text_command version_text
 command_of (ListFile input) = list_command input
 command_of (InfoFile input) = info_command input
 command_of (Gain shift tags input output) = gain_command shift tags input output
@@ -59,8 +60,8 @@ result_line inputs outputs None = []
 result_line inputs outputs (Some fault) = fault_line fault inputs outputs
 
 -- the line of a command's fault
-abbrev pub line_of : Command → Option EditFault → List ℕ
-line_of command fault = result_line command.inputs command.outputs fault
+abbrev pub command_fault_line : Command → Option EditFault → List ℕ
+command_fault_line command fault = result_line command.inputs command.outputs fault
 
 -- a sink got the line whole, or a prefix of it where a write failed
 abbrev pub GetsLine : Heard → Heard → List ℕ → Type 0
@@ -78,21 +79,21 @@ world folder out err = record { folder = folder; out = out; err = err }
 
 -- How a command ended, with this fault or none: it was done, and its text was sent, or the fault
 -- has its cause, its numbers and what it leaves. Equal names are found whatever else is at fault.
-pub record Ends (command : Command) (old new : Seen) (out_old out_new : Heard)
+pub record CommandEnds (command : Command) (old new : Seen) (out_old out_new : Heard)
     (fault : Option EditFault) : Type 0 where
-  pub says : Says command old.files out_old out_new fault
-  pub done : fault ≡ None → IsDone command old new
-  pub left : IfSome fault (Leaves command old new)
+  pub says : SaysText command old.files out_old out_new fault
+  pub done : fault ≡ None → IsCommandDone command old new
+  pub left : IfSome fault (IsCommandFault command old new)
   pub numbers : IfSome fault (HasNumbers command)
   pub names : (place : ℕ) → clash_of command ≡ Some place → fault ≡ Some (EqualNames place)
 
 -- The command ended, with a fault or none, and that has its status and
 -- its line, which was sent whole, or a prefix of it where a write failed.
-pub record Answers (command : Command) (old new : World) (status : ℕ) : Type 0 where
+pub record CommandAnswers (command : Command) (old new : World) (status : ℕ) : Type 0 where
   pub fault : Option EditFault
-  pub ends : Ends command old.folder new.folder old.out new.out fault
+  pub ends : CommandEnds command old.folder new.folder old.out new.out fault
   pub status_is : status ≡ fault_status fault
-  pub line : GetsLine old.err new.err (line_of command fault)
+  pub line : GetsLine old.err new.err (command_fault_line command fault)
 
 -- a bad word: its line is sent, and all else stays
 pub record AnswersBadWord (place : ℕ) (old new : World) (status : ℕ) : Type 0 where
@@ -102,17 +103,17 @@ pub record AnswersBadWord (place : ℕ) (old new : World) (status : ℕ) : Type 
   pub stays : new.folder ≡ old.folder
 
 -- the words were answered: as a command, or as a bad word
-abbrev pub AnswersWords : World → World → ℕ → Result Asked ℕ → Type 0
-AnswersWords old new status (Ok asked) = Answers (command_of asked) old new status
+abbrev pub AnswersWords : World → World → ℕ → Result Request ℕ → Type 0
+AnswersWords old new status (Ok asked) = CommandAnswers (command_of asked) old new status
 AnswersWords old new status (Err place) = AnswersBadWord place old new status
 
 -- the names of the files that the words ask to write; those of a split are the 99 that it may write
-abbrev pub outputs_asked : Result Asked ℕ → List (List ℕ)
+abbrev pub outputs_asked : Result Request ℕ → List (List ℕ)
 outputs_asked (Ok asked) = (command_of asked).outputs
 outputs_asked (Err place) = []
 
 -- the text that the words ask for whatever the files are, where there is one
-abbrev pub always_of : Result Asked ℕ → Option (List ℕ)
+abbrev pub always_of : Result Request ℕ → Option (List ℕ)
 always_of (Ok asked) = (command_of asked).always
 always_of (Err place) = None
 
@@ -129,7 +130,7 @@ pub record Outcome : Type 0 where
 -- the outcome of what a command makes, or of its refusal
 abbrev pub made_outcome : Command → Contents → Result Made EditFault → Outcome
 made_outcome command files (Ok made) =
-    record { status = 0; text = made.text; line = []; files = written made.outputs files }
+    record { status = 0; text = made.text; line = []; files = written_files made.outputs files }
 made_outcome command files (Err fault) = record {
   status = status_of fault;
   text = [];
@@ -142,7 +143,7 @@ abbrev pub command_outcome : Command → Contents → Outcome
 command_outcome command files = made_outcome command files (command.makes files)
 
 -- the outcome of what is asked for, or of a bad word
-abbrev pub job_outcome : Contents → Result Asked ℕ → Outcome
+abbrev pub job_outcome : Contents → Result Request ℕ → Outcome
 job_outcome files (Ok asked) = command_outcome (command_of asked) files
 job_outcome files (Err place) =
     record { status = 2; text = []; line = bad_word_line place; files = files }
@@ -156,13 +157,13 @@ outcome words files = job_outcome files (job_of words)
 pub record IsOutcome (o : Outcome) (old new : World) (status : ℕ) : Type 0 where
   pub status_is : status ≡ o.status
   pub files_are : new.folder.files ≡ Told o.files
-  pub text_is : new.out.sent ≡ sent_more old.out.sent o.text
+  pub text_is : new.out.sent ≡ sent_and_more old.out.sent o.text
   pub line_is : GetsLine old.err new.err o.line
 
 -- ---- what is accepted
 
 -- what is asked for is legal
-abbrev pub IsLegalBy : Contents → Result Asked ℕ → Type 0
+abbrev pub IsLegalBy : Contents → Result Request ℕ → Type 0
 IsLegalBy files (Ok asked) = IsLegalFor asked files
 IsLegalBy files (Err place) = ⊥
 
@@ -172,8 +173,8 @@ abbrev pub IsLegal : List (List ℕ) → Contents → Type 0
 IsLegal words files = IsLegalBy files (job_of words)
 
 -- what is asked for is accepted
-abbrev pub IsAcceptedBy : Contents → Result Asked ℕ → Type 0
-IsAcceptedBy files (Ok asked) = Makes (command_of asked) files
+abbrev pub IsAcceptedBy : Contents → Result Request ℕ → Type 0
+IsAcceptedBy files (Ok asked) = AcceptsFiles (command_of asked) files
 IsAcceptedBy files (Err place) = ⊥
 
 -- the words ask for a command, and it isn't refused
@@ -181,8 +182,8 @@ abbrev pub IsAccepted : List (List ℕ) → Contents → Type 0
 IsAccepted words files = IsAcceptedBy files (job_of words)
 
 -- exactly what is legal is accepted
-abbrev pub LegalIsAccepted : Type 0
-LegalIsAccepted =
+abbrev pub LegalWordsAreAccepted : Type 0
+LegalWordsAreAccepted =
     (words : List (List ℕ)) (files : Contents) → IsLegal words files ↔ IsAccepted words files
 
 -- ---- the streams
@@ -197,8 +198,8 @@ HoldFrames files (name ∷ names) (frames ∷ more) = ((bytes : List ℕ) × (fi
 
 -- The inputs that are read as streams were there and well-formed, and the outputs are there,
 -- by their names, with exactly the frames that the job chooses of the inputs (`chosen_of`).
-pub record HoldsWritten (asked : Asked) (old new : Contents) : Type 0 where
-  pub sources : AreSound old (command_of asked).sources
+pub record HoldsWritten (asked : Request) (old new : Contents) : Type 0 where
+  pub sources : AreSoundFiles old (command_of asked).sources
   pub outputs : HoldFrames new (command_of asked).outputs (chosen_of asked old)
 
 -- so it is of what the words ask for, where the files before and after are told
@@ -209,7 +210,7 @@ HoldsAllStreams words old new = IfOk (job_of words)
 -- ---- the fewest bytes
 
 -- what is packed into the fewest bytes has the fewest of all files of the frames of its input
-abbrev pub HasFewest : Asked → Files → Files → Type 0
+abbrev pub HasFewest : Request → Files → Files → Type 0
 HasFewest (Pack mode input output) old new = WritesFewest mode input output old new
 HasFewest _ old new = Unit {0}
 
@@ -267,6 +268,6 @@ pub record ProgramRun (words : List (List ℕ)) (old new : World) (status : ℕ)
   -- folder: those of `--help`, `--version` and `drill`, and the empty ones
   -- of the commands that write files, except `salvage` and `join --seamless`
   pub text : status ≡ 0
-      → IfSome (always_of (job_of words)) (λ text. new.out.sent ≡ sent_more old.out.sent text)
+      → IfSome (always_of (job_of words)) (λ text. new.out.sent ≡ sent_and_more old.out.sent text)
   -- the counts of what failed don't fall
   pub counts : NoneFell old.folder.counts new.folder.counts

@@ -1,8 +1,8 @@
 //! The names of the files that a job reads and writes.
 ghost use Rattle.std.specs.Prelude.{◌≡◌, ◌≤◌, length, map, string_bytes};
-ghost use Rattle.job_words.specs.Words.{IsSound};
-ghost use Rattle.job_words.specs.Code.{asked};
-ghost use Rattle.program_texts.specs.Names.{names_in};
+ghost use Rattle.job_words.specs.Words.{IsSoundRequest};
+ghost use Rattle.job_words.specs.Code.{job_request};
+ghost use Rattle.program_texts.specs.Names.{names_of_outputs};
 ghost use Rattle.mp3_cli.specs.Run.{command_of};
 
 use arrayvec::ArrayVec;
@@ -36,8 +36,8 @@ fn names_of(words: &[String]) -> Names<'_>
 
 /// The names of the files that a job reads.
 pub(crate) fn inputs_of<'a>(job: &Job<'a>) -> ArrayVec<&'a str, 64>
-    requires { IsSound (asked job.now) }
-    ensures { map (λ name. name.now) result.items ≡ (command_of (asked job.now)).inputs }
+    requires { IsSoundRequest (job_request job.now) }
+    ensures { map (λ name. name.now) result.items ≡ (command_of (job_request job.now)).inputs }
 {
     match *job {
         Job::Help | Job::Version | Job::Drill { .. } => Names::new(),
@@ -60,7 +60,7 @@ pub(crate) fn inputs_of<'a>(job: &Job<'a>) -> ArrayVec<&'a str, 64>
 
 /// The names of the files that a job writes.
 pub(crate) fn outputs_of<'a>(job: &Job<'a>) -> Outputs<'a>
-    ensures { names_in result ≡ (command_of (asked job.now)).outputs }
+    ensures { names_of_outputs result ≡ (command_of (job_request job.now)).outputs }
 {
     match *job {
         Job::Help | Job::Version | Job::Drill { .. } | Job::List { .. } | Job::Info { .. } => {

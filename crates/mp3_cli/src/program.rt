@@ -2,14 +2,14 @@
 ghost use Rattle.std.specs.Prelude.{◌≡◌, ◌≤◌, length, map, string_bytes, OnOk};
 ghost use Rattle.outside.specs.Counts.{NoneFell};
 ghost use Rattle.commands.specs.Command.{HoldsStreams};
-ghost use Rattle.commands.specs.Said.{fault_of};
+ghost use Rattle.commands.specs.SentText.{answer_fault};
 ghost use Rattle.commands.specs.Runs.{IsRunOf};
-ghost use Rattle.job_words.specs.Asked.{SplitBy, Join};
-ghost use Rattle.job_words.specs.Words.{IsSound};
-ghost use Rattle.job_words.specs.Code.{asked};
-ghost use Rattle.program_texts.specs.Names.{names_in};
+ghost use Rattle.job_words.specs.Request.{SplitBy, Join};
+ghost use Rattle.job_words.specs.Words.{IsSoundRequest};
+ghost use Rattle.job_words.specs.Code.{job_request};
+ghost use Rattle.program_texts.specs.Names.{names_of_outputs};
 ghost use Rattle.program_texts.specs.Texts.{GotLine};
-ghost use Rattle.mp3_cli.specs.Run.{command_of, fault_status, result_line, world, Ends, Answers, ProgramRun};
+ghost use Rattle.mp3_cli.specs.Run.{command_of, fault_status, result_line, world, CommandEnds, CommandAnswers, ProgramRun};
 
 use crate::job_names::{inputs_of, outputs_of};
 use commands::EditFault;
@@ -33,10 +33,10 @@ fn report<E: Sink>(
     inputs: &[&str],
     outputs: &Outputs,
 ) -> u8
-    ensures status { result ≡ fault_status (fault_of done) }
+    ensures status { result ≡ fault_status (answer_fault done) }
     ensures line { GotLine (E.heard err.old).sent (E.heard err.new).sent (E.heard err.old).faults
         (E.heard err.new).faults (result_line (map (λ name. name.now) inputs.now)
-        (names_in outputs.now) (fault_of done)) }
+        (names_of_outputs outputs.now) (answer_fault done)) }
 {
     match done {
         Ok(()) => 0,
@@ -79,11 +79,11 @@ fn join_files<D: Folder, T: Sink>(
 ) -> Result<(), EditFault>
     requires some { 1 ≤ length inputs.now }
     requires few { length inputs.now ≤ 64 }
-    ensures ends { Ends (command_of (Join seamless output.now (map string_bytes inputs.now)))
+    ensures ends { CommandEnds (command_of (Join seamless output.now (map string_bytes inputs.now)))
         (D.seen folder.old)
         (D.seen folder.new)
         (T.heard out.old) (T.heard out.new)
-        (fault_of result) }
+        (answer_fault result) }
     ensures streams { OnOk result (HoldsStreams
         (command_of (Join seamless output.now (map string_bytes inputs.now)))
         (D.seen folder.old).files) }
@@ -103,13 +103,13 @@ fn do_job<D: Folder, T: Sink>(
     folder: &mut D,
     out: &mut T,
 ) -> Result<(), EditFault>
-    requires sound { IsSound (asked job) }
-    ensures ends { Ends (command_of (asked job.entry))
+    requires sound { IsSoundRequest (job_request job) }
+    ensures ends { CommandEnds (command_of (job_request job.entry))
         (D.seen folder.old)
         (D.seen folder.new)
         (T.heard out.old) (T.heard out.new)
-        (fault_of result) }
-    ensures streams { OnOk result (HoldsStreams (command_of (asked job.entry))
+        (answer_fault result) }
+    ensures streams { OnOk result (HoldsStreams (command_of (job_request job.entry))
         (D.seen folder.old).files) }
     ensures counts { NoneFell (D.seen folder.old).counts (D.seen folder.new).counts }
 {
@@ -189,14 +189,14 @@ fn run_job<D: Folder, T: Sink, E: Sink>(
     out: &mut T,
     err: &mut E,
 ) -> u8
-    requires sound { IsSound (asked job) }
-    ensures answers { Answers (command_of (asked job.entry))
+    requires sound { IsSoundRequest (job_request job) }
+    ensures answers { CommandAnswers (command_of (job_request job.entry))
         (world (D.seen folder.old)
         (T.heard out.old) (E.heard err.old))
         (world (D.seen folder.new)
         (T.heard out.new) (E.heard err.new))
         result }
-    ensures streams { result ≡ 0 → HoldsStreams (command_of (asked job.entry))
+    ensures streams { result ≡ 0 → HoldsStreams (command_of (job_request job.entry))
         (D.seen folder.old).files }
     ensures counts { NoneFell (D.seen folder.old).counts (D.seen folder.new).counts }
 {

@@ -62,13 +62,17 @@ fn answer<D: Folder, T: Sink, E: Sink>(
 
 /// Opens `/dev/null` for reading. While it is kept open, no other file gets its descriptor: where standard output or standard
 /// error is closed, an output would get the descriptor of that stream, and with it a text or a line that isn't its own.
-fn keep_number<R: Files>(rt: &R) -> Option<R::File> {
+fn hold_descriptor<R: Files>(rt: &R) -> Option<R::File> {
     File::open(rt, "/dev/null").ok()
 }
 
 fn main(rt: HostRuntime) -> ExitCode {
     // One for each standard stream.
-    let _kept = (keep_number(&rt), keep_number(&rt), keep_number(&rt));
+    let _kept = (
+        hold_descriptor(&rt),
+        hold_descriptor(&rt),
+        hold_descriptor(&rt),
+    );
     let words = words(&rt);
     let mut folder = DiskFolder::new(&rt, rt.alloc());
     let mut out = StdSink::new(rt.stdout());

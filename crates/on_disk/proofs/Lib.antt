@@ -1,2 +1,2 @@
-pub mod KnownLaws
-pub mod TouchedLaws
+pub mod KnownLemmas
+pub mod TouchedLemmas

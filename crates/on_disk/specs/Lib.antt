@@ -1,3 +1,3 @@
-pub mod Real
-pub mod Opening
+pub mod RealFiles
+pub mod NotedFiles
 pub mod Names

@@ -3,15 +3,15 @@ ghost use Rattle.std.specs.Prelude.{◌≡◌, ℕ, ◌<◌, ◌≤◌, List, le
 ghost use Rattle.std.specs.Fs.{new_options};
 ghost use Rattle.std.specs.Io.KnownBytes.{Keeps, WriteAppends};
 ghost use Rattle.on_disk.specs.Names.{touched_in};
-ghost use Rattle.on_disk.specs.Opening.{is_noted};
-ghost use Rattle.on_disk.specs.Real.{open_name, TellsBytes, ReadsOn, OnlyFound, OnlyWrote};
-ghost use Rattle.outside.specs.Files.{Untold, emptied, appended, FailsToCreate, Holds, IsThere, IsMissing, AreOctets};
-ghost use Rattle.outside.specs.Counts.{none_counted, with_miss, with_end, with_read_fault, with_write_fault, OnlyReads, OnlyWrites, NothingFailed, HappenedTo, EndedAt};
+ghost use Rattle.on_disk.specs.NotedFiles.{is_noted};
+ghost use Rattle.on_disk.specs.RealFiles.{open_name, TellsBytes, ReadsFromOffset, OnlyFound, OnlyWrote};
+ghost use Rattle.outside.specs.Files.{Untold, with_empty_file, with_appended_bytes, FailsToCreate, Holds, IsFileThere, IsFileMissing, AreOctets};
+ghost use Rattle.outside.specs.Counts.{no_counts, with_miss, with_end, with_read_fault, with_write_fault, OnlyReads, OnlyWrites, NothingFailed, HappenedTo, EndedAt};
 ghost use Rattle.outside.specs.Answers.{FindAnswer, ReadAnswer, CreateAnswer, WriteAnswer};
 
-use crate::noted::{FileId, Noted, Opening, opening_of};
+use crate::noted::{CreateAction, FileId, NotedFiles, create_action_of};
 use crate::reading::{length_of, read_part};
-use crate::touched::Touched;
+use crate::touched::TouchedNames;
 use crate::writing::write_some;
 use outside::{Failed, FindFault, Folder, Tally};
 use std::alloc::Global;
@@ -50,7 +50,7 @@ impl<F: Read + Seek> Opened<F> {
         ensures rest { IfOk result (λ k. drop k into.new ≡ drop k into.old) }
         ensures whole { (xs : List ℕ) → TellsBytes F.stream_position F.stream_bytes self.old.file xs
             → IfOk result (λ k. k ≡ min (length into.old) (length xs - at)) }
-        ensures bytes { ReadsOn F.remaining F.stream_position F.stream_bytes → (xs : List ℕ)
+        ensures bytes { ReadsFromOffset F.remaining F.stream_position F.stream_bytes → (xs : List ℕ)
             → TellsBytes F.stream_position F.stream_bytes self.old.file xs
             → IfOk result (λ k. take k into.new ≡ take k (drop at xs)) }
     {
@@ -84,26 +84,26 @@ pub struct DiskFolder<'a, R: Files> {
     rt: &'a R,
     alloc: Global,
     tally: Tally,
-    touched: Touched,
-    noted: Noted,
+    touched: TouchedNames,
+    noted: NotedFiles,
     found: Option<Opened<R::File>>,
     created: Option<Opened<R::File>>,
 }
 
 impl<'a, R: Files> DiskFolder<'a, R> {
-    ghost use Rattle.on_disk.specs.Real.{disk_counts, disk_files, found_name, found_file, created_name, created_bytes, EndsAt, ReadsWhole, ReadsOpen, AppendsOpen, LeavesOthers, FoundIsNoted, CreatedIsNotNoted, StayNoted};
+    ghost use Rattle.on_disk.specs.RealFiles.{disk_counts, disk_files, found_name, found_file, created_name, created_bytes, EndsAt, ReadsWhole, ReadsOpen, AppendsOpen, LeavesOthers, FoundIsNoted, CreatedIsNotNoted, StayNoted};
 
     /// A folder with all counts 0 that has touched no name. It takes no memory.
     pub fn new(rt: &'a R, alloc: Global) -> Self
-        ensures counts { disk_counts result ≡ none_counted }
+        ensures counts { disk_counts result ≡ no_counts }
         ensures untouched { disk_files result ≡ Untold (λ _. false) }
     {
         DiskFolder {
             rt,
             alloc,
             tally: Tally::new(),
-            touched: Touched::new(alloc),
-            noted: Noted::new(),
+            touched: TouchedNames::new(alloc),
+            noted: NotedFiles::new(),
             found: None,
             created: None,
         }
@@ -205,7 +205,7 @@ impl<'a, R: Files> DiskFolder<'a, R> {
     fn touch_and_empty(&mut self, name: &str) -> Result<(), Failed>
         ensures tally { disk_counts self.new ≡ disk_counts self.old }
         ensures emptied { OnOk result (disk_files self.new
-            ≡ emptied (disk_files self.old) name.now) }
+            ≡ with_empty_file (disk_files self.old) name.now) }
         ensures kept { OnErr result (FailsToCreate name.now (disk_files self.old)
             (disk_files self.new)) }
         ensures opened { OnOk result (created_name self.new ≡ Some name.now) }
@@ -257,16 +257,20 @@ fn appending(creates: bool) -> OpenOptions
 
 // Opens the file of this name to be written, and empties it if it is a regular one; fails if it was found. A file that is empty
 // is left as it is: some file systems write a file that was cut off to the disk when it is closed.
-fn open_emptied<R: Files>(rt: &R, noted: &Noted, name: &str) -> Result<(R::File, FileId), Failed>
+fn open_emptied<R: Files>(
+    rt: &R,
+    noted: &NotedFiles,
+    name: &str,
+) -> Result<(R::File, FileId), Failed>
     ensures unfound { IfOk result (λ opened. is_noted noted.now opened.1 ≡ false) }
 {
     let file = appending(true).open(rt, name)?;
     let metadata = file.metadata()?;
     let id = FileId::of(&metadata);
-    match opening_of(noted, &id, metadata.is_file()) {
-        Opening::Refused => return Err(Failed),
-        Opening::Emptied if metadata.len() > 0 => file.set_len(0)?,
-        Opening::Emptied | Opening::Kept => {}
+    match create_action_of(noted, &id, metadata.is_file()) {
+        CreateAction::Refused => return Err(Failed),
+        CreateAction::Emptied if metadata.len() > 0 => file.set_len(0)?,
+        CreateAction::Emptied | CreateAction::Kept => {}
     }
     Ok((file, id))
 }
@@ -285,7 +289,7 @@ fn open_regular<R: Files>(rt: &R, name: &str) -> Result<(R::File, FileId), FindF
 }
 
 impl<'a, R: Files> Folder for DiskFolder<'a, R> {
-    ghost use Rattle.on_disk.specs.Real.{disk_seen, disk_counts, disk_files, found_name, found_file, created_name, created_bytes, EndsAt, ReadsWhole, ReadsOpen, AppendsOpen, LeavesOthers, FoundIsNoted, CreatedIsNotNoted, StayNoted};
+    ghost use Rattle.on_disk.specs.RealFiles.{disk_seen, disk_counts, disk_files, found_name, found_file, created_name, created_bytes, EndsAt, ReadsWhole, ReadsOpen, AppendsOpen, LeavesOthers, FoundIsNoted, CreatedIsNotNoted, StayNoted};
 
     ghost seen = { λ folder. disk_seen folder };
 
@@ -357,7 +361,7 @@ impl<'a, R: Files> Folder for DiskFolder<'a, R> {
     /// # Errors
     /// Where the system gives an error, and where the name, whatever it is, leads to a file that this
     /// folder found. That file is left as it is.
-    #[tactic(auto, unfolding(outside::specs::Files::emptied))]
+    #[tactic(auto, unfolding(outside::specs::Files::with_empty_file))]
     fn create(&mut self, name: &str) -> Result<(), Failed>
         ensures answer { CreateAnswer name.now (disk_seen self.old) (disk_seen self.new) result }
         ensures opened { OnOk result (created_name self.new ≡ Some name.now) }
@@ -380,7 +384,7 @@ impl<'a, R: Files> Folder for DiskFolder<'a, R> {
     /// # Errors
     /// Where no call was made to create the name, where the system gives an error, and where it takes none of the bytes
     /// though there are some.
-    #[tactic(auto, unfolding(outside::specs::Files::appended))]
+    #[tactic(auto, unfolding(outside::specs::Files::with_appended_bytes))]
     fn write(&mut self, name: &str, bytes: &[u8]) -> Result<usize, Failed>
         ensures answer { WriteAnswer name.now bytes.now (disk_seen self.old) (disk_seen self.new)
             result }

@@ -1,6 +1,6 @@
 //! The files that a folder found, so that none of them is emptied.
 ghost use Rattle.std.specs.Prelude.{◌≡◌, [], ◌∷◌, ◌++◌, length, ◌||◌, ◌&&◌, not, nat_lt, if◌then◌else◌, IsTrue};
-ghost use Rattle.on_disk.specs.Opening.{is_noted, opening_of_lem};
+ghost use Rattle.on_disk.specs.NotedFiles.{is_noted, create_action};
 
 use arrayvec::ArrayVec;
 use std::fs::Metadata;
@@ -27,15 +27,15 @@ impl FileId {
 
 /// The files that were found, at most 65.
 #[derive(Drop)]
-pub struct Noted {
+pub struct NotedFiles {
     files: ArrayVec<FileId, MOST_FILES>,
 }
 
-impl Noted {
+impl NotedFiles {
     pub fn new() -> Self
         ensures { result.files.items ≡ [] }
     {
-        Noted {
+        NotedFiles {
             files: ArrayVec::new(),
         }
     }
@@ -63,7 +63,7 @@ impl Noted {
 
 /// What `create` does with a file that it opened.
 #[derive(Clone, Copy, Debug, PartialEq, Eq)]
-pub enum Opening {
+pub enum CreateAction {
     /// The file was found before: it is left as it is, and the call fails.
     Refused,
     /// A regular file loses its bytes.
@@ -73,12 +73,12 @@ pub enum Opening {
 }
 
 /// What `create` does with a file.
-pub fn opening_of(noted: &Noted, file: &FileId, is_regular: bool) -> Opening
-    ensures { result ≡ opening_of_lem (is_noted noted.now file.now) is_regular }
+pub fn create_action_of(noted: &NotedFiles, file: &FileId, is_regular: bool) -> CreateAction
+    ensures { result ≡ create_action (is_noted noted.now file.now) is_regular }
 {
     match (noted.has(file), is_regular) {
-        (true, _) => Opening::Refused,
-        (false, true) => Opening::Emptied,
-        (false, false) => Opening::Kept,
+        (true, _) => CreateAction::Refused,
+        (false, true) => CreateAction::Emptied,
+        (false, false) => CreateAction::Kept,
     }
 }

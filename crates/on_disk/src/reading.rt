@@ -1,6 +1,6 @@
 //! The length of a real file, and parts of it.
 ghost use Rattle.std.specs.Prelude.{◌≡◌, ◌-◌, ◌≤◌, ℕ, List, length, take, drop, min, pos, IfOk};
-ghost use Rattle.on_disk.specs.Real.{TellsBytes, ReadsOn};
+ghost use Rattle.on_disk.specs.RealFiles.{TellsBytes, ReadsFromOffset};
 ghost use Rattle.std.specs.Io.Seek.{SeekMoves};
 ghost use Rattle.std.specs.Io.KnownBytes.{Keeps};
 
@@ -30,7 +30,7 @@ pub fn read_part<F: Read + Seek>(file: &mut F, at: u64, into: &mut [u8]) -> io::
     ensures rest { IfOk result (λ k. drop k into.new ≡ drop k into.old) }
     ensures whole { (xs : List ℕ) → TellsBytes F.stream_position F.stream_bytes file.old xs
         → IfOk result (λ k. k ≡ min (length into.old) (length xs - at)) }
-    ensures bytes { ReadsOn F.remaining F.stream_position F.stream_bytes → (xs : List ℕ)
+    ensures bytes { ReadsFromOffset F.remaining F.stream_position F.stream_bytes → (xs : List ℕ)
         → TellsBytes F.stream_position F.stream_bytes file.old xs
         → IfOk result (λ k. take k into.new ≡ take k (drop at xs)) }
 {

@@ -1,6 +1,6 @@
 //! Real streams.
 ghost use Rattle.std.specs.Prelude.{◌≡◌, ◌<◌, ◌≤◌, length, take, IfOk, OnOk, OnErr};
-ghost use Rattle.outside.specs.Files.{untold_bytes, sent_more};
+ghost use Rattle.outside.specs.Files.{untold_bytes, sent_and_more};
 ghost use Rattle.outside.specs.Counts.{HasCause, one_more};
 ghost use Rattle.outside.specs.Answers.{SendAnswer};
 ghost use Rattle.std.specs.Io.KnownBytes.{Appends};
@@ -18,7 +18,7 @@ pub struct StdSink<W: Write + Drop> {
 }
 
 impl<W: Write + Drop> StdSink<W> {
-    ghost use Rattle.on_disk.specs.Real.{stream_faults, GrewByPrefix};
+    ghost use Rattle.on_disk.specs.RealFiles.{stream_faults, GrewByPrefix};
 
     /// A sink over this writer, with count 0.
     pub fn new(writer: W) -> Self
@@ -44,7 +44,7 @@ impl<W: Write + Drop> StdSink<W> {
 }
 
 impl<W: Write + Drop> Sink for StdSink<W> {
-    ghost use Rattle.on_disk.specs.Real.{stream_heard, stream_faults, GrewByPrefix};
+    ghost use Rattle.on_disk.specs.RealFiles.{stream_heard, stream_faults, GrewByPrefix};
 
     ghost heard = { λ sink. stream_heard sink };
 
@@ -52,7 +52,7 @@ impl<W: Write + Drop> Sink for StdSink<W> {
     ///
     /// # Errors
     /// Where the writer fails, and where it takes none of the bytes though there are some.
-    #[tactic(auto, unfolding(outside::specs::Files::sent_more))]
+    #[tactic(auto, unfolding(outside::specs::Files::sent_and_more))]
     fn write(&mut self, bytes: &[u8]) -> Result<usize, Failed>
         ensures answer { SendAnswer bytes.now (stream_heard self.old)
             (stream_heard self.new) result }

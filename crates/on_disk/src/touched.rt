@@ -7,18 +7,18 @@ use std::collections::BTreeSet;
 
 /// The names that calls were made to create.
 #[derive(Drop)]
-pub struct Touched {
+pub struct TouchedNames {
     names: BTreeSet<String>,
 }
 
-impl Touched {
+impl TouchedNames {
     ghost use Rattle.on_disk.specs.Names.{touched_in};
 
     /// No names. It takes no memory.
     pub fn new(alloc: Global) -> Self
         ensures { touched_in result ≡ (λ _. false) }
     {
-        Touched {
+        TouchedNames {
             names: BTreeSet::new(alloc),
         }
     }

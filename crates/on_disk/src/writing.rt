@@ -11,7 +11,7 @@ use std::io::{ErrorKind, Write};
 ///
 /// # Errors
 /// Where the writer fails, and where it takes none of the bytes though there are some.
-#[tactic(auto, using(crate::proofs::KnownLaws::none_appended))]
+#[tactic(auto, using(crate::proofs::KnownLemmas::none_appended))]
 pub fn write_some<W: Write>(writer: &mut W, bytes: &[u8]) -> Result<usize, Failed>
     ensures bound { IfOk result (λ k. k ≤ length bytes.now) }
     ensures some { IfOk result (λ k. 0 < length bytes.now → 0 < k) }

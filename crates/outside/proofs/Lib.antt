@@ -1,9 +1,9 @@
-pub mod FilesLaws
-pub mod CountsLaws
-pub mod Pieces
-pub mod FeedLaws
-pub mod PassedLaws
-pub mod PassLaws
-pub mod SentLaws
-mod SlotsLaws
-pub mod ShortLaws
+pub mod FilesLemmas
+pub mod CountsLemmas
+pub mod PieceLemmas
+pub mod FeedLemmas
+pub mod BufferOutputLemmas
+pub mod PassLemmas
+pub mod SentLemmas
+mod FileRoomsLemmas
+pub mod ShortLemmas

@@ -1,10 +1,11 @@
 -- What a call of a folder or of a sink answers and leaves, by what is seen before and after it.
 use Rattle.std.specs.Prelude.{drop, IfErr, IfOk, IsErrOf, length, List, OnErr, OnOk, Result, take}
 use Rattle.std.specs.Prelude.{ℕ, [], ◌++◌, ◌+◌, ◌-◌, ◌<◌, ◌≡◌, ◌≤◌, ◌⊎◌}
+use Rattle.outside.specs.BufferOutput.{AppendedPrefix, AppendsWaiting}
 use Rattle.outside.specs.Counts.{EndedAt, HappenedTo, HasCause, NothingFailed, OnlyReads}
-use Rattle.outside.specs.{Counts.OnlyWrites, Exact.HasReadCause, Feed.{buffer_size, Fed, IsFedFrom}}
-use Rattle.outside.specs.Files.{appended, AreOctets, emptied, FailsToCreate, IsMissing, IsThere}
-use Rattle.outside.specs.{Files.sent_more, Passed.{AppendedPrefix, PassedOn}}
+use Rattle.outside.specs.{Counts.OnlyWrites, Feed.{buffer_size, Fed, IsFedFrom}}
+use Rattle.outside.specs.Files.{AreOctets, FailsToCreate, IsFileMissing, IsFileThere, sent_and_more}
+use Rattle.outside.specs.{Files.{with_appended_bytes, with_empty_file}, ReadCauses.HasReadCause}
 use Rattle.outside.specs.{Seen.{Heard, OnFile, Seen}, declared.exact.ReadFault.ReadFault}
 use Rattle.outside.specs.declared.folder.{Failed.Failed as FailedCall, FindFault.FindFault}
 use Rattle.outside.specs.declared.folder.FindFault.TheVariants.{Absent, Failed}
@@ -13,10 +14,10 @@ use Rattle.outside.specs.declared.folder.FindFault.TheVariants.{Absent, Failed}
 pub record FindAnswer (name : List ℕ) (old new : Seen) (result : Result ℕ FindFault) : Type 0 where
   -- the answer is its length
   pub found : IfOk result (λ n. OnFile old name (λ bytes. n ≡ length bytes))
-  pub there : OnOk result (IsThere old.files name)
+  pub there : OnOk result (IsFileThere old.files name)
   -- what is told of it are bytes
   pub octets : OnOk result (OnFile old name AreOctets)
-  pub missing : IsErrOf result Absent → IsMissing old.files name
+  pub missing : IsErrOf result Absent → IsFileMissing old.files name
   -- an absent file and a failure are counted, with its name
   pub absent : IsErrOf result Absent → HappenedTo name old.counts.misses new.counts.misses
   pub failed : IsErrOf result Failed → HappenedTo name old.counts.read_faults new.counts.read_faults
@@ -49,7 +50,7 @@ pub record ReadAnswer (name : List ℕ) (at : ℕ) (before after : List ℕ) (ol
 -- A name was made to hold no bytes, or the call failed.
 pub record CreateAnswer (name : List ℕ) (old new : Seen)
     (result : Result (Unit {0}) FailedCall) : Type 0 where
-  pub created : OnOk result (new.files ≡ emptied old.files name)
+  pub created : OnOk result (new.files ≡ with_empty_file old.files name)
   pub kept : OnErr result (FailsToCreate name old.files new.files)
   pub failed : OnErr result (HappenedTo name old.counts.write_faults new.counts.write_faults)
   pub done : OnOk result (new.counts ≡ old.counts)
@@ -61,7 +62,7 @@ pub record WriteAnswer (name bytes : List ℕ) (old new : Seen)
   -- the answer is how many were: some, if there are any
   pub bound : IfOk result (λ k. k ≤ length bytes)
   pub some : IfOk result (λ k. 0 < length bytes → 0 < k)
-  pub written : IfOk result (λ k. new.files ≡ appended old.files name (take k bytes))
+  pub written : IfOk result (λ k. new.files ≡ with_appended_bytes old.files name (take k bytes))
   pub kept : OnErr result (new.files ≡ old.files)
   pub failed : OnErr result (HappenedTo name old.counts.write_faults new.counts.write_faults)
   pub done : OnOk result (new.counts ≡ old.counts)
@@ -73,7 +74,7 @@ pub record SendAnswer (bytes : List ℕ) (old new : Heard)
   -- the answer is how many were: some, if there are any
   pub bound : IfOk result (λ k. k ≤ length bytes)
   pub some : IfOk result (λ k. 0 < length bytes → 0 < k)
-  pub written : IfOk result (λ k. new.sent ≡ sent_more old.sent (take k bytes))
+  pub written : IfOk result (λ k. new.sent ≡ sent_and_more old.sent (take k bytes))
   pub kept : OnErr result (new.sent ≡ old.sent)
   pub cause : HasCause old.faults new.faults result
 
@@ -151,7 +152,7 @@ pub record FillExact (name : List ℕ) (size at n : ℕ) (now : Fed) (old new : 
 -- Bytes were added to what waits for a file, of which some was appended, or a write failed.
 pub record PushAnswer (name before bytes after : List ℕ) (old new : Seen)
     (result : Result (Unit {0}) FailedCall) : Type 0 where
-  pub passed : OnOk result (PassedOn name (before ++ bytes) after old.files new.files)
+  pub passed : OnOk result (AppendsWaiting name (before ++ bytes) after old.files new.files)
   pub prefix : OnErr result (AppendedPrefix name (before ++ bytes) old.files new.files)
   pub none : OnErr result (after ≡ [])
   pub few : length after ≤ buffer_size
@@ -162,7 +163,7 @@ pub record PushAnswer (name before bytes after : List ℕ) (old new : Seen)
 -- What waited for a file was appended, or a write failed.
 pub record FinishAnswer (name before after : List ℕ) (old new : Seen)
     (result : Result (Unit {0}) FailedCall) : Type 0 where
-  pub appended : OnOk result (new.files ≡ appended old.files name before)
+  pub appended : OnOk result (new.files ≡ with_appended_bytes old.files name before)
   pub prefix : OnErr result (AppendedPrefix name before old.files new.files)
   pub none : after ≡ []
   pub failed : OnErr result (HappenedTo name old.counts.write_faults new.counts.write_faults)
@@ -174,7 +175,7 @@ pub record WholeAnswer (name bytes : List ℕ) (old new : Seen)
     (result : Result ℕ FailedCall) : Type 0 where
   pub within : IfOk result (λ k. k ≤ length bytes)
   pub few : IfOk result (λ k. length bytes - k < buffer_size)
-  pub written : IfOk result (λ k. new.files ≡ appended old.files name (take k bytes))
+  pub written : IfOk result (λ k. new.files ≡ with_appended_bytes old.files name (take k bytes))
   pub prefix : OnErr result (AppendedPrefix name bytes old.files new.files)
   pub failed : OnErr result (HappenedTo name old.counts.write_faults new.counts.write_faults)
   pub done : OnOk result (new.counts ≡ old.counts)
@@ -183,9 +184,10 @@ pub record WholeAnswer (name bytes : List ℕ) (old new : Seen)
 -- All of these bytes were appended to a file, or a write failed.
 pub record WriteAllAnswer (name bytes : List ℕ) (old new : Seen)
     (result : Result (Unit {0}) FailedCall) : Type 0 where
-  pub written : OnOk result (new.files ≡ appended old.files name bytes)
+  pub written : OnOk result (new.files ≡ with_appended_bytes old.files name bytes)
   pub front : OnErr result
-      ((k : ℕ) × (k < length bytes) × (new.files ≡ appended old.files name (take k bytes)))
+      ((k : ℕ) × (k < length bytes)
+      × (new.files ≡ with_appended_bytes old.files name (take k bytes)))
   pub failed : OnErr result (HappenedTo name old.counts.write_faults new.counts.write_faults)
   pub done : OnOk result (new.counts ≡ old.counts)
   pub counts : OnlyWrites old.counts new.counts
@@ -194,7 +196,7 @@ pub record WriteAllAnswer (name bytes : List ℕ) (old new : Seen)
 -- appended, or a write failed; what waits after that isn't said.
 pub record PassAnswer (name before bytes after : List ℕ) (old new : Seen)
     (result : Result (Unit {0}) FailedCall) : Type 0 where
-  pub passed : OnOk result (PassedOn name (before ++ bytes) after old.files new.files)
+  pub passed : OnOk result (AppendsWaiting name (before ++ bytes) after old.files new.files)
   pub prefix : OnErr result (AppendedPrefix name (before ++ bytes) old.files new.files)
   pub failed : OnErr result (HappenedTo name old.counts.write_faults new.counts.write_faults)
   pub done : OnOk result (new.counts ≡ old.counts)

@@ -7,8 +7,8 @@ abbrev pub Rose : ℕ → ℕ → Type 0
 Rose before now = min (before + 1) (2 ^ 64 - 1) ≤ now
 
 -- what is noted of a name: its first 4,096 bytes, which are all of a name that a system takes
-abbrev pub noted : List ℕ → List ℕ
-noted name = take 4096 name
+abbrev pub noted_name : List ℕ → List ℕ
+noted_name name = take 4096 name
 
 -- how often something happened, and the noted name of the file that it happened to last
 pub record Happened : Type 0 where
@@ -22,8 +22,8 @@ pub record Ended : Type 0 where
   pub place : ℕ
 
 -- these reads, of which the last was at this offset
-abbrev pub ended : Happened → ℕ → Ended
-ended last place = record { times = last.times; name = last.name; place = place }
+abbrev pub ended_reads : Happened → ℕ → Ended
+ended_reads last place = record { times = last.times; name = last.name; place = place }
 
 -- what a folder counts: missing files, reads at an end, and faults of reading and of writing, each
 -- with the name of the file that it happened to last, and an end with its offset
@@ -39,12 +39,12 @@ pub record Counts : Type 0 where
 
 -- it happened again, and this file was the last
 abbrev pub HappenedTo : List ℕ → Happened → Happened → Type 0
-HappenedTo name before now = Rose before.times now.times × (now.name ≡ noted name)
+HappenedTo name before now = Rose before.times now.times × (now.name ≡ noted_name name)
 
 -- a read of this file at this offset gave no byte, and was the last that did so
 abbrev pub EndedAt : List ℕ → ℕ → Ended → Ended → Type 0
 EndedAt name place before now =
-    Rose before.times now.times × (now.name ≡ noted name) × (now.place ≡ place)
+    Rose before.times now.times × (now.name ≡ noted_name name) × (now.place ≡ place)
 
 -- no count has fallen
 pub record NoneFell (old new : Counts) : Type 0 where
@@ -85,32 +85,39 @@ abbrev pub one_more : ℕ → ℕ
 one_more n = min (n + 1) (2 ^ 64 - 1)
 
 -- it happened once more, to this file
-abbrev pub once_more : List ℕ → Happened → Happened
-once_more name before = record { times = one_more before.times; name = noted name }
+abbrev pub one_occurrence_more : List ℕ → Happened → Happened
+one_occurrence_more name before = record { times = one_more before.times; name = noted_name name }
 
 -- it never happened
-abbrev pub never : Happened
-never = record { times = 0; name = [] }
+abbrev pub no_occurrence : Happened
+no_occurrence = record { times = 0; name = [] }
 
 -- the counts before anything happened
-abbrev pub none_counted : Counts
-none_counted =
-    record { misses = never; ends = ended never 0; read_faults = never; write_faults = never }
+abbrev pub no_counts : Counts
+no_counts =
+    record {
+      misses = no_occurrence;
+      ends = ended_reads no_occurrence 0;
+      read_faults = no_occurrence;
+      write_faults = no_occurrence;
+    }
 
 -- one more missing file, and this was it
 abbrev pub with_miss : List ℕ → Counts → Counts
-with_miss name counts = record counts { misses = once_more name counts.misses }
+with_miss name counts = record counts { misses = one_occurrence_more name counts.misses }
 
 -- one more read that gave no byte, of this file at this offset
 abbrev pub with_end : List ℕ → ℕ → Counts → Counts
 with_end name place counts = record counts {
-  ends = ended (record { times = one_more counts.ends.times; name = noted name }) place;
+  ends = ended_reads (record { times = one_more counts.ends.times; name = noted_name name }) place;
 }
 
 -- one more fault of reading, of this file
 abbrev pub with_read_fault : List ℕ → Counts → Counts
-with_read_fault name counts = record counts { read_faults = once_more name counts.read_faults }
+with_read_fault name counts =
+    record counts { read_faults = one_occurrence_more name counts.read_faults }
 
 -- one more fault of writing, of this file
 abbrev pub with_write_fault : List ℕ → Counts → Counts
-with_write_fault name counts = record counts { write_faults = once_more name counts.write_faults }
+with_write_fault name counts =
+    record counts { write_faults = one_occurrence_more name counts.write_faults }

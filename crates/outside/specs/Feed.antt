@@ -24,7 +24,7 @@ pub record IsFedFrom (fed : Fed) (files : Files) (name : List ℕ) : Type 0 wher
       → take (length fed.held) (drop fed.place bytes) ≡ fed.held
 
 -- the buffer of a feed, and the bounds of what is held and given
-pub record IsWithin (room : List ℕ) (place held from to : ℕ) : Type 0 where
+pub record AreFeedBounds (room : List ℕ) (place held from to : ℕ) : Type 0 where
   pub size : length room ≡ buffer_size
   pub few : held ≤ buffer_size
   pub among : to ≤ held

@@ -20,8 +20,8 @@ pub data Files : Type 0 where
   Untold : Touched → Files
 
 -- nothing is told, and any name may have been touched
-abbrev pub untold : Files
-untold = Untold (λ _. true)
+abbrev pub untold_files : Files
+untold_files = Untold (λ _. true)
 
 -- whether the files are told
 abbrev pub is_told : Files → Bool
@@ -55,25 +55,26 @@ is_some_byte [] = false
 is_some_byte (byte ∷ bytes) = true
 
 -- the name holds no bytes, and every other name stays
-unfoldable pub emptied : Files → List ℕ → Files
-emptied (Told f) name = Told (with_file f name [])
-emptied (Untold touched) name = Untold (with_touch touched name true)
+unfoldable pub with_empty_file : Files → List ℕ → Files
+with_empty_file (Told f) name = Told (with_file f name [])
+with_empty_file (Untold touched) name = Untold (with_touch touched name true)
 
 -- the name holds more bytes at its end, and every other
 -- name stays; without any bytes nothing is touched
-unfoldable pub appended : Files → List ℕ → List ℕ → Files
-appended (Told f) name more = Told (with_file f name (unwrap_or (f name) [] ++ more))
-appended (Untold touched) name more = Untold (with_touch touched name (is_some_byte more))
+unfoldable pub with_appended_bytes : Files → List ℕ → List ℕ → Files
+with_appended_bytes (Told f) name more = Told (with_file f name (unwrap_or (f name) [] ++ more))
+with_appended_bytes (Untold touched) name more =
+    Untold (with_touch touched name (is_some_byte more))
 
 -- told files stay, and the name may have been touched
-unfoldable pub tried : Files → List ℕ → Files
-tried (Told f) name = Told f
-tried (Untold touched) name = Untold (with_touch touched name true)
+unfoldable pub with_tried_create : Files → List ℕ → Files
+with_tried_create (Told f) name = Told f
+with_tried_create (Untold touched) name = Untold (with_touch touched name true)
 
 -- a call to create the name failed: told files stay, and
 -- where nothing is told of them, no other name was touched
 abbrev pub FailsToCreate : List ℕ → Files → Files → Type 0
-FailsToCreate name old new = (new ≡ old) ⊎ (new ≡ tried old name)
+FailsToCreate name old new = (new ≡ old) ⊎ (new ≡ with_tried_create old name)
 
 -- Every name but these stays: where the files are told, it
 -- holds what it held; where they aren't, it wasn't touched.
@@ -85,8 +86,8 @@ OnlyTouches names (Untold old) (Untold new) =
 OnlyTouches names _ _ = ⊥
 
 -- a sink that got more bytes
-unfoldable pub sent_more : Sent → List ℕ → Sent
-sent_more sent more = option_map (λ s. s ++ more) sent
+unfoldable pub sent_and_more : Sent → List ℕ → Sent
+sent_and_more sent more = option_map (λ s. s ++ more) sent
 
 -- the files are told, and the name holds these bytes
 abbrev pub Holds : Files → List ℕ → List ℕ → Type 0
@@ -94,12 +95,12 @@ Holds (Told f) name bytes = f name ≡ Some bytes
 Holds (Untold touched) name bytes = ⊥
 
 -- where the files are told, the name is there
-abbrev pub IsThere : Files → List ℕ → Type 0
-IsThere files name = IfTold files (λ f. IsSome (f name))
+abbrev pub IsFileThere : Files → List ℕ → Type 0
+IsFileThere files name = IfTold files (λ f. IsSome (f name))
 
 -- where the files are told, the name isn't there
-abbrev pub IsMissing : Files → List ℕ → Type 0
-IsMissing files name = IfTold files (λ f. f name ≡ None)
+abbrev pub IsFileMissing : Files → List ℕ → Type 0
+IsFileMissing files name = IfTold files (λ f. f name ≡ None)
 
 -- numbers that bytes can be
 abbrev pub AreOctets : List ℕ → Type 0

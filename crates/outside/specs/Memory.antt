@@ -4,9 +4,9 @@ use Rattle.std.specs.Prelude.{Bool, bytes_eq, Err, IfOk, if◌then◌else◌, is
 use Rattle.std.specs.Prelude.{length, List, max, min, nat_lt, None, not, Ok, OnErr, OnOk, Option}
 use Rattle.std.specs.Prelude.{Result, Some, unwrap_or, ℕ, [], ◌&&◌, ◌+◌, ◌-◌, ◌==◌, ◌||◌, ◌≡◌, ◌≢◌}
 use Rattle.outside.specs.Counts.{Counts, one_more, with_end, with_miss, with_read_fault}
-use Rattle.outside.specs.{Counts.with_write_fault, Files.{Contents, Told}}
-use Rattle.outside.specs.{Plan.{is_next_to_fail, Plan}, Seen.{Heard, heard, Seen, seen}}
-use Rattle.outside.specs.Slots.{contents_in, rooms_in}
+use Rattle.outside.specs.{Counts.with_write_fault, FileRooms.{contents_in, rooms_in}}
+use Rattle.outside.specs.{Files.{Contents, Told}, Schedules.{is_next_to_fail, ScheduleFields}}
+use Rattle.outside.specs.Seen.{Heard, heard_sink, Seen, seen_folder}
 use Rattle.outside.specs.declared.folder.{Failed.Failed as FailedCall, FindFault.FindFault}
 use Rattle.outside.specs.declared.folder.FindFault.TheVariants.{Absent, Failed}
 use Rattle.outside.specs.declared.memory.folder.Call.{Call, TheVariants.{Create, Find, Read, Write}}
@@ -17,54 +17,54 @@ abbrev pub contents_of : MemFolder → Contents
 contents_of folder = contents_in folder.slots
 
 -- the bytes of a name, none where it isn't there
-abbrev pub bytes_of : MemFolder → List ℕ → List ℕ
-bytes_of folder name = unwrap_or (contents_of folder name) []
+abbrev pub mem_bytes : MemFolder → List ℕ → List ℕ
+mem_bytes folder name = unwrap_or (contents_of folder name) []
 
 -- the room for each name that was put or reserved
 abbrev pub rooms_of : MemFolder → List ℕ → Option ℕ
 rooms_of folder = rooms_in folder.slots
 
 -- the room for a name, 0 where it has none
-abbrev pub room_of : MemFolder → List ℕ → ℕ
-room_of folder name = unwrap_or (rooms_of folder name) 0
+abbrev pub mem_room : MemFolder → List ℕ → ℕ
+mem_room folder name = unwrap_or (rooms_of folder name) 0
 
 -- the name's room is the greater of its old room and this
 abbrev pub with_room : (List ℕ → Option ℕ) → List ℕ → ℕ → List ℕ → Option ℕ
 with_room rooms name room = update bytes_eq rooms name (Some (max (unwrap_or (rooms name) 0) room))
 
 -- what the folder counted
-abbrev pub counts_of : MemFolder → Counts
-counts_of folder = folder.tally
+abbrev pub mem_counts : MemFolder → Counts
+mem_counts folder = folder.tally
 
 -- which calls of a kind are to fail
-abbrev pub plan_of : MemFolder → Call → Plan
-plan_of folder Find = folder.finds
-plan_of folder Read = folder.reads
-plan_of folder Create = folder.creates
-plan_of folder Write = folder.writes
+abbrev pub schedule_of : MemFolder → Call → ScheduleFields
+schedule_of folder Find = folder.finds
+schedule_of folder Read = folder.reads
+schedule_of folder Create = folder.creates
+schedule_of folder Write = folder.writes
 
 -- how many calls of a kind there were
 abbrev pub calls_made : MemFolder → Call → ℕ
-calls_made folder call = (plan_of folder call).made
+calls_made folder call = (schedule_of folder call).made
 
 -- the numbers of the calls of a kind that are to fail
 abbrev pub calls_to_fail : MemFolder → Call → List ℕ
-calls_to_fail folder call = (plan_of folder call).failing
+calls_to_fail folder call = (schedule_of folder call).failing
 
 -- the next call of a kind is on the list of those that are to fail
 abbrev pub is_to_fail : MemFolder → Call → Bool
-is_to_fail folder call = is_next_to_fail (plan_of folder call)
+is_to_fail folder call = is_next_to_fail (schedule_of folder call)
 
 -- one call of a kind was made, and the rooms and what is to fail stay
-pub record Called (old new : MemFolder) (call : Call) : Type 0 where
+pub record MakesCall (old new : MemFolder) (call : Call) : Type 0 where
   pub made : calls_made new call ≡ one_more (calls_made old call)
   pub others_made : (other : Call) → other ≢ call → calls_made new other ≡ calls_made old other
   pub failing : (kind : Call) → calls_to_fail new kind ≡ calls_to_fail old kind
   pub rooms : rooms_of new ≡ rooms_of old
 
 -- no call was made, nothing was counted, and what is to fail stays
-pub record NotCalled (old new : MemFolder) : Type 0 where
-  pub counts : counts_of new ≡ counts_of old
+pub record MakesNoCall (old new : MemFolder) : Type 0 where
+  pub counts : mem_counts new ≡ mem_counts old
   pub made : (kind : Call) → calls_made new kind ≡ calls_made old kind
   pub failing : (kind : Call) → calls_to_fail new kind ≡ calls_to_fail old kind
 
@@ -84,7 +84,7 @@ create_fails folder name = is_to_fail folder Create || not (is_some (rooms_of fo
 -- a `write` of these bytes to this name fails
 abbrev pub write_fails : MemFolder → List ℕ → List ℕ → Bool
 write_fails folder name bytes = is_to_fail folder Write
-    || nat_lt (room_of folder name) (length (bytes_of folder name) + length bytes)
+    || nat_lt (mem_room folder name) (length (mem_bytes folder name) + length bytes)
 
 -- the bytes of a sink
 abbrev pub bytes_sent : MemSink → List ℕ
@@ -113,46 +113,46 @@ send_fails sink bytes =
 
 -- what is seen of the folder
 abbrev pub seen_of : MemFolder → Seen
-seen_of folder = seen (Told (contents_of folder)) (counts_of folder)
+seen_of folder = seen_folder (Told (contents_of folder)) (mem_counts folder)
 
 -- what is heard of the sink
 abbrev pub sink_heard : MemSink → Heard
-sink_heard sink = heard (Some (bytes_sent sink)) (sink_faults sink)
+sink_heard sink = heard_sink (Some (bytes_sent sink)) (sink_faults sink)
 
 -- A folder in memory finds what it has, or fails as it was told to; each is counted.
 pub record MemFinds (name : List ℕ) (was now : MemFolder)
     (result : Result ℕ FindFault) : Type 0 where
   pub exact : result ≡ find_answer was name
-  pub called : Called was now Find
-  pub absent_counts : IsErrOf result Absent → counts_of now ≡ with_miss name (counts_of was)
-  pub failed_counts : IsErrOf result Failed → counts_of now ≡ with_read_fault name (counts_of was)
+  pub called : MakesCall was now Find
+  pub absent_counts : IsErrOf result Absent → mem_counts now ≡ with_miss name (mem_counts was)
+  pub failed_counts : IsErrOf result Failed → mem_counts now ≡ with_read_fault name (mem_counts was)
 
 -- It gives all that there is and fits, or fails as it was told to; each is counted.
 pub record MemReads (name : List ℕ) (at : ℕ) (before after : List ℕ) (was now : MemFolder)
     (result : Result ℕ FailedCall) : Type 0 where
   pub fails : is_err result ≡ is_to_fail was Read
-  pub whole : IfOk result (λ k. k ≡ min (length before) (length (bytes_of was name) - at))
-  pub called : Called was now Read
+  pub whole : IfOk result (λ k. k ≡ min (length before) (length (mem_bytes was name) - at))
+  pub called : MakesCall was now Read
   pub kept : OnErr result (after ≡ before)
-  pub read_counts : IfOk result (λ k. counts_of now ≡ (if k == 0 && nat_lt 0 (length before)
-      then with_end name at (counts_of was) else counts_of was))
-  pub failed_counts : OnErr result (counts_of now ≡ with_read_fault name (counts_of was))
+  pub read_counts : IfOk result (λ k. mem_counts now ≡ (if k == 0 && nat_lt 0 (length before)
+      then with_end name at (mem_counts was) else mem_counts was))
+  pub failed_counts : OnErr result (mem_counts now ≡ with_read_fault name (mem_counts was))
 
 -- It makes a name hold no bytes where it has room for it, or fails as it was told to.
 pub record MemCreates (name : List ℕ) (was now : MemFolder)
     (result : Result (Unit {0}) FailedCall) : Type 0 where
   pub stays : OnErr result (contents_of now ≡ contents_of was)
   pub fails : is_err result ≡ create_fails was name
-  pub called : Called was now Create
-  pub failed_counts : OnErr result (counts_of now ≡ with_write_fault name (counts_of was))
+  pub called : MakesCall was now Create
+  pub failed_counts : OnErr result (mem_counts now ≡ with_write_fault name (mem_counts was))
 
 -- It takes all bytes where it has room for them, or fails as it was told to.
 pub record MemWrites (name bytes : List ℕ) (was now : MemFolder)
     (result : Result ℕ FailedCall) : Type 0 where
   pub fails : is_err result ≡ write_fails was name bytes
   pub whole : IfOk result (λ k. k ≡ length bytes)
-  pub called : Called was now Write
-  pub failed_counts : OnErr result (counts_of now ≡ with_write_fault name (counts_of was))
+  pub called : MakesCall was now Write
+  pub failed_counts : OnErr result (mem_counts now ≡ with_write_fault name (mem_counts was))
 
 -- A sink in memory takes all bytes where it has room for
 -- them, or fails as it was told to; each is counted.

@@ -1,10 +1,10 @@
 -- What a pass over an input makes of its output, and why it ends early.
 use Rattle.std.specs.Prelude.{drop, IfErr, length, List, OnErr, OnOk, Result, take, ℕ, [], ◌++◌}
 use Rattle.std.specs.Prelude.{◌-◌, ◌<◌, ◌^◌, ◌≡◌, ◌≢◌, ◌≤◌}
-use Rattle.outside.specs.{Counts.{Counts, HappenedTo, OnlyWrites}, Exact.HasReadCause}
-use Rattle.outside.specs.{Feed.{Fed, IsFedFrom}, Files.{appended, Files, Holds, IsThere}}
-use Rattle.outside.specs.{Passed.{AppendedPrefix, PassedOn}, Seen.Seen}
-use Rattle.outside.specs.declared.exact.ReadFault.{ReadFault}
+use Rattle.outside.specs.BufferOutput.{AppendedPrefix, AppendsWaiting}
+use Rattle.outside.specs.{Counts.{Counts, HappenedTo, OnlyWrites}, Feed.{Fed, IsFedFrom}}
+use Rattle.outside.specs.Files.{Files, Holds, IsFileThere, with_appended_bytes}
+use Rattle.outside.specs.{ReadCauses.HasReadCause, Seen.Seen, declared.exact.ReadFault.ReadFault}
 use Rattle.outside.specs.declared.exact.ReadFault.TheVariants.{Failed, Shrunk as ShrunkRead}
 use Rattle.outside.specs.declared.pass.{Pass.Pass, PassFault.PassFault}
 use Rattle.outside.specs.declared.pass.PassFault.TheVariants.{Read, Shrunk, Write}
@@ -15,17 +15,17 @@ longest_input = 2 ^ 32
 
 -- Two files of different names are there, the input has
 -- this length, and the bytes held of it are its own.
-pub record IsReady (pass : Pass) (files : Files) (fed : Fed) : Type 0 where
+pub record IsPassReady (pass : Pass) (files : Files) (fed : Fed) : Type 0 where
   pub apart : pass.input.now ≢ pass.output.now
-  pub source : IsThere files pass.input.now
-  pub target : IsThere files pass.output.now
+  pub source : IsFileThere files pass.input.now
+  pub target : IsFileThere files pass.output.now
   pub length_is : (file : List ℕ) → Holds files pass.input.now file → length file ≡ pass.length
   pub few : pass.length ≤ longest_input
   pub fed_from : IsFedFrom fed files pass.input.now
 
 -- where the input is told, the bytes are what is made of its bytes
-abbrev pub AreMade : Files → List ℕ → (List ℕ → List ℕ) → List ℕ → Type 0
-AreMade files input made bytes = (file : List ℕ) → Holds files input file → bytes ≡ made file
+abbrev pub AreBytesMade : Files → List ℕ → (List ℕ → List ℕ) → List ℕ → Type 0
+AreBytesMade files input made bytes = (file : List ℕ) → Holds files input file → bytes ≡ made file
 
 -- so many bytes of a file from an offset on, or as many as there are
 abbrev pub bytes_at : ℕ → ℕ → List ℕ → List ℕ
@@ -37,11 +37,11 @@ bytes_between file from to = take (to - from) (drop from file)
 
 -- Bytes for the output were added to what waited for it:
 -- where the input is told, what is made of its bytes.
-pub record Writes (pass : Pass) (made : List ℕ → List ℕ) (before after : List ℕ)
+pub record WritesMadeBytes (pass : Pass) (made : List ℕ → List ℕ) (before after : List ℕ)
     (old new : Files) : Type 0 where
   pub piece : List ℕ
-  pub is : AreMade old pass.input.now made piece
-  pub passed : PassedOn pass.output.now (before ++ piece) after old new
+  pub is : AreBytesMade old pass.input.now made piece
+  pub passed : AppendsWaiting pass.output.now (before ++ piece) after old new
 
 -- Only some bytes were appended to the output: where the input is told, a prefix of what
 -- waited and of what is made of its bytes, and after a failed write not all of these.
@@ -52,7 +52,7 @@ pub record AppendsPart (input output : List ℕ) (made : List ℕ → List ℕ) 
       → bytes ≡ take (length bytes) (before ++ made file)
   pub short : fault ≡ Write → (file : List ℕ) → Holds old input file
       → length bytes < length (before ++ made file)
-  pub files : new ≡ appended old output bytes
+  pub files : new ≡ with_appended_bytes old output bytes
 
 -- the same of a pass, from its input to its output
 abbrev pub WritesPrefix : Pass → (List ℕ → List ℕ) → List ℕ → Files → Files → PassFault → Type 0
@@ -60,24 +60,25 @@ WritesPrefix pass made before old new fault =
     AppendsPart pass.input.now pass.output.now made before old new fault
 
 -- The output has more bytes at its end: where the input is told, what is made of its bytes.
-pub record Appends (input output : List ℕ) (made : List ℕ → List ℕ) (old new : Files) : Type 0 where
+pub record AppendsMadeBytes (input output : List ℕ) (made : List ℕ → List ℕ)
+    (old new : Files) : Type 0 where
   pub bytes : List ℕ
-  pub is : AreMade old input made bytes
-  pub files : new ≡ appended old output bytes
+  pub is : AreBytesMade old input made bytes
+  pub files : new ≡ with_appended_bytes old output bytes
 
 -- only a prefix of them, and after a failed write not all
 abbrev pub AppendsPrefix : List ℕ → List ℕ → (List ℕ → List ℕ) → Files → Files → PassFault → Type 0
 AppendsPrefix input output made old new fault = AppendsPart input output made [] old new fault
 
 -- the fault of a pass whose input isn't read
-abbrev pub of_read : ReadFault → PassFault
-of_read Failed = Read
-of_read (ShrunkRead first second) = Shrunk first second
+abbrev pub pass_fault_of : ReadFault → PassFault
+pass_fault_of Failed = Read
+pass_fault_of (ShrunkRead first second) = Shrunk first second
 
 -- the fault is one of the input
-abbrev pub IsOfRead : PassFault → Type 0
-IsOfRead Write = ⊥
-IsOfRead _ = Unit {0}
+abbrev pub IsReadPassFault : PassFault → Type 0
+IsReadPassFault Write = ⊥
+IsReadPassFault _ = Unit {0}
 
 -- from which file to which a pass goes, and the length in bytes that its input was found with
 pub record Route : Type 0 where
@@ -112,17 +113,18 @@ HasInputCause name size files before after fault =
 -- What is made of the input was added to what waits for the output, or a call failed.
 pub record PassMakes {T : Type 0} (pass : Pass) (made : List ℕ → List ℕ) (before after : List ℕ)
     (fed : Fed) (old new : Seen) (result : Result T PassFault) : Type 0 where
-  pub written : OnOk result (Writes pass made before after old.files new.files)
+  pub written : OnOk result (WritesMadeBytes pass made before after old.files new.files)
   pub prefix : IfErr result (WritesPrefix pass made before old.files new.files)
   pub done : OnOk result (new.counts ≡ old.counts)
   pub cause : IfErr result (HasPassCause (route_of pass) old.files old.counts new.counts)
-  pub ready : OnOk result (IsReady pass new.files fed)
+  pub ready : OnOk result (IsPassReady pass new.files fed)
 
 -- These bytes were added to what waits for the output,
 -- or a write failed, after which nothing waits.
 pub record PassPushes (pass : Pass) (before bytes after : List ℕ) (old new : Seen)
     (result : Result (Unit {0}) PassFault) : Type 0 where
-  pub passed : OnOk result (PassedOn pass.output.now (before ++ bytes) after old.files new.files)
+  pub passed : OnOk result
+      (AppendsWaiting pass.output.now (before ++ bytes) after old.files new.files)
   pub prefix : OnErr result (AppendedPrefix pass.output.now (before ++ bytes) old.files new.files)
   pub none : OnErr result (after ≡ [])
   pub done : OnOk result (new.counts ≡ old.counts)
@@ -132,17 +134,17 @@ pub record PassPushes (pass : Pass) (before bytes after : List ℕ) (old new : S
 pub record PassFills (pass : Pass) (at n : ℕ) (fed : Fed) (old new : Seen)
     (result : Result (Unit {0}) PassFault) : Type 0 where
   pub given : OnOk result (length fed.given ≡ n)
-  pub bytes : OnOk result (AreMade old.files pass.input.now (bytes_at at n) fed.given)
+  pub bytes : OnOk result (AreBytesMade old.files pass.input.now (bytes_at at n) fed.given)
   pub done : OnOk result (new.counts ≡ old.counts)
   pub cause : IfErr result (HasPassCause (route_of pass) old.files old.counts new.counts)
-  pub read : IfErr result IsOfRead
+  pub read : IfErr result IsReadPassFault
   pub files : new.files ≡ old.files
-  pub ready : IsReady pass new.files fed
+  pub ready : IsPassReady pass new.files fed
 
 -- What waits was appended to the output, or a write failed.
 pub record PassFinishes (pass : Pass) (before after : List ℕ) (old new : Seen)
     (result : Result (Unit {0}) PassFault) : Type 0 where
-  pub appended : OnOk result (new.files ≡ appended old.files pass.output.now before)
+  pub appended : OnOk result (new.files ≡ with_appended_bytes old.files pass.output.now before)
   pub prefix : OnErr result (AppendedPrefix pass.output.now before old.files new.files)
   pub none : after ≡ []
   pub done : OnOk result (new.counts ≡ old.counts)

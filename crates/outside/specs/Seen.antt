@@ -8,8 +8,8 @@ pub record Seen : Type 0 where
   pub counts : Counts
 
 -- a folder with these files and counts
-abbrev pub seen : Files → Counts → Seen
-seen files counts = record { files = files; counts = counts }
+abbrev pub seen_folder : Files → Counts → Seen
+seen_folder files counts = record { files = files; counts = counts }
 
 -- what is heard of a sink: the bytes that it got, if they are told, and how often a write failed
 pub record Heard : Type 0 where
@@ -17,8 +17,8 @@ pub record Heard : Type 0 where
   pub faults : ℕ
 
 -- a sink with these bytes and so many faults
-abbrev pub heard : Sent → ℕ → Heard
-heard sent faults = record { sent = sent; faults = faults }
+abbrev pub heard_sink : Sent → ℕ → Heard
+heard_sink sent faults = record { sent = sent; faults = faults }
 
 -- Files were only read: they stay, a call that succeeds
 -- leaves all counts, and only counts of reading move.

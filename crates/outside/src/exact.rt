@@ -1,6 +1,6 @@
 //! Reads bytes that a file had when it was found, all of them or none.
 ghost use Rattle.std.specs.Prelude.{◌≡◌, ◌+◌, ◌^◌, ◌<◌, ◌≤◌, length};
-ghost use Rattle.outside.specs.Files.{IsThere};
+ghost use Rattle.outside.specs.Files.{IsFileThere};
 ghost use Rattle.outside.specs.Feed.{IsFedFrom, most_given};
 ghost use Rattle.outside.specs.Seen.{OnFile};
 ghost use Rattle.outside.specs.Answers.{ReadExact, FillExact};
@@ -31,7 +31,7 @@ pub fn read_exact<D: Folder>(
     at: u64,
     into: &mut [u8],
 ) -> Result<(), ReadFault>
-    requires there { IsThere (D.seen folder.old).files name.now }
+    requires there { IsFileThere (D.seen folder.old).files name.now }
     requires found { OnFile (D.seen folder.old) name.now (λ bytes. length bytes ≡ size) }
     requires few { size < 2 ^ 63 }
     requires within { at + length into.old ≤ size }
@@ -60,7 +60,7 @@ impl Feed {
         at: u64,
         n: usize,
     ) -> Result<(), ReadFault>
-        requires there { IsThere (D.seen folder.old).files name.now }
+        requires there { IsFileThere (D.seen folder.old).files name.now }
         requires found { OnFile (D.seen folder.old) name.now (λ bytes. length bytes ≡ size) }
         requires few { n ≤ most_given }
         requires short { size ≤ 2 ^ 32 }

@@ -1,6 +1,6 @@
 //! The bytes of a file, through one buffer.
 ghost use Rattle.std.specs.Prelude.{◌≡◌, ◌+◌, ◌-◌, ◌^◌, ◌<◌, ◌≤◌, List, ℕ, [], length, take, drop, IfOk};
-ghost use Rattle.outside.specs.Files.{Files, IsThere};
+ghost use Rattle.outside.specs.Files.{Files, IsFileThere};
 ghost use Rattle.outside.specs.Feed.{IsFedFrom, most_given};
 ghost use Rattle.outside.specs.Answers.{FillAnswer};
 
@@ -23,13 +23,13 @@ pub struct Feed {
 
 impl Model for Feed {
     ghost use Rattle.std.specs.Prelude.{◌-◌, take, drop};
-    ghost use Rattle.outside.specs.Feed.{Fed, IsWithin};
+    ghost use Rattle.outside.specs.Feed.{Fed, AreFeedBounds};
 
     ghost Value = { Fed };
 
     ghost view = { λ f. record { place = f.place; held = take f.held f.room.items; given = take (f.to - f.from) (drop f.from f.room.items) } };
 
-    ghost invariant = { λ f. IsWithin f.room.items f.place f.held f.from f.to };
+    ghost invariant = { λ f. AreFeedBounds f.room.items f.place f.held f.from f.to };
 }
 
 impl Feed {
@@ -89,7 +89,7 @@ impl Feed {
         at: u64,
         n: usize,
     ) -> Result<usize, Failed>
-        requires there { IsThere (D.seen folder.old).files name.now }
+        requires there { IsFileThere (D.seen folder.old).files name.now }
         requires few { n ≤ most_given }
         requires short { at + n ≤ 2 ^ 32 }
         requires fed { IsFedFrom self.old (D.seen folder.old).files name.now }
@@ -113,7 +113,7 @@ impl Feed {
         at: u64,
         n: usize,
     ) -> Result<usize, Failed>
-        requires there { IsThere (D.seen folder.old).files name.now }
+        requires there { IsFileThere (D.seen folder.old).files name.now }
         requires few { n ≤ most_given }
         requires short { at + n ≤ 2 ^ 32 }
         requires fed { IsFedFrom self.old (D.seen folder.old).files name.now }

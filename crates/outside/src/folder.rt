@@ -1,6 +1,6 @@
 //! A folder of files.
 ghost use Rattle.std.specs.Prelude.{◌≡◌};
-ghost use Rattle.outside.specs.Files.{IsThere};
+ghost use Rattle.outside.specs.Files.{IsFileThere};
 ghost use Rattle.outside.specs.Seen.{Seen};
 ghost use Rattle.outside.specs.Answers.{FindAnswer, ReadAnswer, CreateAnswer, WriteAnswer};
 
@@ -83,7 +83,7 @@ pub trait Folder {
     /// # Errors
     /// Where the call failed.
     fn read(&mut self, name: &str, at: u64, into: &mut [u8]) -> Result<usize, Failed>
-        requires { IsThere (seen self.old).files name.now }
+        requires { IsFileThere (seen self.old).files name.now }
         ensures answer { ReadAnswer name.now at into.old into.new (seen self.old) (seen self.new)
             result };
 
@@ -101,6 +101,6 @@ pub trait Folder {
     /// # Errors
     /// Where the call failed. Then the files stay.
     fn write(&mut self, name: &str, bytes: &[u8]) -> Result<usize, Failed>
-        requires { IsThere (seen self.old).files name.now }
+        requires { IsFileThere (seen self.old).files name.now }
         ensures answer { WriteAnswer name.now bytes.now (seen self.old) (seen self.new) result };
 }

@@ -1,6 +1,6 @@
 //! Bytes read, appended and sent whole, in as many calls as it takes.
 ghost use Rattle.std.specs.Prelude.{◌≡◌, ◌+◌, ◌-◌, ◌^◌, ◌<◌, ◌≤◌, ℕ, length, take, OnOk, OnErr};
-ghost use Rattle.outside.specs.Files.{sent_more, IsThere};
+ghost use Rattle.outside.specs.Files.{sent_and_more, IsFileThere};
 ghost use Rattle.outside.specs.Counts.{HasCause};
 ghost use Rattle.outside.specs.Answers.{ReadFull, ReadOn, WriteAllAnswer};
 
@@ -12,7 +12,7 @@ use crate::sink::Sink;
 /// # Errors
 /// Where a write failed. Then a prefix of the bytes, and not all of them, was appended.
 pub fn write_all<D: Folder>(folder: &mut D, name: &str, bytes: &[u8]) -> Result<(), Failed>
-    requires { IsThere (D.seen folder.old).files name.now }
+    requires { IsFileThere (D.seen folder.old).files name.now }
     ensures { WriteAllAnswer name.now bytes.now (D.seen folder.old) (D.seen folder.new) result }
 {
     let mut done = 0;
@@ -28,9 +28,9 @@ pub fn write_all<D: Folder>(folder: &mut D, name: &str, bytes: &[u8]) -> Result<
 /// Where a write failed. Then a prefix of the bytes, none to all of them, was sent.
 pub fn send_all<T: Sink>(sink: &mut T, bytes: &[u8]) -> Result<(), Failed>
     ensures written { OnOk result ((T.heard sink.new).sent
-        ≡ sent_more (T.heard sink.old).sent bytes.now) }
+        ≡ sent_and_more (T.heard sink.old).sent bytes.now) }
     ensures front { OnErr result ((k : ℕ) × (k ≤ length bytes.now)
-        × ((T.heard sink.new).sent ≡ sent_more (T.heard sink.old).sent (take k bytes.now))) }
+        × ((T.heard sink.new).sent ≡ sent_and_more (T.heard sink.old).sent (take k bytes.now))) }
     ensures cause { HasCause (T.heard sink.old).faults (T.heard sink.new).faults result }
 {
     let mut done = 0;
@@ -51,7 +51,7 @@ pub fn read_full<D: Folder>(
     at: u64,
     into: &mut [u8],
 ) -> Result<usize, Failed>
-    requires there { IsThere (D.seen folder.old).files name.now }
+    requires there { IsFileThere (D.seen folder.old).files name.now }
     requires short { at + length into.old < 2 ^ 63 }
     ensures { ReadFull name.now at into.old into.new (D.seen folder.old)
         (D.seen folder.new) result }
@@ -74,7 +74,7 @@ pub fn read_on<D: Folder>(
     have: usize,
     enough: usize,
 ) -> Result<usize, Failed>
-    requires there { IsThere (D.seen folder.old).files name.now }
+    requires there { IsFileThere (D.seen folder.old).files name.now }
     requires short { at + length into.old < 2 ^ 63 }
     requires room { have ≤ length into.old }
     requires enough { enough ≤ length into.old }

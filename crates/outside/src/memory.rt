@@ -2,11 +2,11 @@
 //! they are read.
 
 mod buffer;
+mod file_rooms;
 mod folder;
 mod schedule;
 mod short;
 mod sink;
-mod slots;
 
 pub use folder::{Call, MemFolder};
 pub use short::ShortFolder;

@@ -1,6 +1,6 @@
 //! How often something happened, and to which file last.
 ghost use Rattle.std.specs.Prelude.{◌≡◌, ◌≤◌, length};
-ghost use Rattle.outside.specs.Counts.{never, once_more, noted};
+ghost use Rattle.outside.specs.Counts.{no_occurrence, one_occurrence_more, noted_name};
 ghost use Rattle.outside.specs.Feed.{most_given};
 
 use std::marker::Model;
@@ -30,7 +30,7 @@ impl Model for Occurrences {
 
 impl Occurrences {
     pub fn none() -> Self
-        ensures { result ≡ never }
+        ensures { result ≡ no_occurrence }
     {
         Occurrences {
             times: 0,
@@ -41,7 +41,7 @@ impl Occurrences {
 
     /// It happened once more, to the file of this name.
     pub fn add(&mut self, name: &str)
-        ensures counted { self.new ≡ once_more name.now self.old }
+        ensures counted { self.new ≡ one_occurrence_more name.now self.old }
         ensures later { self.old.times ≤ self.new.times }
     {
         self.times = self.times.saturating_add(1);
@@ -54,7 +54,7 @@ impl Occurrences {
 // The first bytes of a name, as many as are kept.
 #[tactic(auto, using(std::proofs::lemmas::List::take_min))]
 fn front_of(name: &str) -> &[u8]
-    ensures front { result.now ≡ noted name.now }
+    ensures front { result.now ≡ noted_name name.now }
     ensures few { length result.now ≤ most_given }
 {
     let bytes = name.as_bytes();

@@ -1,7 +1,7 @@
 //! A second pass over an input: it is read again, and written to an output.
 ghost use Rattle.std.specs.Prelude.{◌≡◌, ◌+◌, ◌≤◌, length};
-ghost use Rattle.outside.specs.Files.{IsThere};
-ghost use Rattle.outside.specs.Pass.{IsReady, bytes_at, bytes_between};
+ghost use Rattle.outside.specs.Files.{IsFileThere};
+ghost use Rattle.outside.specs.Pass.{IsPassReady, bytes_at, bytes_between};
 ghost use Rattle.outside.specs.Pass.{PassMakes, PassPushes, PassFills, PassFinishes};
 ghost use Rattle.outside.specs.Feed.{most_given};
 
@@ -25,9 +25,9 @@ pub enum PassFault {
 
 /// A read of the input failed, or the input has become shorter.
 impl From<ReadFault> for PassFault {
-    ghost use Rattle.outside.specs.Pass.{of_read};
+    ghost use Rattle.outside.specs.Pass.{pass_fault_of};
 
-    ghost from_gives = { λ fault e. e ≡ of_read fault };
+    ghost from_gives = { λ fault e. e ≡ pass_fault_of fault };
 
     fn from(fault: ReadFault) -> PassFault {
         match fault {
@@ -59,7 +59,7 @@ impl<'a> Pass<'a> {
         n: usize,
         feed: &mut Feed,
     ) -> Result<(), PassFault>
-        requires ready { IsReady self.now (D.seen folder.old).files feed.old }
+        requires ready { IsPassReady self.now (D.seen folder.old).files feed.old }
         requires few { n ≤ most_given }
         requires within { at + n ≤ self.now.length }
         ensures { PassFills self.now at n feed.new (D.seen folder.old) (D.seen folder.new) result }
@@ -79,7 +79,7 @@ impl<'a> Pass<'a> {
         piece: &[u8],
         waiting: &mut WriteBuffer,
     ) -> Result<(), PassFault>
-        requires { IsThere (D.seen folder.old).files self.now.output.now }
+        requires { IsFileThere (D.seen folder.old).files self.now.output.now }
         ensures { PassPushes self.now waiting.old piece.now waiting.new (D.seen folder.old)
             (D.seen folder.new) result }
     {
@@ -102,7 +102,7 @@ impl<'a> Pass<'a> {
         feed: &mut Feed,
         waiting: &mut WriteBuffer,
     ) -> Result<(), PassFault>
-        requires ready { IsReady self.now (D.seen folder.old).files feed.old }
+        requires ready { IsPassReady self.now (D.seen folder.old).files feed.old }
         requires ordered { from ≤ to }
         requires within { to ≤ self.now.length }
         ensures { PassMakes self.now (λ file. bytes_between file from to) waiting.old waiting.new
@@ -127,7 +127,7 @@ impl<'a> Pass<'a> {
         feed: &mut Feed,
         waiting: &mut WriteBuffer,
     ) -> Result<(), PassFault>
-        requires ready { IsReady self.now (D.seen folder.old).files feed.old }
+        requires ready { IsPassReady self.now (D.seen folder.old).files feed.old }
         requires few { n ≤ most_given }
         requires within { at + n ≤ self.now.length }
         ensures { PassMakes self.now (bytes_at at n) waiting.old waiting.new feed.new
@@ -146,7 +146,7 @@ impl<'a> Pass<'a> {
         folder: &mut D,
         waiting: &mut WriteBuffer,
     ) -> Result<(), PassFault>
-        requires { IsThere (D.seen folder.old).files self.now.output.now }
+        requires { IsFileThere (D.seen folder.old).files self.now.output.now }
         ensures { PassFinishes self.now waiting.old waiting.new (D.seen folder.old)
             (D.seen folder.new) result }
     {

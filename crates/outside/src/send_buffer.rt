@@ -1,14 +1,14 @@
 //! Bytes that wait to be sent to a sink.
 ghost use Rattle.std.specs.Prelude.{◌≡◌, ◌+◌, ◌<◌, [], ◌++◌, IfOk, OnOk, OnErr};
-ghost use Rattle.outside.specs.Files.{sent_more};
-ghost use Rattle.outside.specs.Passed.{SentOn, SentPrefix};
+ghost use Rattle.outside.specs.Files.{sent_and_more};
+ghost use Rattle.outside.specs.BufferOutput.{SendsWaiting, SentPrefix};
 ghost use Rattle.outside.specs.Counts.{HasCause};
 
 use crate::folder::Failed;
 use crate::helpers::send_all;
 use crate::sink::Sink;
 use crate::sizes::BUFFER_SIZE;
-use crate::waiting::Waiting;
+use crate::waiting::WaitingBytes;
 use std::alloc::{AllocError, Global};
 use std::marker::Model;
 
@@ -19,7 +19,7 @@ use std::marker::Model;
 /// stream gets whole lines.
 #[derive(Drop)]
 pub struct SendBuffer {
-    waiting: Waiting,
+    waiting: WaitingBytes,
 }
 
 impl Model for SendBuffer {
@@ -39,7 +39,7 @@ impl SendBuffer {
         ensures { IfOk result (λ buffer. buffer ≡ []) }
     {
         Ok(SendBuffer {
-            waiting: Waiting::new(alloc)?,
+            waiting: WaitingBytes::new(alloc)?,
         })
     }
 
@@ -50,7 +50,7 @@ impl SendBuffer {
     /// Where a write failed. Then a prefix of what waited and the piece was sent, and nothing waits.
     #[inline]
     pub fn push<T: Sink>(&mut self, sink: &mut T, piece: &[u8]) -> Result<(), Failed>
-        ensures passed { OnOk result (SentOn (self.old ++ piece.now) self.new
+        ensures passed { OnOk result (SendsWaiting (self.old ++ piece.now) self.new
             (T.heard sink.old).sent (T.heard sink.new).sent) }
         ensures prefix { OnErr result (SentPrefix (self.old ++ piece.now) (T.heard sink.old).sent
             (T.heard sink.new).sent) }
@@ -70,7 +70,7 @@ impl SendBuffer {
     /// Where a write failed. Then a prefix of what waited was sent, and nothing waits.
     pub fn finish<T: Sink>(&mut self, sink: &mut T) -> Result<(), Failed>
         ensures sent { OnOk result ((T.heard sink.new).sent
-            ≡ sent_more (T.heard sink.old).sent self.old) }
+            ≡ sent_and_more (T.heard sink.old).sent self.old) }
         ensures prefix { OnErr result (SentPrefix self.old (T.heard sink.old).sent
             (T.heard sink.new).sent) }
         ensures none { self.new ≡ [] }
@@ -84,7 +84,7 @@ impl SendBuffer {
     // Sends what waits, and then adds bytes that didn't fit after it, or sends them too.
     #[inline(never)]
     fn push_over<T: Sink>(&mut self, sink: &mut T, piece: &[u8]) -> Result<(), Failed>
-        ensures passed { OnOk result (SentOn (self.old ++ piece.now) self.new
+        ensures passed { OnOk result (SendsWaiting (self.old ++ piece.now) self.new
             (T.heard sink.old).sent (T.heard sink.new).sent) }
         ensures prefix { OnErr result (SentPrefix (self.old ++ piece.now) (T.heard sink.old).sent
             (T.heard sink.new).sent) }

@@ -1,6 +1,6 @@
 //! The counts of a folder.
 ghost use Rattle.std.specs.Prelude.{◌≡◌, ◌<◌, ◌⊎◌, if◌then◌else◌, ◌==◌, ◌&&◌, nat_lt};
-ghost use Rattle.outside.specs.Counts.{none_counted, with_miss, with_end, with_read_fault, with_write_fault, OnlyReads, OnlyWrites, NothingFailed, EndedAt};
+ghost use Rattle.outside.specs.Counts.{no_counts, with_miss, with_end, with_read_fault, with_write_fault, OnlyReads, OnlyWrites, NothingFailed, EndedAt};
 
 use crate::occurrences::Occurrences;
 use std::marker::Model;
@@ -18,16 +18,16 @@ pub struct Tally {
 }
 
 impl Model for Tally {
-    ghost use Rattle.outside.specs.Counts.{Counts, ended};
+    ghost use Rattle.outside.specs.Counts.{Counts, ended_reads};
 
     ghost Value = { Counts };
 
-    ghost view = { λ t. record { misses = t.misses; ends = ended t.ends t.end; read_faults = t.read_faults; write_faults = t.write_faults } };
+    ghost view = { λ t. record { misses = t.misses; ends = ended_reads t.ends t.end; read_faults = t.read_faults; write_faults = t.write_faults } };
 }
 
 impl Tally {
     pub fn new() -> Self
-        ensures { result ≡ none_counted }
+        ensures { result ≡ no_counts }
     {
         Tally {
             misses: Occurrences::none(),

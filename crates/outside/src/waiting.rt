@@ -8,12 +8,12 @@ use std::marker::Model;
 
 /// A buffer of 65,536 bytes in front of a file or a sink. Contracts see it as the bytes that wait.
 #[derive(Drop)]
-pub(crate) struct Waiting {
+pub(crate) struct WaitingBytes {
     room: Vec<u8>,
     count: usize,
 }
 
-impl Model for Waiting {
+impl Model for WaitingBytes {
     ghost use Rattle.std.specs.Prelude.{◌≡◌, ◌≤◌, ℕ, List, length, take};
 
     ghost Value = { List ℕ };
@@ -23,15 +23,15 @@ impl Model for Waiting {
     ghost invariant = { λ w. (length w.room.items ≡ 65536) × (w.count ≤ 65536) };
 }
 
-impl Waiting {
+impl WaitingBytes {
     /// A buffer in which nothing waits. It takes all its memory here.
     ///
     /// # Errors
     /// Where there is no memory.
-    pub fn new(alloc: Global) -> Result<Waiting, AllocError>
+    pub fn new(alloc: Global) -> Result<WaitingBytes, AllocError>
         ensures { IfOk result (λ waiting. waiting ≡ []) }
     {
-        Ok(Waiting {
+        Ok(WaitingBytes {
             room: vec![in alloc; 0; BUFFER_SIZE]?,
             count: 0,
         })

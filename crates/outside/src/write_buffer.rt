@@ -1,13 +1,13 @@
 //! Bytes that wait to be written to a file.
 ghost use Rattle.std.specs.Prelude.{◌≡◌, ◌+◌, ◌-◌, ◌<◌, ◌≤◌, [], length, take, IfOk};
-ghost use Rattle.outside.specs.Files.{IsThere};
+ghost use Rattle.outside.specs.Files.{IsFileThere};
 ghost use Rattle.outside.specs.Answers.{PushAnswer, FinishAnswer, WholeAnswer};
 ghost use Rattle.outside.specs.Feed.{buffer_size};
 
 use crate::folder::{Failed, Folder};
 use crate::helpers::write_all;
 use crate::sizes::BUFFER_SIZE;
-use crate::waiting::Waiting;
+use crate::waiting::WaitingBytes;
 use std::alloc::{AllocError, Global};
 use std::marker::Model;
 
@@ -17,7 +17,7 @@ use std::marker::Model;
 /// bytes.
 #[derive(Drop)]
 pub struct WriteBuffer {
-    waiting: Waiting,
+    waiting: WaitingBytes,
 }
 
 impl Model for WriteBuffer {
@@ -37,7 +37,7 @@ impl WriteBuffer {
         ensures { IfOk result (λ buffer. buffer ≡ []) }
     {
         Ok(WriteBuffer {
-            waiting: Waiting::new(alloc)?,
+            waiting: WaitingBytes::new(alloc)?,
         })
     }
 
@@ -54,7 +54,7 @@ impl WriteBuffer {
         name: &str,
         piece: &[u8],
     ) -> Result<(), Failed>
-        requires { IsThere (D.seen folder.old).files name.now }
+        requires { IsFileThere (D.seen folder.old).files name.now }
         ensures { PushAnswer name.now self.old piece.now self.new (D.seen folder.old)
             (D.seen folder.new) result }
     {
@@ -78,7 +78,7 @@ impl WriteBuffer {
         piece: &[u8],
         count: usize,
     ) -> Result<(), Failed>
-        requires there { IsThere (D.seen folder.old).files name.now }
+        requires there { IsFileThere (D.seen folder.old).files name.now }
         requires within { count ≤ length piece.now }
         ensures { PushAnswer name.now self.old (take count piece.now) self.new (D.seen folder.old)
             (D.seen folder.new) result }
@@ -95,7 +95,7 @@ impl WriteBuffer {
     /// # Errors
     /// Where a write failed. Then a prefix of what waited, and not all, was appended, and nothing waits.
     pub fn finish<D: Folder>(&mut self, folder: &mut D, name: &str) -> Result<(), Failed>
-        requires { IsThere (D.seen folder.old).files name.now }
+        requires { IsFileThere (D.seen folder.old).files name.now }
         ensures { FinishAnswer name.now self.old self.new (D.seen folder.old)
             (D.seen folder.new) result }
     {
@@ -113,7 +113,7 @@ impl WriteBuffer {
         name: &str,
         piece: &[u8],
     ) -> Result<(), Failed>
-        requires there { IsThere (D.seen folder.old).files name.now }
+        requires there { IsFileThere (D.seen folder.old).files name.now }
         requires over { buffer_size < length self.old + length piece.now }
         ensures { PushAnswer name.now self.old piece.now self.new (D.seen folder.old)
             (D.seen folder.new) result }
@@ -130,7 +130,7 @@ impl WriteBuffer {
 // Appends as many times 65,536 of the bytes as there are, in one write where the folder takes them, and
 // answers how many bytes these are.
 fn write_whole<D: Folder>(folder: &mut D, name: &str, bytes: &[u8]) -> Result<usize, Failed>
-    requires { IsThere (D.seen folder.old).files name.now }
+    requires { IsFileThere (D.seen folder.old).files name.now }
     ensures { WholeAnswer name.now bytes.now (D.seen folder.old) (D.seen folder.new) result }
 {
     let whole = bytes.len() - bytes.len() % BUFFER_SIZE;

@@ -1,11 +1,11 @@
 -- The lemmas of this crate.
-pub mod MenuLaws
-pub mod PlanLaws
-pub mod BestLaws
-pub mod LimitLaws
-pub mod PackingLaws
-pub mod ModeLaws
-pub mod FloorLaw
-pub mod FileLengths
-pub mod PlanLengths
-pub mod PackedLengths
+pub mod MenuLemmas
+pub mod PlanLemmas
+pub mod BestLemmas
+pub mod LimitLemmas
+pub mod PackingLemmas
+pub mod ModeLemmas
+pub mod FloorLemmas
+pub mod FileLengthLemmas
+pub mod PlanLengthLemmas
+pub mod PackedLengthLemmas

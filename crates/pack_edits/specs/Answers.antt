@@ -2,16 +2,16 @@
 use Rattle.std.specs.Prelude.{Bool, Err, IfErr, IfOk, length, List, Ok, OnOk, Result, true, ℕ, ◌≡◌}
 use Rattle.std.specs.Prelude.{◌≤◌}
 use Rattle.bit_fields.specs.Bits.{AreBytes}
-use Rattle.commands.specs.One.{IsEarlyFault, IsOfInputs, most_frames}
+use Rattle.commands.specs.SingleOutput.{HasTaskNumbers, IsEarlyFault, most_frames}
 use Rattle.commands.specs.declared.fault.EditFault.{EditFault, TheVariants.{Memory, Refused}}
 use Rattle.commands.specs.declared.fault.Refusal.{Refusal}
 use Rattle.cut_edits.specs.Chosen.{Planning}
 use Rattle.frame_header.specs.Fields.{ClassFields}
-use Rattle.outside.specs.{Files.IsThere, Seen.{OnFile, OnlyRead, Seen}}
-use Rattle.pack_edits.specs.Modes.{allowed_by, pack_task}
+use Rattle.outside.specs.{Files.IsFileThere, Seen.{OnFile, OnlyRead, Seen}}
+use Rattle.pack_edits.specs.Modes.{allowed_frames, pack_task}
 use Rattle.requests.specs.declared.mode.PackMode.{PackMode}
 use Rattle.slot_plan.specs.declared.needs.Need.{Need}
-use Rattle.sync_survey.specs.{Faults.tells, Survey.{IsLaidOut, survey_of}}
+use Rattle.sync_survey.specs.{Faults.survey_view, Survey.{IsSurveyLaidOut, survey_of}}
 use Rattle.sync_survey.specs.declared.surveys.Survey.{Survey}
 
 -- why there is no plan: a refusal of the definition, which may come, or want of memory
@@ -24,15 +24,15 @@ IsPlanFault plan refuses class needs _ = ⊥
 -- The input was surveyed, and has no more frames than the mode allows, or it is at fault.
 pub record PackedSurvey (mode : PackMode) (name : List ℕ) (old new : Seen)
     (result : Result Survey EditFault) : Type 0 where
-  pub there : OnOk result (IsThere old.files name)
+  pub there : OnOk result (IsFileThere old.files name)
   pub surveyed : IfOk result
-      (λ s. OnFile old name (λ bytes. survey_of bytes most_frames ≡ Ok (tells s)))
+      (λ s. OnFile old name (λ bytes. survey_of bytes most_frames ≡ Ok (survey_view s)))
   pub limited : IfOk result
-      (λ s. OnFile old name (λ bytes. survey_of bytes (allowed_by mode) ≡ Ok (tells s)))
-  pub laid : IfOk result (λ s. IsLaidOut (tells s))
-  pub few : IfOk result (λ s. length (tells s).frames ≤ allowed_by mode)
+      (λ s. OnFile old name (λ bytes. survey_of bytes (allowed_frames mode) ≡ Ok (survey_view s)))
+  pub laid : IfOk result (λ s. IsSurveyLaidOut (survey_view s))
+  pub few : IfOk result (λ s. length (survey_view s).frames ≤ allowed_frames mode)
   -- what is told of it are bytes
   pub octets : OnOk result (OnFile old name AreBytes)
   pub refused : IfErr result (IsEarlyFault (pack_task mode name) old new)
-  pub numbers : IfErr result (IsOfInputs (pack_task mode name))
+  pub numbers : IfErr result (HasTaskNumbers (pack_task mode name))
   pub reads : OnlyRead result old new

@@ -2,7 +2,7 @@
 use Rattle.std.specs.Prelude.{Bool, Err, false, List, None, Ok, Option, Result, Some, true}
 use Rattle.std.specs.Prelude.{unwrap_or, ℕ, [], ◌==◌}
 use Rattle.best_plan.specs.BestOf.{best_plan_of}
-use Rattle.commands.specs.{Command.Command, One.{most_frames, one_command, Task}}
+use Rattle.commands.specs.{Command.Command, SingleOutput.{most_frames, one_command, Task}}
 use Rattle.commands.specs.declared.fault.{EditFault.{EditFault, TheVariants.Input}, Refusal.Refusal}
 use Rattle.commands.specs.declared.fault.Refusal.TheVariants.{NoRate, Unfit}
 use Rattle.cut_edits.specs.Chosen.{all_choice, first_planning, laying_task, Planning}
@@ -22,18 +22,18 @@ best_planning class needs =
     Ok (unwrap_or (best_plan_of (window_of class.version) any_choice needs) [])
 
 -- how the slots are chosen
-abbrev pub plan_by : PackMode → Planning
-plan_by Least = first_planning any_choice
-plan_by Best = best_planning
-plan_by (Constant rate) = rates_plan (Constant rate)
-plan_by (Floor rate) = rates_plan (Floor rate)
+abbrev pub mode_planning : PackMode → Planning
+mode_planning Least = first_planning any_choice
+mode_planning Best = best_planning
+mode_planning (Constant rate) = rates_plan (Constant rate)
+mode_planning (Floor rate) = rates_plan (Floor rate)
 
 -- With one bit rate alone a frame may be unfit; with all from one on none is.
-abbrev pub refuses_by : PackMode → Refusal → Bool
-refuses_by (Constant rate) (NoRate named) = named == rate
-refuses_by (Constant rate) (Unfit i) = true
-refuses_by (Floor rate) (NoRate named) = named == rate
-refuses_by _ _ = false
+abbrev pub mode_refuses : PackMode → Refusal → Bool
+mode_refuses (Constant rate) (NoRate named) = named == rate
+mode_refuses (Constant rate) (Unfit i) = true
+mode_refuses (Floor rate) (NoRate named) = named == rate
+mode_refuses _ _ = false
 
 -- ---- how many frames are allowed
 
@@ -42,38 +42,39 @@ abbrev pub most_best : ℕ
 most_best = 200000
 
 -- the other modes have no limit besides that of all commands
-abbrev pub limit_by : PackMode → Option ℕ
-limit_by Best = Some most_best
-limit_by _ = None
+abbrev pub mode_limit : PackMode → Option ℕ
+mode_limit Best = Some most_best
+mode_limit _ = None
 
 -- how many frames a file may have in this mode
-abbrev pub allowed_by : PackMode → ℕ
-allowed_by mode = unwrap_or (limit_by mode) most_frames
+abbrev pub allowed_frames : PackMode → ℕ
+allowed_frames mode = unwrap_or (mode_limit mode) most_frames
 
 -- what is made, unless the survey has a fault
-abbrev pub unless_fault : Result SurveyFields SurveyFault → Result (List ℕ) EditFault
+abbrev pub survey_fault_or : Result SurveyFields SurveyFault → Result (List ℕ) EditFault
     → Result (List ℕ) EditFault
-unless_fault (Err fault) made = Err (Input 0 fault)
-unless_fault (Ok s) made = made
+survey_fault_or (Err fault) made = Err (Input 0 fault)
+survey_fault_or (Ok s) made = made
 
 -- a file that has a fault where this many frames are allowed is refused with it
-abbrev pub limited_by : Option ℕ → Option (List ℕ) → Result (List ℕ) EditFault
+abbrev pub limited_result : Option ℕ → Option (List ℕ) → Result (List ℕ) EditFault
     → Result (List ℕ) EditFault
-limited_by None file made = made
-limited_by (Some allowed) None made = made
-limited_by (Some allowed) (Some file) made = unless_fault (survey_of file allowed) made
+limited_result None file made = made
+limited_result (Some allowed) None made = made
+limited_result (Some allowed) (Some file) made = survey_fault_or (survey_of file allowed) made
 
 -- the same task for a source of at most as many frames as the limit, where there is one
-abbrev pub limited : Option ℕ → Task → Task
-limited limit task =
-    record task { makes = λ files. limited_by limit (files task.source) (task.makes files) }
+abbrev pub limited_task : Option ℕ → Task → Task
+limited_task limit task =
+    record task { makes = λ files. limited_result limit (files task.source) (task.makes files) }
 
 -- ---- the command
 
 -- what is made is the file of all frames in the slots that the mode chooses
 abbrev pub pack_task : PackMode → List ℕ → Task
 pack_task mode input =
-    limited (limit_by mode) (laying_task all_choice (plan_by mode) (refuses_by mode) input)
+    limited_task (mode_limit mode)
+    (laying_task all_choice (mode_planning mode) (mode_refuses mode) input)
 
 -- all frames of the input, packed in this mode, are the output
 abbrev pub pack_mode_command : PackMode → List ℕ → List ℕ → Command

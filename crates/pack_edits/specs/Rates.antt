@@ -2,7 +2,7 @@
 -- alone.
 use Rattle.std.specs.Prelude.{Bool, Err, filter, if◌then◌else◌, leb, length, List, nat_lt, None, Ok}
 use Rattle.std.specs.Prelude.{Option, Result, Some, true, ℕ, ◌==◌}
-use Rattle.commands.specs.{Refusing.{then_made, unless}, declared.fault.EditFault.EditFault}
+use Rattle.commands.specs.{Refusing.{refusal_or, then_made}, declared.fault.EditFault.EditFault}
 use Rattle.commands.specs.declared.fault.{EditFault.TheVariants.{Memory, Refused}, Refusal.Refusal}
 use Rattle.commands.specs.declared.fault.Refusal.TheVariants.{NoRate, Unfit}
 use Rattle.frame_header.specs.{Fields.{ClassFields, SlotFields}, Slots.all_slots}
@@ -28,28 +28,28 @@ abbrev pub is_rate : ℕ → ClassFields → Bool
 is_rate rate class = nat_lt 0 (length (menu_in (Constant rate) class))
 
 -- the refusal of a bit rate that isn't one of the class
-abbrev pub unless_rate : ℕ → ClassFields → Option Refusal
-unless_rate rate class = if is_rate rate class then None else Some (NoRate rate)
+abbrev pub rate_refusal : ℕ → ClassFields → Option Refusal
+rate_refusal rate class = if is_rate rate class then None else Some (NoRate rate)
 
 -- what the mode names isn't a bit rate of the class
 abbrev pub no_rate : PackMode → ClassFields → Option Refusal
-no_rate (Constant rate) class = unless_rate rate class
-no_rate (Floor rate) class = unless_rate rate class
+no_rate (Constant rate) class = rate_refusal rate class
+no_rate (Floor rate) class = rate_refusal rate class
 no_rate _ class = None
 
 -- the plan, or the first unfit frame
-abbrev pub fitted : Result (List Placed) ℕ → Result (List Placed) EditFault
-fitted (Ok placed) = Ok placed
-fitted (Err i) = Err (Refused (Unfit i))
+abbrev pub fitted_plan : Result (List Placed) ℕ → Result (List Placed) EditFault
+fitted_plan (Ok placed) = Ok placed
+fitted_plan (Err i) = Err (Refused (Unfit i))
 
 -- The first of all lists of slots from the menu for which there is a layout, without a lead-in or
 -- else with one; or why there is none: the first frame up to which there is none.
 abbrev pub rates_plan : PackMode → ClassFields → List Need → Result (List Placed) EditFault
 rates_plan mode class needs =
-    then_made (unless (no_rate mode class) (menu_in mode class))
-    (λ menu. fitted (least_menu_plan (window_of class.version) menu needs))
+    then_made (refusal_or (no_rate mode class) (menu_in mode class))
+    (λ menu. fitted_plan (least_menu_plan (window_of class.version) menu needs))
 
 -- a fault of the planner as one of a command
-abbrev pub of_rate : RateFault → EditFault
-of_rate (UnfitFrame i) = Refused (Unfit i)
-of_rate NoMemory = Memory
+abbrev pub rate_edit_fault : RateFault → EditFault
+rate_edit_fault (UnfitFrame i) = Refused (Unfit i)
+rate_edit_fault NoMemory = Memory

@@ -4,7 +4,7 @@ ghost use Rattle.pack_edits.specs.Modes.{pack_task};
 use crate::inputs::survey_packed;
 use crate::plans::plan_packed;
 use commands::{Edit, EditFault, Inputs};
-use cut_edits::{Work, all_choice};
+use cut_edits::{LaidWork, all_choice};
 use outside::Folder;
 use requests::PackMode;
 use std::alloc::Global;
@@ -17,7 +17,7 @@ pub struct PackEdit<'a> {
 }
 
 impl<'a> Edit for PackEdit<'a> {
-    type Work = Work;
+    type Work = LaidWork;
 
     ghost task = { λ edit. pack_task edit.mode edit.input.now };
 
@@ -27,11 +27,11 @@ impl<'a> Edit for PackEdit<'a> {
         Inputs::one(self.input)
     }
 
-    fn prepare<D: Folder>(&self, alloc: Global, folder: &mut D) -> Result<Work, EditFault> {
+    fn prepare<D: Folder>(&self, alloc: Global, folder: &mut D) -> Result<LaidWork, EditFault> {
         let survey = survey_packed(alloc, folder, self.input, self.mode)?;
         let chosen = all_choice(folder, self.input, &survey)?;
         let selected = plan_packed(alloc, &survey, &chosen, self.mode)?;
-        let work = Work::new(alloc, survey, selected)?;
+        let work = LaidWork::new(alloc, survey, selected)?;
         Ok(work)
     }
 }

@@ -1,6 +1,6 @@
 //! The survey of an input that is packed.
 ghost use Rattle.std.specs.Prelude.{◌≡◌};
-ghost use Rattle.pack_edits.specs.Modes.{allowed_by};
+ghost use Rattle.pack_edits.specs.Modes.{allowed_frames};
 ghost use Rattle.pack_edits.specs.Answers.{PackedSurvey};
 
 use commands::{EditFault, MOST_FRAMES, survey_at};
@@ -14,7 +14,7 @@ const MOST_BEST: u32 = 200_000;
 
 /// How many frames a file may have that is packed in this mode.
 fn allowed(mode: PackMode) -> u32
-    ensures { result ≡ allowed_by mode }
+    ensures { result ≡ allowed_frames mode }
 {
     match mode {
         PackMode::Best => MOST_BEST,

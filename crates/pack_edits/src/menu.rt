@@ -1,14 +1,14 @@
 //! The slots of some bit rates.
 ghost use Rattle.std.specs.Prelude.{◌≡◌, ◌≤◌, length, filter};
-ghost use Rattle.rate_plan.specs.Menus.{AreAscending};
-ghost use Rattle.pack_edits.specs.Rates.{allows as allows_lem, menu_in};
+ghost use Rattle.rate_plan.specs.Menus.{HasAscendingAreas};
+ghost use Rattle.pack_edits.specs.Rates.{allows, menu_in};
 
 use arrayvec::ArrayVec;
 use frame_header::{Class, Slot};
 use requests::PackMode;
 
 fn allows(mode: PackMode, class: Class, slot: Slot) -> bool
-    ensures { result ≡ allows_lem mode class slot }
+    ensures { result ≡ allows mode class slot }
 {
     let rate = class.rate(slot);
     match mode {
@@ -21,7 +21,7 @@ fn allows(mode: PackMode, class: Class, slot: Slot) -> bool
 /// Those of some slots that have a bit rate which the mode allows.
 fn allowed_of(mode: PackMode, class: Class, slots: &[Slot]) -> ArrayVec<Slot, 28>
     requires { length slots.now ≤ 28 }
-    ensures { result.items ≡ filter (allows_lem mode class) slots.now }
+    ensures { result.items ≡ filter (allows mode class) slots.now }
 {
     let mut menu = ArrayVec::new();
     for slot in slots {
@@ -35,7 +35,7 @@ fn allowed_of(mode: PackMode, class: Class, slots: &[Slot]) -> ArrayVec<Slot, 28
 /// The slots whose bit rates the mode allows, the areas ascending.
 pub(crate) fn menu_of(mode: PackMode, class: Class) -> ArrayVec<Slot, 28>
     ensures menu { result.items ≡ menu_in mode class }
-    ensures ascending { AreAscending class result.items }
+    ensures ascending { HasAscendingAreas class result.items }
 {
     let slots = class.slots();
     allowed_of(mode, class, slots.as_slice())

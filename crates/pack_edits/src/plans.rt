@@ -1,16 +1,16 @@
 //! The plan of all frames of a file by a mode, and the Info frame before them.
 ghost use Rattle.std.specs.Prelude.{◌≡◌, ◌≤◌, length, None, Ok, IfOk, IfErr, MatchResult};
 ghost use Rattle.frame_header.specs.Tables.{window_of};
-ghost use Rattle.slot_plan.specs.Parts.{AreOfClass};
+ghost use Rattle.slot_plan.specs.Parts.{AreNeedsOfClass};
 ghost use Rattle.slot_plan.specs.Plans.{entries};
 ghost use Rattle.rate_plan.specs.LeastMenuPlan.{least_menu_plan, IsMenuFault};
-ghost use Rattle.sync_survey.specs.Faults.{tells};
-ghost use Rattle.commands.specs.One.{most_frames};
-ghost use Rattle.cut_edits.specs.Chosen.{chosen_in, needs_of, laid_as, AreThere};
-ghost use Rattle.laying.specs.Laid.{laid_in, IsWritable};
+ghost use Rattle.sync_survey.specs.Faults.{survey_view};
+ghost use Rattle.commands.specs.SingleOutput.{most_frames};
+ghost use Rattle.cut_edits.specs.Chosen.{chosen_in, chosen_needs, planned_part, AreChosenThere};
+ghost use Rattle.laying.specs.Laid.{selected_part, IsWritableSelection};
 ghost use Rattle.pack_edits.specs.Answers.{IsPlanFault};
-ghost use Rattle.pack_edits.specs.Rates.{no_rate as no_rate_lem, of_rate as of_rate_lem, menu_in};
-ghost use Rattle.pack_edits.specs.Modes.{allowed_by, plan_by as plan_by_lem, refuses_by};
+ghost use Rattle.pack_edits.specs.Rates.{no_rate, rate_edit_fault, menu_in};
+ghost use Rattle.pack_edits.specs.Modes.{allowed_frames, mode_planning, mode_refuses};
 
 use crate::menu::menu_of;
 use best_plan::best;
@@ -26,7 +26,7 @@ use sync_survey::Survey;
 
 /// `NoRate` where the mode names a bit rate, in kbit/s, that no slot of the class has.
 fn no_rate(mode: PackMode, class: Class) -> Option<Refusal>
-    ensures { result ≡ no_rate_lem mode class }
+    ensures { result ≡ no_rate mode class }
 {
     let rate = match mode {
         PackMode::Least | PackMode::Best => return None,
@@ -41,7 +41,7 @@ fn no_rate(mode: PackMode, class: Class) -> Option<Refusal>
 
 /// A fault of the planner as one of a command.
 fn of_rate(fault: RateFault) -> EditFault
-    ensures { result ≡ of_rate_lem fault }
+    ensures { result ≡ rate_edit_fault fault }
 {
     match fault {
         RateFault::Unfit(i) => EditFault::Refused(Refusal::Unfit(i)),
@@ -52,10 +52,10 @@ fn of_rate(fault: RateFault) -> EditFault
 /// The plan of frames with slots whose bit rates the mode allows: `Unfit` with the first frame up to which the main data have no
 /// room; `Memory`.
 fn plan_menu(alloc: Global, class: Class, needs: &[Need], mode: PackMode) -> Result<Plan, RateFault>
-    requires class { AreOfClass class needs.now }
+    requires class { AreNeedsOfClass class needs.now }
     requires some { 1 ≤ length needs.now }
     requires few { length needs.now ≤ most_frames }
-    requires named { no_rate_lem mode class ≡ None }
+    requires named { no_rate mode class ≡ None }
     ensures { MatchResult result
         (λ plan. least_menu_plan (window_of class.version) (menu_in mode class) needs.now
         ≡ Ok (entries plan))
@@ -72,12 +72,12 @@ fn plan_by(
     chosen: &Chosen,
     mode: PackMode,
 ) -> Result<Plan, EditFault>
-    requires { AreThere (allowed_by mode) (chosen_in chosen.now) (tells survey.now) }
+    requires { AreChosenThere (allowed_frames mode) (chosen_in chosen.now) (survey_view survey.now) }
     ensures { MatchResult result
-        (λ plan. plan_by_lem mode (tells survey.now).class
-        (needs_of (chosen_in chosen.now) (tells survey.now)) ≡ Ok (entries plan))
-        (IsPlanFault (plan_by_lem mode) (refuses_by mode) (tells survey.now).class
-        (needs_of (chosen_in chosen.now) (tells survey.now))) }
+        (λ plan. mode_planning mode (survey_view survey.now).class
+        (chosen_needs (chosen_in chosen.now) (survey_view survey.now)) ≡ Ok (entries plan))
+        (IsPlanFault (mode_planning mode) (mode_refuses mode) (survey_view survey.now).class
+        (chosen_needs (chosen_in chosen.now) (survey_view survey.now))) }
 {
     let class = survey.class();
     if let Some(refusal) = no_rate(mode, class) {
@@ -113,12 +113,12 @@ pub(crate) fn plan_packed(
     chosen: &Chosen,
     mode: PackMode,
 ) -> Result<Selected, EditFault>
-    requires { AreThere (allowed_by mode) (chosen_in chosen.now) (tells survey.now) }
-    ensures laid { IfOk result (λ l. laid_as (plan_by_lem mode) (tells survey.now)
-        (chosen_in chosen.now) ≡ Ok (laid_in l)) }
-    ensures writable { IfOk result (IsWritable (tells survey.now)) }
-    ensures refused { IfErr result (IsPlanFault (plan_by_lem mode) (refuses_by mode)
-        (tells survey.now).class (needs_of (chosen_in chosen.now) (tells survey.now))) }
+    requires { AreChosenThere (allowed_frames mode) (chosen_in chosen.now) (survey_view survey.now) }
+    ensures laid { IfOk result (λ l. planned_part (mode_planning mode) (survey_view survey.now)
+        (chosen_in chosen.now) ≡ Ok (selected_part l)) }
+    ensures writable { IfOk result (IsWritableSelection (survey_view survey.now)) }
+    ensures refused { IfErr result (IsPlanFault (mode_planning mode) (mode_refuses mode)
+        (survey_view survey.now).class (chosen_needs (chosen_in chosen.now) (survey_view survey.now))) }
 {
     let plan = plan_by(alloc, survey, chosen, mode)?;
     Ok(Selected::new(survey, chosen.from, chosen.to, chosen.kept, plan))

@@ -1,3 +1,3 @@
 -- The lemmas of this crate.
-pub mod Lines
-pub mod Names
+pub mod LineLemmas
+pub mod NameLemmas

@@ -9,7 +9,7 @@ abbrev pub name_in : List (List ℕ) → ℕ → List ℕ
 name_in names place = slice_index_or names place []
 
 -- the names of all outputs
-abbrev pub names_in : Outputs → List (List ℕ)
-names_in None = []
-names_in (One name) = name.now ∷ []
-names_in (Pieces prefix) = piece_names prefix.now
+abbrev pub names_of_outputs : Outputs → List (List ℕ)
+names_of_outputs None = []
+names_of_outputs (One name) = name.now ∷ []
+names_of_outputs (Pieces prefix) = piece_names prefix.now

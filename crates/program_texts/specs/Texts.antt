@@ -1,7 +1,7 @@
 -- The status and the line of each fault, and what a sink got of a line.
 use Rattle.std.specs.Prelude.{codes, false, length, List, Ok, Some, take, ℕ, [], ◌++◌, ◌∷◌, ◌≡◌}
 use Rattle.std.specs.Prelude.{◌≤◌, ◌⊎◌}
-use Rattle.commands.specs.{Command.Command, Left.{NoMemory, Rejected, Why, why_of}}
+use Rattle.commands.specs.{AfterCall.{NoMemory, Rejected, Why, why_of}, Command.Command}
 use Rattle.commands.specs.declared.fault.EditFault.{EditFault}
 use Rattle.commands.specs.declared.fault.EditFault.TheVariants.{EqualNames, Input}
 use Rattle.commands.specs.declared.fault.EditFault.TheVariants.{Memory as OutOfMemory, Refused}
@@ -20,9 +20,9 @@ use Rattle.fade_plan.specs.declared.envelope_fault.EnvelopeFault.{EnvelopeFault}
 use Rattle.fade_plan.specs.declared.envelope_fault.EnvelopeFault.TheVariants.{Line as BadLine}
 use Rattle.fade_plan.specs.declared.envelope_fault.EnvelopeFault.TheVariants.{Memory as NoCurveMemory}
 use Rattle.fade_plan.specs.declared.envelope_fault.EnvelopeFault.TheVariants.{NoPoints}
-use Rattle.outside.specs.{Counts.Rose, Files.{Sent, sent_more}}
-use Rattle.program_texts.specs.Lines.{Hexadecimal, Name, Number, Part, Signed, spelled, Text}
-use Rattle.program_texts.specs.Names.{name_in}
+use Rattle.outside.specs.{Counts.Rose, Files.{Sent, sent_and_more}}
+use Rattle.program_texts.specs.Lines.{Hexadecimal, LinePart, Name, Number, Signed, Text}
+use Rattle.program_texts.specs.{Lines.text_of_line, Names.name_in}
 use Rattle.sync_survey.specs.declared.survey_fault.SurveyFault.{SurveyFault}
 use Rattle.sync_survey.specs.declared.survey_fault.SurveyFault.TheVariants.{Absent, BackPointer}
 use Rattle.sync_survey.specs.declared.survey_fault.SurveyFault.TheVariants.{CheckWord, FreeFormat}
@@ -33,17 +33,17 @@ use Rattle.sync_survey.specs.declared.survey_fault.SurveyFault.TheVariants.{TooL
 use Rattle.sync_survey.specs.declared.survey_fault.SurveyFault.TheVariants.{Truncated}
 
 -- the status of a cause
-abbrev pub status_by : Why → ℕ
-status_by Rejected = 1
-status_by NoMemory = 4
-status_by _ = 3
+abbrev pub cause_status : Why → ℕ
+cause_status Rejected = 1
+cause_status NoMemory = 4
+cause_status _ = 3
 
 -- 1 for what is refused, 3 for an absent file and a fault of the outside, 4 for want of memory
 abbrev pub status_of : EditFault → ℕ
-status_of fault = status_by (why_of fault)
+status_of fault = cause_status (why_of fault)
 
 -- the parts of the line of a fault of the input, after its name
-abbrev pub input_parts : SurveyFault → List Part
+abbrev pub input_parts : SurveyFault → List LinePart
 input_parts Absent = Text (codes ": absent\n") ∷ []
 input_parts (TooLong size) =
     Text (codes ": too long, ") ∷ Number size ∷ Text (codes " bytes\n") ∷ []
@@ -74,7 +74,7 @@ input_parts Read = Text (codes ": read fault\n") ∷ []
 input_parts Memory = []
 
 -- those of a fault of a cue sheet, after its name
-abbrev pub sheet_parts : CueFault → List Part
+abbrev pub sheet_parts : CueFault → List LinePart
 sheet_parts (Line number) = Text (codes ": bad line ") ∷ Number number ∷ Text (codes "\n") ∷ []
 sheet_parts (NotRising number) =
     Text (codes ": not rising at line ") ∷ Number number ∷ Text (codes "\n") ∷ []
@@ -83,14 +83,14 @@ sheet_parts NoTracks = Text (codes ": no tracks\n") ∷ []
 sheet_parts NoSheetMemory = []
 
 -- those of a fault of the sheet of a fade, after its name
-abbrev pub curve_parts : EnvelopeFault → List Part
+abbrev pub curve_parts : EnvelopeFault → List LinePart
 curve_parts (BadLine number) = Text (codes ": bad line ") ∷ Number number ∷ Text (codes "\n") ∷ []
 curve_parts NoPoints = Text (codes ": no points\n") ∷ []
 -- nor is it one of this sheet
 curve_parts NoCurveMemory = []
 
 -- those of a refusal, by the names of the inputs; a sheet is input 1
-abbrev pub refusal_parts : Refusal → List (List ℕ) → List Part
+abbrev pub refusal_parts : Refusal → List (List ℕ) → List LinePart
 refusal_parts (GainRange offset granule channel gain) inputs =
     Text (codes "gain ") ∷ Number gain ∷ Text (codes " out of range at ") ∷ Number offset
     ∷ Text (codes ", granule ") ∷ Number granule
@@ -128,7 +128,7 @@ refusal_parts (CurveNotRising number) inputs = Name (name_in inputs 1)
     ∷ Text (codes ": not rising at line ") ∷ Number number ∷ Text (codes "\n") ∷ []
 
 -- those of a fault, by the names of the inputs and of the outputs
-abbrev pub fault_parts : EditFault → List (List ℕ) → List (List ℕ) → List Part
+abbrev pub fault_parts : EditFault → List (List ℕ) → List (List ℕ) → List LinePart
 fault_parts (EqualNames place) inputs outputs =
     Name (name_in inputs place) ∷ Text (codes ": input is an output\n") ∷ []
 fault_parts (Input place fault) inputs outputs = Name (name_in inputs place) ∷ input_parts fault
@@ -140,19 +140,19 @@ fault_parts OutOfMemory inputs outputs = Text (codes "out of memory\n") ∷ []
 
 -- the line of a fault
 abbrev pub fault_line : EditFault → List (List ℕ) → List (List ℕ) → List ℕ
-fault_line fault inputs outputs = spelled (fault_parts fault inputs outputs)
+fault_line fault inputs outputs = text_of_line (fault_parts fault inputs outputs)
 
 -- the line of a bad word, by its place counted from 1
-abbrev pub bad_word_parts : ℕ → List Part
+abbrev pub bad_word_parts : ℕ → List LinePart
 bad_word_parts place = Text (codes "bad word ") ∷ Number place ∷ Text (codes "\n") ∷ []
 
 -- the line of a bad word, spelled
 abbrev pub bad_word_line : ℕ → List ℕ
-bad_word_line place = spelled (bad_word_parts place)
+bad_word_line place = text_of_line (bad_word_parts place)
 
 -- a command that says a text, whatever the files are
-abbrev pub said_command : List ℕ → Command
-said_command text = record {
+abbrev pub fixed_text_command : List ℕ → Command
+fixed_text_command text = record {
   inputs = [];
   outputs = [];
   sources = [];
@@ -229,15 +229,15 @@ version_text = codes "mp3edit 0.1.0\n"
 -- the line was sent, and no write failed
 pub record GotWhole (sent_before sent_after : Sent) (faults_before faults_after : ℕ)
     (line : List ℕ) : Type 0 where
-  pub sent : sent_after ≡ sent_more sent_before line
+  pub sent : sent_after ≡ sent_and_more sent_before line
   pub done : faults_after ≡ faults_before
 
 -- a prefix of the line was sent, and a write failed
-pub record GotFront (sent_before sent_after : Sent) (faults_before faults_after : ℕ)
+pub record GotPrefix (sent_before sent_after : Sent) (faults_before faults_after : ℕ)
     (line : List ℕ) : Type 0 where
   pub count : ℕ
   pub in_range : count ≤ length line
-  pub sent : sent_after ≡ sent_more sent_before (take count line)
+  pub sent : sent_after ≡ sent_and_more sent_before (take count line)
   pub failed : Rose faults_before faults_after
 
 -- the line was sent and no write failed, or a prefix of it
@@ -246,4 +246,4 @@ pub record GotLine (sent_before sent_after : Sent) (faults_before faults_after :
     (line : List ℕ) : Type 0 where
   pub later : faults_before ≤ faults_after
   pub got : GotWhole sent_before sent_after faults_before faults_after line
-      ⊎ GotFront sent_before sent_after faults_before faults_after line
+      ⊎ GotPrefix sent_before sent_after faults_before faults_after line

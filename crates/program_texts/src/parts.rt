@@ -1,7 +1,7 @@
 //! Lines as lists of parts, and how they are sent.
 ghost use Rattle.std.specs.Prelude.{◌≡◌, ◌≤◌, ◌<◌, ◌+◌, ◌%◌, ◌++◌, ◌∷◌, [], OnOk, OnErr, length, map, flat_map};
-ghost use Rattle.program_texts.specs.Lines.{hex_digit as hex_digit_lem, hex_word, Text, Number, Name, spelled_part, spelled, part_of};
-ghost use Rattle.program_texts.specs.Texts.{GotWhole, GotFront, GotLine};
+ghost use Rattle.program_texts.specs.Lines.{hex_digit, hex_word, Text, Number, Name, part_text, text_of_line, line_part_of};
+ghost use Rattle.program_texts.specs.Texts.{GotWhole, GotPrefix, GotLine};
 
 use arrayvec::ArrayVec;
 use itoa::Buffer;
@@ -10,7 +10,7 @@ use requests::name_parts;
 
 /// A part of a line.
 #[derive(Clone, Copy)]
-pub(crate) enum Part<'a> {
+pub(crate) enum LinePart<'a> {
     /// This text.
     Text(&'a str),
     /// A number, as decimal digits.
@@ -25,18 +25,18 @@ pub(crate) enum Part<'a> {
     PieceName(&'a str, u32),
 }
 
-impl Default for Part<'_> {
+impl Default for LinePart<'_> {
     /// An empty text.
     fn default() -> Self {
-        Part::Text("")
+        LinePart::Text("")
     }
 }
 
 /// The parts of a line, nine at most.
-pub(crate) type LineParts<'a> = ArrayVec<Part<'a>, 9>;
+pub(crate) type LineParts<'a> = ArrayVec<LinePart<'a>, 9>;
 
 /// A line of these parts.
-pub(crate) fn line<'a>(parts: &[Part<'a>]) -> LineParts<'a>
+pub(crate) fn line<'a>(parts: &[LinePart<'a>]) -> LineParts<'a>
     requires { length parts.now ≤ 9 }
     ensures { result.items ≡ parts.now }
 {
@@ -47,35 +47,44 @@ pub(crate) fn line<'a>(parts: &[Part<'a>]) -> LineParts<'a>
 
 /// A line that is this text.
 pub(crate) fn text_line(text: &str) -> LineParts<'_>
-    ensures { map part_of result.items ≡ Text text.now ∷ [] }
+    ensures { map line_part_of result.items ≡ Text text.now ∷ [] }
 {
-    line(&[Part::Text(text)])
+    line(&[LinePart::Text(text)])
 }
 
 /// A line of a name and a text.
 pub(crate) fn name_line<'a>(name: &'a str, text: &'a str) -> LineParts<'a>
-    ensures { map part_of result.items ≡ Name name.now ∷ Text text.now ∷ [] }
+    ensures { map line_part_of result.items ≡ Name name.now ∷ Text text.now ∷ [] }
 {
-    line(&[Part::Name(name), Part::Text(text)])
+    line(&[LinePart::Name(name), LinePart::Text(text)])
 }
 
 /// A line of a number between two texts.
 pub(crate) fn number_line<'a>(text: &'a str, number: u64, end: &'a str) -> LineParts<'a>
-    ensures { map part_of result.items ≡ Text text.now ∷ Number number ∷ Text end.now ∷ [] }
+    ensures { map line_part_of result.items ≡ Text text.now ∷ Number number ∷ Text end.now ∷ [] }
 {
-    line(&[Part::Text(text), Part::Number(number), Part::Text(end)])
+    line(&[
+        LinePart::Text(text),
+        LinePart::Number(number),
+        LinePart::Text(end),
+    ])
 }
 
 /// A line of a name, and a number between two texts.
-pub(crate) fn named_line<'a>(name: &'a str, text: &'a str, number: u64, end: &'a str) -> LineParts<'a>
-    ensures { map part_of result.items
+pub(crate) fn named_line<'a>(
+    name: &'a str,
+    text: &'a str,
+    number: u64,
+    end: &'a str,
+) -> LineParts<'a>
+    ensures { map line_part_of result.items
         ≡ Name name.now ∷ Text text.now ∷ Number number ∷ Text end.now ∷ [] }
 {
     line(&[
-        Part::Name(name),
-        Part::Text(text),
-        Part::Number(number),
-        Part::Text(end),
+        LinePart::Name(name),
+        LinePart::Text(text),
+        LinePart::Number(number),
+        LinePart::Text(end),
     ])
 }
 
@@ -84,7 +93,7 @@ pub(crate) fn send_text<T: Sink>(sink: &mut T, pieces: &[&str]) -> Result<(), Fa
     ensures whole { OnOk result (GotWhole (T.heard sink.old).sent (T.heard sink.new).sent
         (T.heard sink.old).faults (T.heard sink.new).faults
         (flat_map (λ piece. piece.now) pieces.now)) }
-    ensures front { OnErr result (GotFront (T.heard sink.old).sent (T.heard sink.new).sent
+    ensures front { OnErr result (GotPrefix (T.heard sink.old).sent (T.heard sink.new).sent
         (T.heard sink.old).faults (T.heard sink.new).faults
         (flat_map (λ piece. piece.now) pieces.now)) }
     ensures later { (T.heard sink.old).faults ≤ (T.heard sink.new).faults }
@@ -102,7 +111,7 @@ static HEX_DIGITS: [&str; 16] = [
 
 // The last hexadecimal digit of a number.
 fn hex_digit<'a>(number: u16) -> &'a str
-    ensures { result.now ≡ hex_digit_lem (number % 16) ∷ [] }
+    ensures { result.now ≡ hex_digit (number % 16) ∷ [] }
 {
     HEX_DIGITS[usize::from(number % 16)]
 }
@@ -120,32 +129,32 @@ fn hex_digits<'a>(word: u16) -> [&'a str; 4]
 }
 
 // Sends a part.
-fn send_part<T: Sink>(sink: &mut T, part: &Part) -> Result<(), Failed>
+fn send_part<T: Sink>(sink: &mut T, part: &LinePart) -> Result<(), Failed>
     ensures whole { OnOk result (GotWhole (T.heard sink.old).sent (T.heard sink.new).sent
-        (T.heard sink.old).faults (T.heard sink.new).faults (spelled_part (part_of part.now))) }
-    ensures front { OnErr result (GotFront (T.heard sink.old).sent (T.heard sink.new).sent
-        (T.heard sink.old).faults (T.heard sink.new).faults (spelled_part (part_of part.now))) }
+        (T.heard sink.old).faults (T.heard sink.new).faults (part_text (line_part_of part.now))) }
+    ensures front { OnErr result (GotPrefix (T.heard sink.old).sent (T.heard sink.new).sent
+        (T.heard sink.old).faults (T.heard sink.new).faults (part_text (line_part_of part.now))) }
     ensures later { (T.heard sink.old).faults ≤ (T.heard sink.new).faults }
 {
     match *part {
-        Part::Text(text) | Part::Name(text) => send_text(sink, &[text]),
-        Part::Number(number) => send_text(sink, &[Buffer::new().format(number)]),
-        Part::Signed(number) => send_text(sink, &[Buffer::new().format(number)]),
-        Part::Hexadecimal(word) => send_text(sink, &hex_digits(word)),
-        Part::PieceName(prefix, number) => {
+        LinePart::Text(text) | LinePart::Name(text) => send_text(sink, &[text]),
+        LinePart::Number(number) => send_text(sink, &[Buffer::new().format(number)]),
+        LinePart::Signed(number) => send_text(sink, &[Buffer::new().format(number)]),
+        LinePart::Hexadecimal(word) => send_text(sink, &hex_digits(word)),
+        LinePart::PieceName(prefix, number) => {
             send_text(sink, &name_parts(prefix, (number % 100) as u8))
         }
     }
 }
 
 // Sends the parts one after another, and stops at the first write that fails.
-fn send_parts<T: Sink>(sink: &mut T, parts: &[Part]) -> Result<(), Failed>
+fn send_parts<T: Sink>(sink: &mut T, parts: &[LinePart]) -> Result<(), Failed>
     ensures whole { OnOk result (GotWhole (T.heard sink.old).sent (T.heard sink.new).sent
         (T.heard sink.old).faults (T.heard sink.new).faults
-        (flat_map (λ part. spelled_part (part_of part)) parts.now)) }
-    ensures front { OnErr result (GotFront (T.heard sink.old).sent (T.heard sink.new).sent
+        (flat_map (λ part. part_text (line_part_of part)) parts.now)) }
+    ensures front { OnErr result (GotPrefix (T.heard sink.old).sent (T.heard sink.new).sent
         (T.heard sink.old).faults (T.heard sink.new).faults
-        (flat_map (λ part. spelled_part (part_of part)) parts.now)) }
+        (flat_map (λ part. part_text (line_part_of part)) parts.now)) }
     ensures later { (T.heard sink.old).faults ≤ (T.heard sink.new).faults }
 {
     for part in parts {
@@ -155,9 +164,9 @@ fn send_parts<T: Sink>(sink: &mut T, parts: &[Part]) -> Result<(), Failed>
 }
 
 /// Sends the parts of a line. It stops at the first write that fails, and doesn't answer that one did.
-pub(crate) fn send_line<E: Sink>(err: &mut E, parts: &[Part])
+pub(crate) fn send_line<E: Sink>(err: &mut E, parts: &[LinePart])
     ensures { GotLine (E.heard err.old).sent (E.heard err.new).sent (E.heard err.old).faults
-        (E.heard err.new).faults (spelled (map part_of parts.now)) }
+        (E.heard err.new).faults (text_of_line (map line_part_of parts.now)) }
 {
     let _ = send_parts(err, parts);
 }

@@ -1,14 +1,14 @@
 //! The statuses that the program ends with, and the texts and lines that it writes.
 ghost use Rattle.std.specs.Prelude.{◌≡◌, [], ◌∷◌, IfErr, map, flat_map};
-ghost use Rattle.program_texts.specs.Lines.{Name, part_of};
-ghost use Rattle.program_texts.specs.Texts.{status_of, input_parts as input_parts_lem, sheet_parts as sheet_parts_lem, curve_parts as curve_parts_lem, refusal_parts as refusal_parts_lem, fault_parts as fault_parts_lem, fault_line, bad_word_line, help_text, version_text, said_command, GotLine};
-ghost use Rattle.program_texts.specs.Names.{name_in as name_in_lem, names_in};
+ghost use Rattle.program_texts.specs.Lines.{Name, line_part_of};
+ghost use Rattle.program_texts.specs.Texts.{status_of, input_parts, sheet_parts, curve_parts, refusal_parts, fault_parts, fault_line, bad_word_line, help_text, version_text, fixed_text_command, GotLine};
+ghost use Rattle.program_texts.specs.Names.{name_in, names_of_outputs};
 ghost use Rattle.outside.specs.Files.{Files};
-ghost use Rattle.commands.specs.Said.{Says, fault_of};
+ghost use Rattle.commands.specs.SentText.{SaysText, answer_fault};
 
 use crate::output_names::Outputs;
 use crate::parts::{
-    LineParts, Part, line, name_line, named_line, number_line, send_line, send_text, text_line,
+    LinePart, LineParts, line, name_line, named_line, number_line, send_line, send_text, text_line,
 };
 use commands::{EditFault, Refusal, SHEET};
 use cue_sheet::CueFault;
@@ -92,10 +92,10 @@ static HELP: [&str; 46] = [
 
 // Sends a text to standard output.
 fn say<T: Sink>(out: &mut T, pieces: &[&str]) -> Result<(), EditFault>
-    ensures says { (files : Files) → Says
-        (said_command (flat_map (λ piece. piece.now) pieces.now)) files
+    ensures says { (files : Files) → SaysText
+        (fixed_text_command (flat_map (λ piece. piece.now) pieces.now)) files
         (T.heard out.old) (T.heard out.new)
-        (fault_of result) }
+        (answer_fault result) }
     ensures fault { IfErr result (λ fault. fault ≡ EditFault.Sent) }
 {
     match send_text(out, pieces) {
@@ -110,9 +110,9 @@ fn say<T: Sink>(out: &mut T, pieces: &[&str]) -> Result<(), EditFault>
 /// `Sent` where a write failed; then a prefix of the text was sent.
 #[tactic(auto, unfolding(crate::specs::Texts::help_text))]
 pub fn say_help<T: Sink>(out: &mut T) -> Result<(), EditFault>
-    ensures says { (files : Files) → Says (said_command help_text) files
+    ensures says { (files : Files) → SaysText (fixed_text_command help_text) files
         (T.heard out.old) (T.heard out.new)
-        (fault_of result) }
+        (answer_fault result) }
     ensures fault { IfErr result (λ fault. fault ≡ EditFault.Sent) }
 {
     say(out, &HELP)
@@ -124,9 +124,9 @@ pub fn say_help<T: Sink>(out: &mut T) -> Result<(), EditFault>
 /// `Sent` where a write failed; then a prefix of the text was sent.
 #[tactic(auto, unfolding(crate::specs::Texts::version_text))]
 pub fn say_version<T: Sink>(out: &mut T) -> Result<(), EditFault>
-    ensures says { (files : Files) → Says (said_command version_text) files
+    ensures says { (files : Files) → SaysText (fixed_text_command version_text) files
         (T.heard out.old) (T.heard out.new)
-        (fault_of result) }
+        (answer_fault result) }
     ensures fault { IfErr result (λ fault. fault ≡ EditFault.Sent) }
 {
     say(out, &["mp3edit 0.1.0\n"])
@@ -134,73 +134,73 @@ pub fn say_version<T: Sink>(out: &mut T) -> Result<(), EditFault>
 
 // The line of a check word at an offset that isn't the right one.
 fn check_word_line(name: &str, at: u64, said: u16, right: u16) -> LineParts<'_>
-    ensures { map part_of result.items ≡ Name name.now
-        ∷ input_parts_lem (SurveyFault.CheckWord at said right) }
+    ensures { map line_part_of result.items ≡ Name name.now
+        ∷ input_parts (SurveyFault.CheckWord at said right) }
 {
     line(&[
-        Part::Name(name),
-        Part::Text(": check word at "),
-        Part::Number(at),
-        Part::Text(" is "),
-        Part::Hexadecimal(said),
-        Part::Text(", right is "),
-        Part::Hexadecimal(right),
-        Part::Text("\n"),
+        LinePart::Name(name),
+        LinePart::Text(": check word at "),
+        LinePart::Number(at),
+        LinePart::Text(" is "),
+        LinePart::Hexadecimal(said),
+        LinePart::Text(", right is "),
+        LinePart::Hexadecimal(right),
+        LinePart::Text("\n"),
     ])
 }
 
 // The line of a main_data_begin that is more than the bytes of main data that are there.
 fn back_pointer_line(name: &str, at: u64, begin: u32, present: u64) -> LineParts<'_>
-    ensures { map part_of result.items ≡ Name name.now
-        ∷ input_parts_lem (SurveyFault.BackPointer at begin present) }
+    ensures { map line_part_of result.items ≡ Name name.now
+        ∷ input_parts (SurveyFault.BackPointer at begin present) }
 {
     line(&[
-        Part::Name(name),
-        Part::Text(": back pointer at "),
-        Part::Number(at),
-        Part::Text(" is "),
-        Part::Number(u64::from(begin)),
-        Part::Text(", present "),
-        Part::Number(present),
-        Part::Text("\n"),
+        LinePart::Name(name),
+        LinePart::Text(": back pointer at "),
+        LinePart::Number(at),
+        LinePart::Text(" is "),
+        LinePart::Number(u64::from(begin)),
+        LinePart::Text(", present "),
+        LinePart::Number(present),
+        LinePart::Text("\n"),
     ])
 }
 
 // The line of main data that have more bits than there is room for.
 fn overrun_line(name: &str, at: u64, bits: u32, room: u32) -> LineParts<'_>
-    ensures { map part_of result.items ≡ Name name.now
-        ∷ input_parts_lem (SurveyFault.Overrun at bits room) }
+    ensures { map line_part_of result.items ≡ Name name.now
+        ∷ input_parts (SurveyFault.Overrun at bits room) }
 {
     line(&[
-        Part::Name(name),
-        Part::Text(": overrun at "),
-        Part::Number(at),
-        Part::Text(", bits "),
-        Part::Number(u64::from(bits)),
-        Part::Text(", room "),
-        Part::Number(u64::from(room)),
-        Part::Text("\n"),
+        LinePart::Name(name),
+        LinePart::Text(": overrun at "),
+        LinePart::Number(at),
+        LinePart::Text(", bits "),
+        LinePart::Number(u64::from(bits)),
+        LinePart::Text(", room "),
+        LinePart::Number(u64::from(room)),
+        LinePart::Text("\n"),
     ])
 }
 
 // The line of a file that became shorter.
 fn shrunk_line(name: &str, first: u64, second: u64) -> LineParts<'_>
-    ensures { map part_of result.items ≡ Name name.now
-        ∷ input_parts_lem (SurveyFault.Shrunk first second) }
+    ensures { map line_part_of result.items ≡ Name name.now
+        ∷ input_parts (SurveyFault.Shrunk first second) }
 {
     line(&[
-        Part::Name(name),
-        Part::Text(": shrunk from "),
-        Part::Number(first),
-        Part::Text(" to "),
-        Part::Number(second),
-        Part::Text("\n"),
+        LinePart::Name(name),
+        LinePart::Text(": shrunk from "),
+        LinePart::Number(first),
+        LinePart::Text(" to "),
+        LinePart::Number(second),
+        LinePart::Text("\n"),
     ])
 }
 
 // The parts of the line of a fault of the input with this name. Want of memory isn't a fault of an input and never comes here.
 fn input_parts<'a>(name: &'a str, fault: &SurveyFault) -> LineParts<'a>
-    ensures { map part_of result.items ≡ Name name.now ∷ input_parts_lem fault.now }
+    ensures { map line_part_of result.items ≡ Name name.now ∷ input_parts fault.now }
 {
     match *fault {
         SurveyFault::Absent => name_line(name, ": absent\n"),
@@ -219,79 +219,79 @@ fn input_parts<'a>(name: &'a str, fault: &SurveyFault) -> LineParts<'a>
         SurveyFault::TooManyFrames(at) => named_line(name, ": too many frames at ", at, "\n"),
         SurveyFault::Shrunk(first, second) => shrunk_line(name, first, second),
         SurveyFault::Read => name_line(name, ": read fault\n"),
-        SurveyFault::Memory => line(&[Part::Name(name)]),
+        SurveyFault::Memory => line(&[LinePart::Name(name)]),
     }
 }
 
 // The name at a place of the list, counted from 0; an empty one where there is none.
 fn name_in<'a>(names: &[&'a str], place: u32) -> &'a str
-    ensures { result.now ≡ name_in_lem (map (λ name. name.now) names.now) place }
+    ensures { result.now ≡ name_in (map (λ name. name.now) names.now) place }
 {
     names.get(place as usize).copied().unwrap_or("")
 }
 
 // The line of a gain that would leave its range.
 fn gain_line<'a>(offset: u64, granule: u8, channel: u8, gain: u8) -> LineParts<'a>
-    ensures { map part_of result.items ≡ refusal_parts_lem
+    ensures { map line_part_of result.items ≡ refusal_parts
         (Refusal.GainRange offset granule channel gain) [] }
 {
     line(&[
-        Part::Text("gain "),
-        Part::Number(u64::from(gain)),
-        Part::Text(" out of range at "),
-        Part::Number(offset),
-        Part::Text(", granule "),
-        Part::Number(u64::from(granule)),
-        Part::Text(", channel "),
-        Part::Number(u64::from(channel)),
-        Part::Text("\n"),
+        LinePart::Text("gain "),
+        LinePart::Number(u64::from(gain)),
+        LinePart::Text(" out of range at "),
+        LinePart::Number(offset),
+        LinePart::Text(", granule "),
+        LinePart::Number(u64::from(granule)),
+        LinePart::Text(", channel "),
+        LinePart::Number(u64::from(channel)),
+        LinePart::Text("\n"),
     ])
 }
 
 // The line of a sum of steps that an undo item can't have.
 fn undo_sum_line<'a>(sum: i32) -> LineParts<'a>
-    ensures { map part_of result.items ≡ refusal_parts_lem (Refusal.UndoRange sum) [] }
+    ensures { map line_part_of result.items ≡ refusal_parts (Refusal.UndoRange sum) [] }
 {
     line(&[
-        Part::Text("undo sum "),
-        Part::Signed(sum),
-        Part::Text(" is out of range\n"),
+        LinePart::Text("undo sum "),
+        LinePart::Signed(sum),
+        LinePart::Text(" is out of range\n"),
     ])
 }
 
 // The line of two positions between which there is no frame, or of which one is after the end.
 fn range_line<'a>(from: u64, to: u64, frames: u64) -> LineParts<'a>
-    ensures { map part_of result.items ≡ refusal_parts_lem (Refusal.Range from to frames) [] }
+    ensures { map line_part_of result.items ≡ refusal_parts (Refusal.Range from to frames) [] }
 {
     line(&[
-        Part::Text("range "),
-        Part::Number(from),
-        Part::Text(" to "),
-        Part::Number(to),
-        Part::Text(" of "),
-        Part::Number(frames),
-        Part::Text(" frames\n"),
+        LinePart::Text("range "),
+        LinePart::Number(from),
+        LinePart::Text(" to "),
+        LinePart::Number(to),
+        LinePart::Text(" of "),
+        LinePart::Number(frames),
+        LinePart::Text(" frames\n"),
     ])
 }
 
 // The same of two places between which there is no sample.
 fn span_line<'a>(from: u64, to: u64, samples: u64) -> LineParts<'a>
-    ensures { map part_of result.items ≡ refusal_parts_lem (Refusal.Span from to samples) [] }
+    ensures { map line_part_of result.items ≡ refusal_parts (Refusal.Span from to samples) [] }
 {
     line(&[
-        Part::Text("range "),
-        Part::Number(from),
-        Part::Text(" to "),
-        Part::Number(to),
-        Part::Text(" of "),
-        Part::Number(samples),
-        Part::Text(" samples\n"),
+        LinePart::Text("range "),
+        LinePart::Number(from),
+        LinePart::Text(" to "),
+        LinePart::Number(to),
+        LinePart::Text(" of "),
+        LinePart::Number(samples),
+        LinePart::Text(" samples\n"),
     ])
 }
 
 // The parts of the line of a fault of the cue sheet with this name. Want of memory isn't a fault of a sheet and never comes here.
 fn sheet_parts<'a>(name: &'a str, fault: &CueFault) -> LineParts<'a>
-    ensures { map part_of result.items ≡ Name name.now ∷ sheet_parts_lem fault.now }
+    ensures { map line_part_of result.items ≡ Name name.now ∷ sheet_parts fault.now }
 {
     match *fault {
         CueFault::Line(number) => named_line(name, ": bad line ", u64::from(number), "\n"),
@@ -299,24 +299,24 @@ fn sheet_parts<'a>(name: &'a str, fault: &CueFault) -> LineParts<'a>
             named_line(name, ": not rising at line ", u64::from(number), "\n")
         }
         CueFault::NoTracks => name_line(name, ": no tracks\n"),
-        CueFault::Memory => line(&[Part::Name(name)]),
+        CueFault::Memory => line(&[LinePart::Name(name)]),
     }
 }
 
 // Those of a fault of the sheet of a fade.
 fn curve_parts<'a>(name: &'a str, fault: &EnvelopeFault) -> LineParts<'a>
-    ensures { map part_of result.items ≡ Name name.now ∷ curve_parts_lem fault.now }
+    ensures { map line_part_of result.items ≡ Name name.now ∷ curve_parts fault.now }
 {
     match *fault {
         EnvelopeFault::Line(number) => named_line(name, ": bad line ", u64::from(number), "\n"),
         EnvelopeFault::NoPoints => name_line(name, ": no points\n"),
-        EnvelopeFault::Memory => line(&[Part::Name(name)]),
+        EnvelopeFault::Memory => line(&[LinePart::Name(name)]),
     }
 }
 
 // The parts of the line of a refusal, by the names of the inputs.
 fn refusal_parts<'a>(refusal: &Refusal, inputs: &[&'a str]) -> LineParts<'a>
-    ensures { map part_of result.items ≡ refusal_parts_lem refusal.now
+    ensures { map line_part_of result.items ≡ refusal_parts refusal.now
         (map (λ name. name.now) inputs.now) }
 {
     let sheet = name_in(inputs, SHEET);
@@ -353,14 +353,14 @@ fn refusal_parts<'a>(refusal: &Refusal, inputs: &[&'a str]) -> LineParts<'a>
 
 // The parts of the line of a fault, by the names of the inputs and of the outputs.
 fn fault_parts<'a>(fault: &EditFault, inputs: &[&'a str], outputs: Outputs<'a>) -> LineParts<'a>
-    ensures { map part_of result.items ≡ fault_parts_lem fault.now
-        (map (λ name. name.now) inputs.now) (names_in outputs.entry) }
+    ensures { map line_part_of result.items ≡ fault_parts fault.now
+        (map (λ name. name.now) inputs.now) (names_of_outputs outputs.entry) }
 {
     match *fault {
         EditFault::EqualNames(place) => name_line(name_in(inputs, place), ": input is an output\n"),
         EditFault::Input(place, fault) => input_parts(name_in(inputs, place), &fault),
         EditFault::Refused(refusal) => refusal_parts(&refusal, inputs),
-        EditFault::Write(place) => line(&[outputs.named(place), Part::Text(": write fault\n")]),
+        EditFault::Write(place) => line(&[outputs.named(place), LinePart::Text(": write fault\n")]),
         EditFault::Sent => text_line("standard output: write fault\n"),
         EditFault::Memory => text_line("out of memory\n"),
     }
@@ -418,7 +418,7 @@ fn fault_parts<'a>(fault: &EditFault, inputs: &[&'a str], outputs: Outputs<'a>) 
 pub fn send_fault<E: Sink>(err: &mut E, fault: &EditFault, inputs: &[&str], outputs: &Outputs)
     ensures { GotLine (E.heard err.old).sent (E.heard err.new).sent (E.heard err.old).faults
         (E.heard err.new).faults (fault_line fault.now (map (λ name. name.now) inputs.now)
-        (names_in outputs.now)) }
+        (names_of_outputs outputs.now)) }
 {
     send_line(err, fault_parts(fault, inputs, *outputs).as_slice());
 }

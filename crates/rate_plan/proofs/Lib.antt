@@ -1,5 +1,5 @@
-pub mod FitLaws
-pub mod PlacingLaws
-pub mod LargestLaw
-pub mod LeastMenuPlan
-pub mod MenuLaws
+pub mod FitLemmas
+pub mod PlacingLemmas
+pub mod LargestSlotLemmas
+pub mod LeastMenuPlanLemmas
+pub mod MenuLemmas

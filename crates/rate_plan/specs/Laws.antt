@@ -4,8 +4,8 @@ use Rattle.std.specs.Prelude.{◌≡◌, ◌≤◌}
 use Rattle.frame_header.specs.Fields.{ClassFields, IsClass, IsSlot, SlotFields}
 use Rattle.frame_header.specs.{Slots.{all_slots, largest_slot}, Tables.window_of}
 use Rattle.rate_plan.specs.LeastMenuPlan.{least_menu_plan}
-use Rattle.rate_plan.specs.Menus.{AreAscending, IsMenuPlan, IsUnfit}
-use Rattle.slot_plan.specs.{Layouts.IsFeasible, Parts.{AreOfClass, own_frame}}
+use Rattle.rate_plan.specs.Menus.{HasAscendingAreas, IsFirstUnfitFrame, IsMenuPlan}
+use Rattle.slot_plan.specs.{Layouts.HasLayout, Parts.{AreNeedsOfClass, own_frame}}
 use Rattle.slot_plan.specs.declared.needs.{Need.Need, Placed.Placed}
 
 -- Frames of one class that have a layout in their own slots after
@@ -13,17 +13,17 @@ use Rattle.slot_plan.specs.declared.needs.{Need.Need, Placed.Placed}
 abbrev pub LargestSlotFits : Type 0
 LargestSlotFits =
     (class : ClassFields) (menu : List SlotFields) (needs : List Need) (i : ℕ) → IsClass class
-    → AreOfClass class needs → All (λ need. IsSlot need.header.slot) needs
+    → AreNeedsOfClass class needs → All (λ need. IsSlot need.header.slot) needs
     → Contains menu largest_slot
-    → IsFeasible (window_of class.version) (window_of class.version) (map own_frame needs)
-    → IsUnfit (window_of class.version) menu needs i → ⊥
+    → HasLayout (window_of class.version) (window_of class.version) (map own_frame needs)
+    → IsFirstUnfitFrame (window_of class.version) menu needs i → ⊥
 
 -- All slots from one on and before another, such as those from one bit
 -- rate to another, are a menu; those up to the last have the largest.
 abbrev pub SlicesAreMenus : Type 0
 SlicesAreMenus =
     (class : ClassFields) (from to : ℕ) → IsClass class → from < to → to ≤ 28
-    → AreAscending class (slice_range all_slots from to)
+    → HasAscendingAreas class (slice_range all_slots from to)
     × (1 ≤ length (slice_range all_slots from to))
     × (to ≡ 28 → Contains (slice_range all_slots from to) largest_slot)
 
@@ -32,7 +32,8 @@ SlicesAreMenus =
 abbrev pub LeastMenuPlanIsThePlan : Type 0
 LeastMenuPlanIsThePlan =
     (window : ℕ) (class : ClassFields) (menu : List SlotFields) (needs : List Need)
-    → AreOfClass class needs → 1 ≤ length needs → AreAscending class menu → 1 ≤ length menu
-    → ((placed : List Placed)
+    → AreNeedsOfClass class needs → 1 ≤ length needs → HasAscendingAreas class menu
+    → 1 ≤ length menu → ((placed : List Placed)
     → IsMenuPlan window menu needs placed ↔ (least_menu_plan window menu needs ≡ Ok placed))
-    × ((i : ℕ) → IsUnfit window menu needs i ↔ (least_menu_plan window menu needs ≡ Err i))
+    × ((i : ℕ)
+    → IsFirstUnfitFrame window menu needs i ↔ (least_menu_plan window menu needs ≡ Err i))

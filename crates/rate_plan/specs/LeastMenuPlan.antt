@@ -5,30 +5,31 @@ use Rattle.std.specs.Prelude.{Bool, Err, false, find, IfErr, IfOk, is_none, leng
 use Rattle.std.specs.Prelude.{MatchResult, Ok, ok_or, Option, Result, take, true, unwrap_or, ℕ, ◌+◌}
 use Rattle.std.specs.Prelude.{◌≡◌}
 use Rattle.frame_header.specs.Fields.{SlotFields}
-use Rattle.rate_plan.specs.Menus.{IsMenuPlan, items_from, Refuses}
+use Rattle.rate_plan.specs.Menus.{IsMenuPlan, menu_items, RefusesMenu}
 use Rattle.rate_plan.specs.declared.fault.RateFault.{RateFault, TheVariants.{Memory, Unfit}}
-use Rattle.slot_plan.specs.{LeastPlan.{first_list, least_of}, Parts.window_in, Plans.entries}
+use Rattle.slot_plan.specs.{LeastPlan.{first_list, least_placement}, Parts.window_in, Plans.entries}
 use Rattle.slot_plan.specs.declared.needs.{Need.Need, Placed.Placed, Plan.Plan}
 
 -- the first list without a lead-in, or else the first with one
-abbrev pub least_from : ℕ → List SlotFields → List Need → Option (List Placed)
-least_from window menu needs = option_or (least_of window (items_from false menu needs))
-    (least_of window (items_from true menu needs))
+abbrev pub least_menu_placement : ℕ → List SlotFields → List Need → Option (List Placed)
+least_menu_placement window menu needs =
+    option_or (least_placement window (menu_items false menu needs))
+    (least_placement window (menu_items true menu needs))
 
 -- there is no list for the frames up to this one, even after a lead-in
-abbrev pub is_unfit : ℕ → List SlotFields → List Need → ℕ → Bool
-is_unfit window menu needs i =
-    is_none (first_list window (items_from true menu (take (i + 1) needs)))
+abbrev pub is_unfit_frame : ℕ → List SlotFields → List Need → ℕ → Bool
+is_unfit_frame window menu needs i =
+    is_none (first_list window (menu_items true menu (take (i + 1) needs)))
 
 -- the first such frame
-abbrev pub first_unfit_in : ℕ → List SlotFields → List Need → ℕ
-first_unfit_in window menu needs =
-    unwrap_or (find (is_unfit window menu needs) (range_with_len 0 (length needs))) 0
+abbrev pub first_unfit_frame : ℕ → List SlotFields → List Need → ℕ
+first_unfit_frame window menu needs =
+    unwrap_or (find (is_unfit_frame window menu needs) (range_with_len 0 (length needs))) 0
 
 -- the plan, or the first unfit frame
 unfoldable pub least_menu_plan : ℕ → List SlotFields → List Need → Result (List Placed) ℕ
 least_menu_plan window menu needs =
-    ok_or (least_from window menu needs) (first_unfit_in window menu needs)
+    ok_or (least_menu_placement window menu needs) (first_unfit_frame window menu needs)
 
 -- what a fault says where this is the plan, or the first unfit frame
 abbrev pub IsMenuFault : Result (List Placed) ℕ → RateFault → Type 0
@@ -41,7 +42,7 @@ pub record IsMenuAnswer (menu : List SlotFields) (needs : List Need)
   -- a plan is that of the menu
   pub plan : IfOk result (λ plan. IsMenuPlan (window_in needs) menu needs (entries plan))
   -- a refusal names the first unfit frame
-  pub refusal : IfErr result (Refuses (window_in needs) menu needs)
+  pub refusal : IfErr result (RefusesMenu (window_in needs) menu needs)
   -- both are those of the first list
   pub least : MatchResult result (λ plan. least_menu_plan (window_in needs) menu needs
       ≡ Ok (entries plan)) (IsMenuFault (least_menu_plan (window_in needs) menu needs))

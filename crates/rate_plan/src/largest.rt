@@ -1,7 +1,7 @@
 //! The largest areas of a menu.
 ghost use Rattle.std.specs.Prelude.{◌≡◌};
 ghost use Rattle.rate_plan.specs.Menus.{IsMenuOf};
-ghost use Rattle.rate_plan.specs.LargestAreas.{largest_for, AreLargest};
+ghost use Rattle.rate_plan.specs.LargestAreas.{menu_largest_area, AreLargestAreas};
 
 use frame_header::{Class, Slot};
 use slot_plan::largest_area_of;
@@ -17,7 +17,7 @@ impl Largest {
     /// Those of this menu.
     pub(crate) fn of_menu(class: Class, menu: &[Slot]) -> Largest
         requires { IsMenuOf class menu.now }
-        ensures { AreLargest class menu.now result }
+        ensures { AreLargestAreas class menu.now result }
     {
         Largest {
             unprotected: largest_area_of(class, false, menu),
@@ -27,7 +27,7 @@ impl Largest {
 
     /// The largest area of a frame, by whether it has a check word.
     pub(crate) fn area(self, protected: bool) -> u32
-        ensures { result ≡ largest_for self protected }
+        ensures { result ≡ menu_largest_area self protected }
     {
         if protected {
             self.protected

@@ -1,7 +1,7 @@
 //! A menu as placing asks it.
-ghost use Rattle.slot_plan.specs.Parts.{areas_for};
-ghost use Rattle.slot_plan.specs.Reserve.{greatest};
-ghost use Rattle.rate_plan.specs.Menus.{from_menu};
+ghost use Rattle.slot_plan.specs.Parts.{header_areas};
+ghost use Rattle.slot_plan.specs.Reserve.{greatest_number};
+ghost use Rattle.rate_plan.specs.Menus.{menu_choices};
 
 use frame_header::{Header, Slot};
 use slot_plan::{Offer, SlotTable};
@@ -13,10 +13,10 @@ pub(crate) struct Menu<'a> {
 }
 
 impl<'a> Offer for Menu<'a> {
-    ghost slots_of = { λ m. from_menu m.slots.now };
+    ghost slots_of = { λ m. menu_choices m.slots.now };
 
     // The largest.
-    ghost some_area_of = { λ m h. greatest (areas_for (from_menu m.slots.now) h) };
+    ghost some_area_of = { λ m h. greatest_number (header_areas (menu_choices m.slots.now) h) };
 
     ghost lead_slots_of = { λ m. m.slots.now };
 

@@ -2,10 +2,10 @@
 ghost use Rattle.std.specs.Prelude.{◌≤◌, true, length, IfOk};
 ghost use Rattle.frame_header.specs.Tables.{window_of};
 ghost use Rattle.frame_header.specs.Limits.{most_frames};
-ghost use Rattle.slot_plan.specs.Parts.{AreOfOneClass};
+ghost use Rattle.slot_plan.specs.Parts.{AreNeedsOfOneClass};
 ghost use Rattle.slot_plan.specs.Plans.{entries};
 ghost use Rattle.rate_plan.specs.LeastMenuPlan.{IsMenuAnswer};
-ghost use Rattle.rate_plan.specs.Menus.{IsMenuOf, AreNeedsOf, IsMenu, CanBeLaidFrom, IsMenuPlan};
+ghost use Rattle.rate_plan.specs.Menus.{IsMenuOf, ArePlannableNeeds, IsMenu, CanBeLaidFromMenu, IsMenuPlan};
 
 use crate::fault::RateFault;
 use crate::menu::Menu;
@@ -19,9 +19,9 @@ use std::alloc::{AllocError, Global};
 /// # Errors
 /// Where there is no memory.
 fn fit_plan(alloc: Global, class: Class, needs: &[Need], menu: &[Slot]) -> Result<Plan, AllocError>
-    requires needs { AreNeedsOf class needs.now }
+    requires needs { ArePlannableNeeds class needs.now }
     requires menu { IsMenuOf class menu.now }
-    requires fits { CanBeLaidFrom (window_of class.version) true menu.now needs.now }
+    requires fits { CanBeLaidFromMenu (window_of class.version) true menu.now needs.now }
     ensures { IfOk result (λ plan.
         IsMenuPlan (window_of class.version) menu.now needs.now (entries plan)) }
 {
@@ -46,7 +46,7 @@ fn fit_plan(alloc: Global, class: Class, needs: &[Need], menu: &[Slot]) -> Resul
 /// `Unfit` exactly where no list has a layout, even after a lead-in, with the first frame up to which none
 /// has. `Memory` where there is no memory.
 pub fn rate_plan(alloc: Global, needs: &[Need], menu: &[Slot]) -> Result<Plan, RateFault>
-    requires class { AreOfOneClass needs.now }
+    requires class { AreNeedsOfOneClass needs.now }
     requires some { 1 ≤ length needs.now }
     requires few { length needs.now ≤ most_frames }
     requires slots { 1 ≤ length menu.now }

@@ -2,7 +2,7 @@
 //! slot.
 ghost use Rattle.std.specs.Prelude.{true, MatchOption};
 ghost use Rattle.frame_header.specs.Tables.{window_of};
-ghost use Rattle.rate_plan.specs.Menus.{IsMenuOf, AreNeedsOf, CanBeLaidFrom, IsUnfit};
+ghost use Rattle.rate_plan.specs.Menus.{IsMenuOf, ArePlannableNeeds, CanBeLaidFromMenu, IsFirstUnfitFrame};
 
 use crate::largest::Largest;
 use frame_header::{Class, Slot};
@@ -10,11 +10,11 @@ use slot_plan::{Need, free_behind};
 
 /// The first frame up to which the frames have no layout, even after a lead-in; `None` if all have one.
 pub(crate) fn first_unfit(class: Class, needs: &[Need], menu: &[Slot]) -> Option<u32>
-    requires needs { AreNeedsOf class needs.now }
+    requires needs { ArePlannableNeeds class needs.now }
     requires menu { IsMenuOf class menu.now }
     ensures { MatchOption result
-        (CanBeLaidFrom (window_of class.version) true menu.now needs.now)
-        (λ i. IsUnfit (window_of class.version) menu.now needs.now i) }
+        (CanBeLaidFromMenu (window_of class.version) true menu.now needs.now)
+        (λ i. IsFirstUnfitFrame (window_of class.version) menu.now needs.now i) }
 {
     let window = class.window();
     let largest = Largest::of_menu(class, menu);

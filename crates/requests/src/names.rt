@@ -1,7 +1,7 @@
 //! The names of pieces.
 ghost use Rattle.std.specs.Prelude.{◌≡◌, ◌<◌, ◌≤◌, IfOk, ◌+◌, [], ◌∷◌, flat_map, string_bytes, bytes_eq};
 ghost use Rattle.std.specs.List.{list_any};
-ghost use Rattle.requests.specs.Names.{piece_name as piece_name_lem, piece_names};
+ghost use Rattle.requests.specs.Names.{piece_name, piece_names};
 
 use std::alloc::{AllocError, Global};
 
@@ -23,7 +23,7 @@ fn digit<'a>(number: u8) -> &'a str
 /// It takes no memory.
 pub fn name_parts<'a>(prefix: &'a str, number: u8) -> [&'a str; 4]
     requires { number ≤ 99 }
-    ensures { flat_map (λ part. part.now) result ≡ piece_name_lem prefix.now number }
+    ensures { flat_map (λ part. part.now) result ≡ piece_name prefix.now number }
 {
     [prefix, digit(number / 10), digit(number % 10), ".mp3"]
 }
@@ -31,7 +31,7 @@ pub fn name_parts<'a>(prefix: &'a str, number: u8) -> [&'a str; 4]
 /// The name of the piece with this number, which is at most 99. An error where there is no memory.
 pub fn piece_name(alloc: Global, prefix: &str, number: u8) -> Result<String, AllocError>
     requires { number ≤ 99 }
-    ensures { IfOk result (λ name. string_bytes name ≡ piece_name_lem prefix.now number) }
+    ensures { IfOk result (λ name. string_bytes name ≡ piece_name prefix.now number) }
 {
     name_parts(prefix, number).concat(alloc)
 }
@@ -53,7 +53,7 @@ fn is_joined(name: &[u8], parts: &[&str]) -> bool
 /// Whether this is the name of the piece with this number.
 fn is_name_of(prefix: &str, number: u8, name: &str) -> bool
     requires { number ≤ 99 }
-    ensures { result ≡ bytes_eq name.now (piece_name_lem prefix.now number) }
+    ensures { result ≡ bytes_eq name.now (piece_name prefix.now number) }
 {
     is_joined(name.as_bytes(), &name_parts(prefix, number))
 }

@@ -1,3 +1,3 @@
 -- The lemmas of this crate.
-pub mod WindowLaws
-pub mod FrameLaws
+pub mod WindowLemmas
+pub mod FrameLemmas

@@ -6,18 +6,19 @@ use Rattle.reservoir.specs.Window.{IsWindowOver, window_size}
 use Rattle.side_info.specs.{Side.SideFits, declared.side.Side.Side}
 
 -- all areas, one after the other
-abbrev pub joined : List (List ℕ) → List ℕ
-joined [] = []
-joined (area ∷ areas) = area ++ joined areas
+abbrev pub joined_areas : List (List ℕ) → List ℕ
+joined_areas [] = []
+joined_areas (area ∷ areas) = area ++ joined_areas areas
 
 -- what is held after these areas, pushed one after another
-abbrev pub held_behind : List ℕ → List (List ℕ) → List ℕ
-held_behind held [] = held
-held_behind held (area ∷ areas) = held_behind (keep_last window_size (held ++ area)) areas
+abbrev pub held_after_areas : List ℕ → List (List ℕ) → List ℕ
+held_after_areas held [] = held
+held_after_areas held (area ∷ areas) = held_after_areas (keep_last window_size (held ++ area)) areas
 
 -- a window holds the end of all areas that were pushed, one after another
 abbrev pub AreasAreHeld : Type 0
-AreasAreHeld = (areas : List (List ℕ)) → IsWindowOver (held_behind [] areas) (joined areas)
+AreasAreHeld =
+    (areas : List (List ℕ)) → IsWindowOver (held_after_areas [] areas) (joined_areas areas)
 
 -- a frame's area and its main_data_begin together have at most 1,939 bytes, so no frame's main data
 -- begin further back than a window

@@ -23,7 +23,7 @@ abbrev pub main_bits : List ℕ → ℕ → ℕ → List ℕ
 main_bits main start count = take count (drop (8 * start) (bits main))
 
 -- as few bytes as hold so many bits, and after these bits zeros to the end of the last byte
-pub record ArePacked (packed : List ℕ) (count : ℕ) (bs : List ℕ) : Type 0 where
+pub record AreBitsPacked (packed : List ℕ) (count : ℕ) (bs : List ℕ) : Type 0 where
   pub few : length packed ≡ (count + 7) / 8
   pub same : bits packed ≡ bs ++ replicate (8 * length packed - count) 0
 

@@ -2,7 +2,7 @@
 ghost use Rattle.std.specs.Prelude.{◌≡◌, ℕ, ◌+◌, ◌-◌, ◌*◌, ◌/◌, ◌<◌, ◌≤◌, List, [], ◌++◌, length, take, drop, get_or, IfOk};
 ghost use Rattle.circular_buffer.specs.Buffer.{keep_last};
 ghost use Rattle.bit_fields.specs.Bits.{AreBytes};
-ghost use Rattle.reservoir.specs.Window.{IsWindowOver, AreLastOf, main_bits, ArePacked, byte_of, window_size};
+ghost use Rattle.reservoir.specs.Window.{IsWindowOver, AreLastOf, main_bits, AreBitsPacked, byte_of, window_size};
 
 use crate::payload::Payload;
 use arrayvec::ArrayVec;
@@ -77,7 +77,7 @@ impl Window {
     pub fn payload(&self, area: u32, begin: u32, bits: u32, into: &mut ArrayVec<u8, 2048>)
         requires held { area + begin ≤ length self.now }
         requires within { bits ≤ 8 * (area + begin) }
-        ensures payload { (main : List ℕ) → IsWindowOver self.now main → ArePacked into.new.items
+        ensures payload { (main : List ℕ) → IsWindowOver self.now main → AreBitsPacked into.new.items
             bits (main_bits main (length main - area - begin) bits) }
         ensures bytes { AreBytes into.new.items }
         ensures few { length into.new.items ≤ window_size }
@@ -94,7 +94,7 @@ impl Window {
         requires held { area + begin ≤ length self.now }
         requires within { bits ≤ 8 * (area + begin) }
         ensures payload { (main : List ℕ) → IsWindowOver self.now main
-            → ArePacked result bits (main_bits main (length main - area - begin) bits) }
+            → AreBitsPacked result bits (main_bits main (length main - area - begin) bits) }
         ensures bytes { AreBytes result }
         ensures few { length result ≤ window_size }
     {
@@ -118,7 +118,7 @@ impl Window {
         requires within { bits ≤ 8 * (begin + length area.now) }
         requires few { begin + length area.now ≤ window_size }
         requires short { length before.now + length area.now ≤ 4096 }
-        ensures payload { (main : List ℕ) → AreLastOf self.now main → ArePacked result bits
+        ensures payload { (main : List ℕ) → AreLastOf self.now main → AreBitsPacked result bits
             (main_bits (main ++ (before.now ++ area.now))
             (length main + length before.now - begin) bits) }
         ensures bytes { AreBytes result }
@@ -143,7 +143,7 @@ impl Window {
         requires few { bits < 8 }
         requires within { 8 * at + bits
             ≤ 8 * (length self.now + length before.now + length area.now) }
-        ensures packed { ArePacked (byte_of result) bits
+        ensures packed { AreBitsPacked (byte_of result) bits
             (main_bits (self.now ++ (before.now ++ area.now)) at bits) }
         ensures bytes { AreBytes (byte_of result) }
     {

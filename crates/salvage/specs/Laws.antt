@@ -1,16 +1,16 @@
 -- Laws of what is read of damaged files.
 use Rattle.std.specs.Prelude.{length, List, Ok, ℕ, ◌≡◌, ◌≤◌}
-use Rattle.salvage.specs.Damaged.{damaged, damaged_of, DamagedFields, gap_between, most_frames}
-use Rattle.salvage.specs.Stream.{salvaged_stream}
-use Rattle.sync_survey.specs.Faults.{stream_of_survey, surveyed, SurveyFields}
+use Rattle.salvage.specs.DamagedFiles.{damaged_fields, damaged_of, DamagedFields, gap_between}
+use Rattle.salvage.specs.{DamagedFiles.most_frames, Stream.salvaged_stream}
+use Rattle.sync_survey.specs.Faults.{stream_of_survey, survey_fields, SurveyFields}
 
 -- of a file without fault all is read that its survey tells,
 -- and nothing is missing except the junk before the first frame
 abbrev pub SalvageKeepsStreams : Type 0
 SalvageKeepsStreams =
-    (file : List ℕ) (allowed : ℕ) (s : SurveyFields) → surveyed file allowed ≡ Ok s
+    (file : List ℕ) (allowed : ℕ) (s : SurveyFields) → survey_fields file allowed ≡ Ok s
     → length s.frames ≤ most_frames
-    → damaged file ≡ Ok (record { survey = s; gaps = gap_between s.junk s.first })
+    → damaged_fields file ≡ Ok (record { survey = s; gaps = gap_between s.junk s.first })
 
 -- The stream that the survey of what is read tells is that of the runs of frames between gaps: the
 -- main data of each frame that is kept are those of its run, and each other one is an empty frame.

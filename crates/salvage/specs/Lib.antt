@@ -1,15 +1,15 @@
 -- What the contracts of this crate cite.
-pub mod Usable
+pub mod UsableFrames
 pub mod Walk
-pub mod Sound
-pub mod Damaged
-pub mod Judged
+pub mod SoundFrames
+pub mod DamagedFiles
+pub mod JudgedFrames
 pub mod Steps
-pub mod Said
+pub mod RawHeader
 pub mod Progress
 pub mod Answers
 pub mod Text
 pub mod Stream
 pub mod Laws
-pub mod Kept
-pub mod Mended
+pub mod KeptFrames
+pub mod EmptiedFrames

@@ -2,17 +2,17 @@
 use Rattle.std.specs.Prelude.{Bool, drop, false, List, None, Ok, Option, Some, true, ℕ, ◌%◌, ◌&&◌}
 use Rattle.std.specs.Prelude.{◌+◌, ◌/◌, ◌==◌, ◌≡◌, ◌≤◌, ◌⊎◌}
 use Rattle.frame_header.specs.{Fields.HeaderFields, Tables.{class_of, length_of}}
-use Rattle.salvage.specs.{Usable.is_usable, Walk.item_read, declared.usable.Role.Role}
+use Rattle.salvage.specs.{UsableFrames.is_usable, Walk.item_read, declared.usable.Role.Role}
 use Rattle.sync_survey.specs.{Items.{header_front, item_front}, Start.is_anchor}
 use Rattle.sync_survey.specs.declared.{items.Item.{Item, TheVariants.Frame}, runs.Step.Step}
 
 -- a header may begin with these two bytes: by eight bits of the sync word and the two of the layer
-abbrev pub may_begin : ℕ → ℕ → Bool
-may_begin first second = (first == 255) && (second / 2 % 4 == 1)
+abbrev pub may_begin_header : ℕ → ℕ → Bool
+may_begin_header first second = (first == 255) && (second / 2 % 4 == 1)
 
 -- how many bytes of a look are searched at once: 32 are seen after each of them
-abbrev pub reach : ℕ
-reach = 4064
+abbrev pub search_reach : ℕ
+search_reach = 4064
 
 -- no header is at this place of a look
 abbrev pub HasNoHeader : List ℕ → ℕ → Type 0
@@ -25,16 +25,16 @@ IsUnusable bytes = (role : Role) (offset : ℕ) (h : HeaderFields) → header_fr
 
 -- No usable anchored frame is at this place of a look at the offset: there is no header, or
 -- the look shows that there is no anchor at the frame's end, or that the frame isn't usable.
-abbrev pub IsBare : Role → ℕ → List ℕ → ℕ → Type 0
-IsBare role offset front k =
+abbrev pub HasNoUsableFrame : Role → ℕ → List ℕ → ℕ → Type 0
+HasNoUsableFrame role offset front k =
     (h : HeaderFields) → item_front (drop k front) ≡ Frame h
-    → (k + length_of (class_of h) h.slot ≤ reach)
+    → (k + length_of (class_of h) h.slot ≤ search_reach)
     × ((is_anchor (class_of h) (item_front (drop (k + length_of (class_of h) h.slot) front))
     ≡ false) ⊎ (is_usable role (record { offset = offset + k; header = h }) (drop k front) ≡ false))
 
 -- whatever the look's offset is, and the frame's role
-abbrev pub IsPlainlyBare : List ℕ → ℕ → Type 0
-IsPlainlyBare front k = (role : Role) (offset : ℕ) → IsBare role offset front k
+abbrev pub IsRuledOut : List ℕ → ℕ → Type 0
+IsRuledOut front k = (role : Role) (offset : ℕ) → HasNoUsableFrame role offset front k
 
 -- a whole item at an offset is read, by the bytes
 -- from there on: it isn't a frame, or is a usable one
@@ -43,6 +43,6 @@ admits_item role at (Frame h) bytes = is_usable role (record { offset = at; head
 admits_item role at item bytes = true
 
 -- this item is read there, or none is
-abbrev pub IsRead : List ℕ → Role → ℕ → Option Step → Type 0
-IsRead file role at None = item_read file role at ≡ None
-IsRead file role at (Some step) = item_read file role at ≡ Some step.item
+abbrev pub IsItemRead : List ℕ → Role → ℕ → Option Step → Type 0
+IsItemRead file role at None = item_read file role at ≡ None
+IsItemRead file role at (Some step) = item_read file role at ≡ Some step.item

@@ -1,6 +1,7 @@
 -- The stream of what is read of a damaged file.
 use Rattle.std.specs.Prelude.{flat_map, List, None, Option, Some, ℕ, [], ◌++◌}
-use Rattle.salvage.specs.{Damaged.things_from, Sound.{FrameRuns, judged, runs_of}, Walk.first_frame}
+use Rattle.salvage.specs.{DamagedFiles.things_from, SoundFrames.{FrameRuns, judged_rows, runs_of}}
+use Rattle.salvage.specs.Walk.{first_frame}
 use Rattle.sync_survey.specs.{MainData.{main_bytes, rows_of, stream_frames, StreamFrame}, Row.Row}
 use Rattle.sync_survey.specs.{Start.front_end_of, Walk.head_of, declared.places.Head.Head}
 use Rattle.sync_survey.specs.declared.places.PlacedFrame.{PlacedFrame}
@@ -12,8 +13,8 @@ run_stream file head rows = stream_frames (main_bytes file head rows) head rows
 
 -- those of all runs; the head's area counts in the first
 abbrev pub runs_stream : List ℕ → Option Head → FrameRuns → List StreamFrame
-runs_stream file head runs = run_stream file head (judged head (rows_of file runs.first))
-    ++ flat_map (λ run. run_stream file None (judged None (rows_of file run))) runs.later
+runs_stream file head runs = run_stream file head (judged_rows head (rows_of file runs.first))
+    ++ flat_map (λ run. run_stream file None (judged_rows None (rows_of file run))) runs.later
 
 -- from this first frame on; without one there is none
 abbrev pub stream_from : List ℕ → Option PlacedFrame → List StreamFrame

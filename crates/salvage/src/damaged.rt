@@ -1,6 +1,6 @@
 //! What is read of a damaged file.
 ghost use Rattle.std.specs.Prelude.{◌≡◌};
-ghost use Rattle.salvage.specs.Damaged.{tells_of};
+ghost use Rattle.salvage.specs.DamagedFiles.{damaged_view};
 
 use crate::gap::Gap;
 use sync_survey::{Head, Piece, Row, Survey};
@@ -23,28 +23,28 @@ impl Damaged {
 
     /// The frames in their order, without the head. `lost` marks each that becomes an empty one.
     pub fn frames(&self) -> &[Row]
-        ensures { result.now ≡ (tells_of self.now).survey.frames }
+        ensures { result.now ≡ (damaged_view self.now).survey.frames }
     {
         self.survey.frames()
     }
 
     /// The gaps by their offsets.
     pub fn gaps(&self) -> &[Gap]
-        ensures { result.now ≡ (tells_of self.now).gaps }
+        ensures { result.now ≡ (damaged_view self.now).gaps }
     {
         &self.gaps
     }
 
     /// The blocks by their offsets, without those in gaps.
     pub fn blocks(&self) -> &[Piece]
-        ensures { result.now ≡ (tells_of self.now).survey.blocks }
+        ensures { result.now ≡ (damaged_view self.now).survey.blocks }
     {
         self.survey.blocks()
     }
 
     /// The head, if the first frame is one.
     pub fn head(&self) -> Option<Head>
-        ensures { result ≡ (tells_of self.now).survey.head }
+        ensures { result ≡ (damaged_view self.now).survey.head }
     {
         self.survey.head()
     }

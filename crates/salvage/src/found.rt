@@ -4,22 +4,22 @@ ghost use Rattle.frame_header.specs.Fields.{HeaderFields};
 ghost use Rattle.sync_survey.specs.Faults.{longest_file};
 ghost use Rattle.sync_survey.specs.Items.{header_front, item_front};
 ghost use Rattle.sync_survey.specs.Looks.{ReachArea};
-ghost use Rattle.salvage.specs.Damaged.{most_frames};
-ghost use Rattle.salvage.specs.Judged.{judged_by, before_next, AddsItem, AddsGap, IsPastMost};
+ghost use Rattle.salvage.specs.DamagedFiles.{most_frames};
+ghost use Rattle.salvage.specs.JudgedFrames.{row_judged_in, state_after_frame, AddsItem, AddsGap, IsPastMost};
 
 use crate::gap::Gap;
 use frame_header::{Header, MOST_FRAMES};
 use std::alloc::AllocError;
-use sync_survey::{Before, Item, Piece, Row, SurveyFault};
+use sync_survey::{Item, Piece, ReservoirState, Row, SurveyFault};
 
 /// The frames that were found and judged, the blocks, the gaps, the areas since the last gap, and the
 /// offset up to which the file was read.
 #[derive(Drop)]
-pub(crate) struct Found {
+pub(crate) struct DamagedSoFar {
     pub(crate) rows: Vec<Row>,
     pub(crate) pieces: Vec<Piece>,
     pub(crate) gaps: Vec<Gap>,
-    pub(crate) before: Before,
+    pub(crate) before: ReservoirState,
     pub(crate) at: u64,
 }
 
@@ -27,18 +27,18 @@ pub(crate) struct Found {
 /// frame.
 // Later frames and all else are kept by ways of their own, and clang doesn't inline what has several callers.
 #[inline(always)]
-fn mark(before: &Before, header: &Header, row: &mut Row) -> Before
+fn mark(before: &ReservoirState, header: &Header, row: &mut Row) -> ReservoirState
     requires same { header.now ≡ row.old.header }
     requires bound { before.now.place ≤ 2 ^ 62 }
     requires unmarked { row.old.lost ≡ false }
-    ensures row { row.new ≡ judged_by before.now row.old }
-    ensures before { result ≡ before_next before.now row.old }
+    ensures row { row.new ≡ row_judged_in before.now row.old }
+    ensures before { result ≡ state_after_frame before.now row.old }
 {
-    match before.behind(header, row) {
+    match before.judge_frame(header, row) {
         Ok(behind) if !behind.lost => behind.before,
         _ => {
             row.mark(true);
-            Before {
+            ReservoirState {
                 place: before.place + u64::from(header.area()),
                 ended: before.ended,
             }
@@ -46,7 +46,7 @@ fn mark(before: &Before, header: &Header, row: &mut Row) -> Before
     }
 }
 
-impl Found {
+impl DamagedSoFar {
     /// Judges the frame at the offset that was reached, and keeps it. The bytes begin with its own.
     ///
     /// # Errors
@@ -136,7 +136,7 @@ impl Found {
             offset: self.at,
             length: to - self.at,
         })?;
-        self.before = Before { place: 0, ended: 0 };
+        self.before = ReservoirState { place: 0, ended: 0 };
         self.at = to;
         Ok(())
     }

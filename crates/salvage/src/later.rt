@@ -5,7 +5,7 @@ ghost use Rattle.salvage.specs.declared.usable.Role.TheVariants.{Later};
 ghost use Rattle.salvage.specs.Walk.{item_read};
 ghost use Rattle.salvage.specs.Steps.{admits_item};
 
-use crate::usable::has_right_word;
+use crate::usable::has_right_crc;
 use frame_header::Class;
 use sync_survey::{Item, Step, header_of_class};
 
@@ -21,7 +21,7 @@ pub(crate) fn later_frame(class: Class, front: &[u8], at: u64, left: u64) -> Opt
 {
     let header = header_of_class(class, front)?;
     let size = u64::from(class.length_of(header.slot));
-    if size > left || !has_right_word(&header, front) {
+    if size > left || !has_right_crc(&header, front) {
         return None;
     }
     let item = Item::Frame(header);

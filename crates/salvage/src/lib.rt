@@ -9,8 +9,8 @@ mod gap;
 mod later;
 mod laws;
 mod mended;
+mod raw_header;
 mod reading;
-mod said;
 mod search;
 mod usable;
 

@@ -1,11 +1,11 @@
 //! What is read of a damaged file, as it is written: its frames that aren't sound are empty.
 ghost use Rattle.std.specs.Prelude.{◌≡◌, ◌≤◌, ◌++◌, length, option_to_list, IfOk, OnOk};
-ghost use Rattle.sync_survey.specs.Faults.{tells};
-ghost use Rattle.sync_survey.specs.HeadApart.{emptied};
-ghost use Rattle.sync_survey.specs.Survey.{IsLaidOut as IsLaidSurvey};
-ghost use Rattle.salvage.specs.Damaged.{tells_of, most_frames};
-ghost use Rattle.salvage.specs.Progress.{IsLaidOut};
-ghost use Rattle.salvage.specs.Mended.{emptied_as, emptied_from};
+ghost use Rattle.sync_survey.specs.Faults.{survey_view};
+ghost use Rattle.sync_survey.specs.HeadApart.{emptied_survey};
+ghost use Rattle.sync_survey.specs.Survey.{IsSurveyLaidOut};
+ghost use Rattle.salvage.specs.DamagedFiles.{damaged_view, most_frames};
+ghost use Rattle.salvage.specs.Progress.{IsDamagedLaidOut};
+ghost use Rattle.salvage.specs.EmptiedFrames.{emptied_frame, emptied_from};
 
 use crate::damaged::Damaged;
 use crate::gap::Gap;
@@ -42,7 +42,7 @@ pub struct Mended {
 /// Where there is no memory.
 fn push_emptied(emptied: &mut Vec<Emptied>, number: u32, row: &Row) -> Result<(), AllocError>
     ensures { OnOk result (emptied.new.items ≡ emptied.old.items
-        ++ option_to_list (emptied_as number row.now)) }
+        ++ option_to_list (emptied_frame number row.now)) }
 {
     if row.lost() {
         let offset = row.offset();
@@ -70,8 +70,8 @@ fn emptied_of(alloc: Global, rows: &[Row]) -> Result<Vec<Emptied>, AllocError>
 
 /// Makes each frame that isn't sound an empty one. The frames that become empty ones are known.
 fn empty_known(survey: &mut Survey, known: &[Emptied])
-    requires { known.now ≡ emptied_from 0 (tells survey.old).frames }
-    ensures { tells survey.new ≡ emptied (tells survey.old) }
+    requires { known.now ≡ emptied_from 0 (survey_view survey.old).frames }
+    ensures { survey_view survey.new ≡ emptied_survey (survey_view survey.old) }
 {
     if !known.is_empty() {
         survey.empty_lost();
@@ -84,12 +84,12 @@ impl Damaged {
     /// # Errors
     /// Where there is no memory.
     pub fn mend(self, alloc: Global) -> Result<Mended, AllocError>
-        requires { IsLaidOut (tells_of self) }
-        ensures survey { IfOk result (λ m. tells m.survey ≡ emptied (tells_of self).survey) }
-        ensures laid { IfOk result (λ m. IsLaidSurvey (tells m.survey)) }
+        requires { IsDamagedLaidOut (damaged_view self) }
+        ensures survey { IfOk result (λ m. survey_view m.survey ≡ emptied_survey (damaged_view self).survey) }
+        ensures laid { IfOk result (λ m. IsSurveyLaidOut (survey_view m.survey)) }
         ensures emptied { IfOk result (λ m. m.emptied.items
-            ≡ emptied_from 0 (tells_of self).survey.frames) }
-        ensures gaps { IfOk result (λ m. m.gaps.items ≡ (tells_of self).gaps) }
+            ≡ emptied_from 0 (damaged_view self).survey.frames) }
+        ensures gaps { IfOk result (λ m. m.gaps.items ≡ (damaged_view self).gaps) }
     {
         let Damaged { mut survey, gaps } = self;
         let emptied = emptied_of(alloc, &survey.frames)?;

@@ -1,37 +1,37 @@
 //! Reads a damaged file of a folder.
 ghost use Rattle.std.specs.Prelude.{◌≡◌, ◌+◌, ◌<◌, ◌≤◌, ℕ, List, [], None, length, IfOk, IfErr, IfSome, OnOk, ◌^◌};
-ghost use Rattle.outside.specs.Files.{IsThere};
+ghost use Rattle.outside.specs.Files.{IsFileThere};
 ghost use Rattle.outside.specs.Counts.{OnlyReads};
 ghost use Rattle.outside.specs.Seen.{OnFile};
 ghost use Rattle.outside.specs.Feed.{IsFedFrom};
-ghost use Rattle.sync_survey.specs.declared.runs.Part.TheVariants.{Front};
+ghost use Rattle.sync_survey.specs.declared.runs.Region.TheVariants.{Front};
 ghost use Rattle.sync_survey.specs.declared.survey_fault.SurveyFault.TheVariants.{NoFrame};
 ghost use Rattle.sync_survey.specs.declared.items.Item.TheVariants.{Frame};
 ghost use Rattle.sync_survey.specs.Items.{size_of};
-ghost use Rattle.sync_survey.specs.Walk.{numbered_at};
-ghost use Rattle.sync_survey.specs.MainData.{head_area as head_area_lem};
-ghost use Rattle.sync_survey.specs.Runs.{run, blocks_of};
-ghost use Rattle.sync_survey.specs.Kinds.{HasRightNumbers};
+ghost use Rattle.sync_survey.specs.Walk.{numbered_offset};
+ghost use Rattle.sync_survey.specs.MainData.{head_area};
+ghost use Rattle.sync_survey.specs.Runs.{item_run, blocks_of};
+ghost use Rattle.sync_survey.specs.SurveyFaultKinds.{HasRightNumbers};
 ghost use Rattle.sync_survey.specs.Survey.{HasLength, IsWholeFrom, ReadsBy, HoldsOctets, BlocksAreLaid};
 ghost use Rattle.salvage.specs.declared.usable.Role.TheVariants.{Later};
-ghost use Rattle.salvage.specs.Walk.{item_read, end_by};
-ghost use Rattle.salvage.specs.Damaged.{tells_of, IsReadOf, IsReadFault, IsReadRefusal, gap_between};
+ghost use Rattle.salvage.specs.Walk.{item_read, offset_or_end};
+ghost use Rattle.salvage.specs.DamagedFiles.{damaged_view, IsDamagedOf, IsDamagedFault, IsDamagedRefusal, gap_between};
 ghost use Rattle.salvage.specs.Answers.{ThingAnswer, ThingsAnswer, DamagedAnswer};
-ghost use Rattle.salvage.specs.Progress.{class_in, told_of, IsBegun, IsReading, ReadsOn, IsLaidOut};
+ghost use Rattle.salvage.specs.Progress.{begun_class, found_view, IsBegunFile, IsDamagedReading, ReadingAdvances, IsDamagedLaidOut};
 ghost use Rattle.frame_header.specs.Limits.{most_frame_length};
 
 use crate::begun::Begun;
 use crate::damaged::Damaged;
-use crate::found::Found;
+use crate::found::DamagedSoFar;
 use crate::gap::Gap;
 use crate::later::later_frame;
-use crate::search::{first_frame, next_usable};
+use crate::search::{first_frame, next_usable_frame};
 use crate::usable::Role;
 use outside::{Feed, Folder};
 use std::alloc::{AllocError, Global};
 use sync_survey::{
-    Before, Piece, PlacedFrame, Start, Survey, SurveyFault, find_head, find_length, head_area,
-    look, numbered_from, pass_front,
+    Piece, PlacedFrame, ReservoirState, Start, Survey, SurveyFault, find_head, find_length,
+    head_area, look, numbered_from, pass_front,
 };
 
 /// The gap before the first frame, if there is one.
@@ -57,7 +57,7 @@ fn front_gaps(alloc: Global, start: &Start) -> Result<Vec<Gap>, AllocError>
 ///
 /// # Errors
 /// Where there is no memory.
-fn found_first(alloc: Global, begun: &Begun, pieces: Vec<Piece>) -> Result<Found, AllocError>
+fn found_first(alloc: Global, begun: &Begun, pieces: Vec<Piece>) -> Result<DamagedSoFar, AllocError>
     requires whole { begun.now.start.first.offset
         + size_of (Frame begun.now.start.first.header) ≤ 2 ^ 62 }
     ensures rows { IfOk result (λ f. f.rows.items ≡ []) }
@@ -65,28 +65,28 @@ fn found_first(alloc: Global, begun: &Begun, pieces: Vec<Piece>) -> Result<Found
     ensures gaps { IfOk result (λ f. f.gaps.items ≡ gap_between begun.now.start.front_end
         begun.now.start.first.offset) }
     ensures before { IfOk result (λ f. f.before ≡ record {
-      place = head_area_lem begun.now.head;
+      place = head_area begun.now.head;
       ended = 0;
     }) }
-    ensures at { IfOk result (λ f. f.at ≡ numbered_at begun.now.start.first begun.now.head) }
+    ensures at { IfOk result (λ f. f.at ≡ numbered_offset begun.now.start.first begun.now.head) }
     ensures low { IfOk result (λ f. f.before.place ≤ most_frame_length) }
     ensures behind { IfOk result (λ f. begun.now.start.first.offset ≤ f.at) }
     ensures within { IfOk result (λ f. f.at ≤ begun.now.start.first.offset
         + size_of (Frame begun.now.start.first.header)) }
 {
     let place = head_area(&begun.head);
-    Ok(Found {
+    Ok(DamagedSoFar {
         rows: Vec::new(alloc),
         pieces,
         gaps: front_gaps(alloc, &begun.start)?,
-        before: Before { place, ended: 0 },
+        before: ReservoirState { place, ended: 0 },
         at: numbered_from(&begun.start.first, &begun.head),
     })
 }
 
 /// The offset at which a gap ends: where the next frame begins, or at the end of the file.
 fn end_of(next: Option<PlacedFrame>, size: u64) -> u64
-    ensures told { (file : List ℕ) → size ≡ length file → result ≡ end_by file next }
+    ensures told { (file : List ℕ) → size ≡ length file → result ≡ offset_or_end file next }
     ensures within { (from : ℕ) → from ≤ size → IfSome next (IsWholeFrom from size)
         → (from ≤ result) × (result ≤ size) }
 {
@@ -98,7 +98,7 @@ fn end_of(next: Option<PlacedFrame>, size: u64) -> u64
 
 /// What a frame after the first has to be.
 fn later_role(begun: &Begun) -> Role
-    ensures { result ≡ Later (class_in begun.now) }
+    ensures { result ≡ Later (begun_class begun.now) }
 {
     Role::Later(begun.start.first.header.class())
 }
@@ -112,19 +112,19 @@ fn read_gap<D: Folder>(
     folder: &mut D,
     name: &str,
     begun: &Begun,
-    found: &mut Found,
+    found: &mut DamagedSoFar,
 ) -> Result<(), SurveyFault>
-    requires begun { IsBegun (D.seen folder.old).files name.now begun.now }
+    requires begun { IsBegunFile (D.seen folder.old).files name.now begun.now }
     requires fed { IsFedFrom feed.old (D.seen folder.old).files name.now }
     requires before { found.old.at < begun.now.size }
     requires none { OnFile (D.seen folder.old) name.now
-        (λ bytes. item_read bytes (Later (class_in begun.now)) found.old.at ≡ None) }
-    requires reading { IsReading (D.seen folder.old).files name.now begun.now found.old }
+        (λ bytes. item_read bytes (Later (begun_class begun.now)) found.old.at ≡ None) }
+    requires reading { IsDamagedReading (D.seen folder.old).files name.now begun.now found.old }
     ensures { ThingAnswer name.now begun.now found.old found.new feed.new (D.seen folder.old)
         (D.seen folder.new) result }
 {
     let role = later_role(begun);
-    let next = next_usable(feed, folder, name, begun.size, found.at + 1, role)?;
+    let next = next_usable_frame(feed, folder, name, begun.size, found.at + 1, role)?;
     let end = end_of(next, begun.size);
     found.skip(end)?;
     Ok(())
@@ -141,12 +141,12 @@ fn read_other<D: Folder>(
     folder: &mut D,
     name: &str,
     begun: &Begun,
-    found: &mut Found,
+    found: &mut DamagedSoFar,
 ) -> Result<(), SurveyFault>
-    requires begun { IsBegun (D.seen folder.old).files name.now begun.now }
+    requires begun { IsBegunFile (D.seen folder.old).files name.now begun.now }
     requires fed { IsFedFrom feed.old (D.seen folder.old).files name.now }
     requires before { found.old.at < begun.now.size }
-    requires reading { IsReading (D.seen folder.old).files name.now begun.now found.old }
+    requires reading { IsDamagedReading (D.seen folder.old).files name.now begun.now found.old }
     ensures { ThingAnswer name.now begun.now found.old found.new feed.new (D.seen folder.old)
         (D.seen folder.new) result }
 {
@@ -168,12 +168,12 @@ fn read_thing<D: Folder>(
     folder: &mut D,
     name: &str,
     begun: &Begun,
-    found: &mut Found,
+    found: &mut DamagedSoFar,
 ) -> Result<(), SurveyFault>
-    requires begun { IsBegun (D.seen folder.old).files name.now begun.now }
+    requires begun { IsBegunFile (D.seen folder.old).files name.now begun.now }
     requires fed { IsFedFrom feed.old (D.seen folder.old).files name.now }
     requires before { found.old.at < begun.now.size }
-    requires reading { IsReading (D.seen folder.old).files name.now begun.now found.old }
+    requires reading { IsDamagedReading (D.seen folder.old).files name.now begun.now found.old }
     ensures { ThingAnswer name.now begun.now found.old found.new feed.new (D.seen folder.old)
         (D.seen folder.new) result }
 {
@@ -195,11 +195,11 @@ fn read_things<D: Folder>(
     folder: &mut D,
     name: &str,
     begun: &Begun,
-    found: &mut Found,
+    found: &mut DamagedSoFar,
 ) -> Result<(), SurveyFault>
-    requires begun { IsBegun (D.seen folder.old).files name.now begun.now }
+    requires begun { IsBegunFile (D.seen folder.old).files name.now begun.now }
     requires fed { IsFedFrom feed.old (D.seen folder.old).files name.now }
-    requires reading { IsReading (D.seen folder.old).files name.now begun.now found.old }
+    requires reading { IsDamagedReading (D.seen folder.old).files name.now begun.now found.old }
     ensures { ThingsAnswer name.now begun.now found.new (D.seen folder.old)
         (D.seen folder.new) result }
 {
@@ -213,8 +213,8 @@ fn read_things<D: Folder>(
 ///
 /// # Errors
 /// `NoFrame` with the offset at which the front ends, if no frame was found besides a head.
-fn damaged_by(begun: &Begun, found: Found) -> Result<Damaged, SurveyFault>
-    ensures told { IfOk result (λ d. tells_of d ≡ told_of begun.now found) }
+fn damaged_by(begun: &Begun, found: DamagedSoFar) -> Result<Damaged, SurveyFault>
+    ensures told { IfOk result (λ d. damaged_view d ≡ found_view begun.now found) }
     ensures some { OnOk result (found.rows.items ≡ [] → ⊥) }
     ensures none { IfErr result (λ f. (f ≡ NoFrame begun.now.start.front_end)
         × (found.rows.items ≡ [])) }
@@ -249,12 +249,12 @@ fn begin<D: Folder>(
     requires known { HasLength (D.seen folder.old).files name.now size }
     requires fed { IsFedFrom feed.old (D.seen folder.old).files name.now }
     requires none { pieces.old.items ≡ [] }
-    ensures begun { IfOk result (IsBegun (D.seen folder.old).files name.now) }
+    ensures begun { IfOk result (IsBegunFile (D.seen folder.old).files name.now) }
     ensures blocks { OnOk result (OnFile (D.seen folder.old) name.now
-        (λ bytes. pieces.new.items ≡ blocks_of (run Front bytes 0).items)) }
+        (λ bytes. pieces.new.items ≡ blocks_of (item_run Front bytes 0).items)) }
     ensures laid { IfOk result (λ b. BlocksAreLaid 0 pieces.new.items b.start.front_end) }
     ensures reads { ReadsBy feed.new name.now result (D.seen folder.old) (D.seen folder.new) }
-    ensures refused { IfErr result (IsReadRefusal name.now (D.seen folder.old).files
+    ensures refused { IfErr result (IsDamagedRefusal name.now (D.seen folder.old).files
         (D.seen folder.old).counts (D.seen folder.new).counts) }
 {
     let front_end = pass_front(feed, folder, name, size, pieces)?;
@@ -278,10 +278,10 @@ fn read_on<D: Folder>(
     begun: &Begun,
     pieces: Vec<Piece>,
 ) -> Result<Damaged, SurveyFault>
-    requires begun { IsBegun (D.seen folder.old).files name.now begun.now }
+    requires begun { IsBegunFile (D.seen folder.old).files name.now begun.now }
     requires fed { IsFedFrom feed.old (D.seen folder.old).files name.now }
     requires blocks { OnFile (D.seen folder.old) name.now
-        (λ bytes. pieces.items ≡ blocks_of (run Front bytes 0).items) }
+        (λ bytes. pieces.items ≡ blocks_of (item_run Front bytes 0).items) }
     requires laid { BlocksAreLaid 0 pieces.items begun.now.start.front_end }
     requires octets { HoldsOctets name.now (D.seen folder.old).files }
     ensures { DamagedAnswer name.now (D.seen folder.old) (D.seen folder.new) result }

@@ -2,17 +2,19 @@
 ghost use Rattle.std.specs.Prelude.{◌≡◌, ◌+◌, ◌≤◌, ℕ, true, List, Ok, length, min, IfSome, option_and_then};
 ghost use Rattle.frame_header.specs.Fields.{HeaderFields};
 ghost use Rattle.frame_header.specs.Tables.{class_of, side_size_of};
-ghost use Rattle.side_info.specs.Frame.{word_right};
+ghost use Rattle.side_info.specs.Frame.{right_crc};
 ghost use Rattle.sync_survey.specs.Items.{size_of, header_front};
 ghost use Rattle.sync_survey.specs.Looks.{look_size, Shows, PassesFront, ReachArea};
-ghost use Rattle.salvage.specs.Usable.{has_right_word as has_right_word_lem, is_usable, usable_anchored};
-ghost use Rattle.sync_survey.specs.Runs.{frame_as};
+ghost use Rattle.salvage.specs.UsableFrames.{has_right_crc, is_usable, usable_frame_at};
+ghost use Rattle.sync_survey.specs.Runs.{frame_of_item};
 ghost use Rattle.salvage.specs.Walk.{item_read};
-ghost use Rattle.salvage.specs.Steps.{admits_item as admits_item_lem, IsRead};
+ghost use Rattle.salvage.specs.Steps.{admits_item, IsItemRead};
 
 use frame_header::{Class, Header};
-use side_info::{check_word_of_bytes, word_said};
-use sync_survey::{Item, Part, PlacedFrame, Step, anchored_frame, head_in, is_same_class, step_at};
+use side_info::{check_word_of_bytes, stored_crc};
+use sync_survey::{
+    Item, PlacedFrame, Region, Step, anchored_frame, head_in, is_same_class, step_at,
+};
 
 /// What a frame has to be.
 #[derive(Clone, Copy)]
@@ -27,32 +29,32 @@ pub(crate) enum Role {
 /// `side_end`.
 // Few frames are protected: it is apart, and takes no header, which a walk over the others then needn't lay down in memory.
 #[inline(never)]
-fn right_word(side_end: usize, bytes: &[u8]) -> u16
+fn right_crc(side_end: usize, bytes: &[u8]) -> u16
     requires some { 6 ≤ side_end }
     requires room { side_end ≤ length bytes.now }
     ensures { (h : HeaderFields) → header_front bytes.now ≡ Ok h → h.protected ≡ true
-        → side_end ≡ 6 + side_size_of (class_of h) → result ≡ word_right h bytes.now }
+        → side_end ≡ 6 + side_size_of (class_of h) → result ≡ right_crc h bytes.now }
 {
     check_word_of_bytes(&bytes[..4], &bytes[6..side_end])
 }
 
 /// Whether the frame with which these bytes begin has no check word, or the right one.
 #[inline(always)]
-pub(crate) fn has_right_word(header: &Header, bytes: &[u8]) -> bool
+pub(crate) fn has_right_crc(header: &Header, bytes: &[u8]) -> bool
     requires own { header_front bytes.now ≡ Ok header.now }
     requires room { ReachArea header.now bytes.now }
-    ensures { result ≡ has_right_word_lem header.now bytes.now }
+    ensures { result ≡ has_right_crc header.now bytes.now }
 {
     if !header.protected {
         return true;
     }
     let side_end = 6 + header.class().side_size() as usize;
-    word_said(bytes) == right_word(side_end, bytes)
+    stored_crc(bytes) == right_crc(side_end, bytes)
 }
 
 /// The frame that the item at the offset is.
 fn frame_of(item: &Item, offset: u64) -> Option<PlacedFrame>
-    ensures frame { result ≡ frame_as offset item.now }
+    ensures frame { result ≡ frame_of_item offset item.now }
     ensures offset { IfSome result (λ p. p.offset ≡ offset) }
     ensures size { IfSome result (λ p. size_of (Item.Frame p.header) ≡ size_of item.now) }
 {
@@ -71,10 +73,10 @@ impl Role {
     {
         match self {
             Role::First => {
-                has_right_word(&frame.header, bytes) || head_in(frame, bytes).is_some()
+                has_right_crc(&frame.header, bytes) || head_in(frame, bytes).is_some()
             }
             Role::Later(class) => {
-                is_same_class(frame.header.class(), *class) && has_right_word(&frame.header, bytes)
+                is_same_class(frame.header.class(), *class) && has_right_crc(&frame.header, bytes)
             }
         }
     }
@@ -84,7 +86,7 @@ impl Role {
         requires own { (h : HeaderFields) → item.now ≡ Item.Frame h
             → header_front bytes.now ≡ Ok h }
         requires room { (h : HeaderFields) → item.now ≡ Item.Frame h → ReachArea h bytes.now }
-        ensures { result ≡ admits_item_lem self.now at item.now bytes.now }
+        ensures { result ≡ admits_item self.now at item.now bytes.now }
     {
         match *item {
             Item::Frame(header) => self.admits(&PlacedFrame { offset: at, header }, bytes),
@@ -97,7 +99,7 @@ impl Role {
     pub(crate) fn anchored(&self, front: &[u8], at: u64, left: u64) -> Option<PlacedFrame>
         requires many { length front.now ≡ min look_size left }
         ensures frame { (file : List ℕ) → Shows file at front.now left
-            → result ≡ usable_anchored file self.now at }
+            → result ≡ usable_frame_at file self.now at }
         ensures offset { IfSome result (λ p. p.offset ≡ at) }
         ensures within { IfSome result (λ p. size_of (Item.Frame p.header) ≤ left) }
     {
@@ -116,11 +118,11 @@ impl Role {
     pub(crate) fn step(&self, front: &[u8], at: u64, left: u64) -> Option<Step>
         requires many { length front.now ≡ min look_size left }
         ensures read { (file : List ℕ) → Shows file at front.now left
-            → IsRead file self.now at result }
-        ensures usable { IfSome result (λ s. admits_item_lem self.now at s.item front.now ≡ true) }
+            → IsItemRead file self.now at result }
+        ensures usable { IfSome result (λ s. admits_item self.now at s.item front.now ≡ true) }
         ensures passes { IfSome result (PassesFront front.now left) }
     {
-        let Some(step) = step_at(Part::Stream, front, left) else {
+        let Some(step) = step_at(Region::Stream, front, left) else {
             return None;
         };
         if self.admits_item(&step.item, front, at) {
@@ -135,7 +137,7 @@ impl Role {
     pub(crate) fn whole(&self, front: &[u8], at: u64, left: u64) -> Option<PlacedFrame>
         requires many { length front.now ≡ min look_size left }
         ensures frame { (file : List ℕ) → Shows file at front.now left
-            → result ≡ option_and_then (frame_as at) (item_read file self.now at) }
+            → result ≡ option_and_then (frame_of_item at) (item_read file self.now at) }
         ensures offset { IfSome result (λ p. p.offset ≡ at) }
         ensures within { IfSome result (λ p. size_of (Item.Frame p.header) ≤ left) }
     {

@@ -1,5 +1,5 @@
 -- The lemmas of this crate.
-pub mod OrderLaws
-pub mod HadLaws
-pub mod StreamLaws
-pub mod CommandLaws
+pub mod OrderLemmas
+pub mod HadLemmas
+pub mod StreamLemmas
+pub mod CommandLemmas

@@ -1,49 +1,50 @@
 -- What was read of the input, and what is made ready before the output is created.
 use Rattle.std.specs.Prelude.{IfErr, List, OnOk, Result, ℕ, [], ◌≡◌}
-use Rattle.commands.specs.{One.{IsEarlyFault, IsOfInputs}, declared.fault.EditFault.EditFault}
+use Rattle.commands.specs.SingleOutput.{HasTaskNumbers, IsEarlyFault}
+use Rattle.commands.specs.declared.fault.EditFault.{EditFault}
 use Rattle.cut_edits.specs.{Chosen.IsSelected, Layable.IsLayable}
 use Rattle.laying.specs.NeedsFit.{own_choice}
 use Rattle.outside.specs.{Counts.OnlyReads, Files.Files, Seen.Seen}
-use Rattle.salvage.specs.{Damaged.{DamagedFields, IsReadOf}, Mended.emptied_from}
-use Rattle.salvage.specs.{Progress.IsLaidOut, declared.mended.Mended.Mended}
-use Rattle.salvage_edits.specs.{Salvaged.{all_of, salvage_task}, declared.report.Report.Report}
-use Rattle.salvage_edits.specs.declared.work.Work.{Work}
-use Rattle.sync_survey.specs.{Faults.tells, HeadApart.emptied, Survey.HoldsOctets}
+use Rattle.salvage.specs.{DamagedFiles.{DamagedFields, IsDamagedOf}, EmptiedFrames.emptied_from}
+use Rattle.salvage.specs.{Progress.IsDamagedLaidOut, declared.mended.Mended.Mended}
+use Rattle.salvage_edits.specs.{Salvaged.{all_chosen, salvage_task}, declared.report.Report.Report}
+use Rattle.salvage_edits.specs.declared.work.SalvageWork.{SalvageWork}
+use Rattle.sync_survey.specs.{Faults.survey_view, HeadApart.emptied_survey, Survey.HoldsOctets}
 
 -- What a call leaves that reads the input before the output is created: the files stay, and only
 -- reads are counted, and nothing where it succeeds; a fault is one of the input, or want of memory.
-pub record ReadsInput {T : Type 0} (input : List ℕ) (result : Result T EditFault)
+pub record ReadsDamaged {T : Type 0} (input : List ℕ) (result : Result T EditFault)
     (old new : Seen) : Type 0 where
   pub refused : IfErr result (IsEarlyFault (salvage_task input) old new)
-  pub numbers : IfErr result (IsOfInputs (salvage_task input))
+  pub numbers : IfErr result (HasTaskNumbers (salvage_task input))
   pub done : OnOk result (new.counts ≡ old.counts)
   pub files : new.files ≡ old.files
   pub counts : OnlyReads old.counts new.counts
 
 -- the report has the gaps and the emptied frames of what was read
-pub record Reports (d : DamagedFields) (r : Report) : Type 0 where
+pub record IsReportOf (d : DamagedFields) (r : Report) : Type 0 where
   pub gaps : r.gaps.items ≡ d.gaps
   pub emptied : r.emptied.items ≡ emptied_from 0 d.survey.frames
 
 -- this was read of the name's file, and has its emptied frames as frames without main data
 pub record IsMended (name : List ℕ) (files : Files) (m : Mended) : Type 0 where
   pub of : DamagedFields
-  pub read : IsReadOf name files of
-  pub laid : IsLaidOut of
-  pub survey : tells m.survey ≡ emptied of.survey
+  pub read : IsDamagedOf name files of
+  pub laid : IsDamagedLaidOut of
+  pub survey : survey_view m.survey ≡ emptied_survey of.survey
   pub emptied : m.emptied.items ≡ emptied_from 0 of.survey.frames
   pub gaps : m.gaps.items ≡ of.gaps
 
 -- The input was read, and all is ready for the pass; all frames are
 -- chosen and have their plan, and the report is that of what was read.
-pub record IsReady (input : List ℕ) (files : Files) (work : Work) : Type 0 where
+pub record IsSalvageReady (input : List ℕ) (files : Files) (work : SalvageWork) : Type 0 where
   pub octets : HoldsOctets input files
   pub of : DamagedFields
-  pub read : IsReadOf input files of
-  pub laid : IsLaidOut of
+  pub read : IsDamagedOf input files of
+  pub laid : IsDamagedLaidOut of
   pub layable : IsLayable input work.laid files
-  pub survey : tells work.laid.survey ≡ emptied of.survey
-  pub selected : IsSelected own_choice (all_of (tells work.laid.survey))
-      (tells work.laid.survey) work.laid.selected
+  pub survey : survey_view work.laid.survey ≡ emptied_survey of.survey
+  pub selected : IsSelected own_choice (all_chosen (survey_view work.laid.survey))
+      (survey_view work.laid.survey) work.laid.selected
   pub unsaid : work.sending ≡ []
-  pub reports : Reports of work.report
+  pub reports : IsReportOf of work.report

@@ -1,17 +1,17 @@
 //! The first pass: what can be read of the input, and its plan.
 ghost use Rattle.std.specs.Prelude.{◌≡◌, ◌≤◌, List, ℕ, length, IfOk, OnOk};
-ghost use Rattle.outside.specs.Files.{Files, IsThere};
-ghost use Rattle.sync_survey.specs.Faults.{tells};
-ghost use Rattle.sync_survey.specs.Survey.{HoldsOctets, IsLaidOut as IsLaidSurvey};
-ghost use Rattle.commands.specs.One.{most_frames};
+ghost use Rattle.outside.specs.Files.{Files, IsFileThere};
+ghost use Rattle.sync_survey.specs.Faults.{survey_view};
+ghost use Rattle.sync_survey.specs.Survey.{HoldsOctets, IsSurveyLaidOut};
+ghost use Rattle.commands.specs.SingleOutput.{most_frames};
 ghost use Rattle.cut_edits.specs.Chosen.{chosen_in};
-ghost use Rattle.salvage_edits.specs.Salvaged.{all_of};
-ghost use Rattle.salvage_edits.specs.Ready.{IsMended, IsReady, ReadsInput};
+ghost use Rattle.salvage_edits.specs.Salvaged.{all_chosen};
+ghost use Rattle.salvage_edits.specs.Ready.{IsMended, IsSalvageReady, ReadsDamaged};
 
 use crate::report::Report;
-use crate::work::Work;
+use crate::work::SalvageWork;
 use commands::EditFault;
-use cut_edits::{Chosen, Work as LaidWork, plan_file};
+use cut_edits::{Chosen, LaidWork as LaidWork, plan_file};
 use laying::Kept;
 use outside::{Folder, SendBuffer};
 use salvage::{Mended, read_damaged};
@@ -24,11 +24,11 @@ use sync_survey::Survey;
 /// `Input` with the fault of the reading; `Memory`. The files stay.
 fn read_input<D: Folder>(alloc: Global, folder: &mut D, input: &str) -> Result<Mended, EditFault>
     ensures mended { IfOk result (IsMended input.now (D.seen folder.old).files) }
-    ensures laid { IfOk result (λ m. IsLaidSurvey (tells m.survey)) }
-    ensures few { IfOk result (λ m. length (tells m.survey).frames ≤ most_frames) }
-    ensures there { OnOk result (IsThere (D.seen folder.old).files input.now) }
+    ensures laid { IfOk result (λ m. IsSurveyLaidOut (survey_view m.survey)) }
+    ensures few { IfOk result (λ m. length (survey_view m.survey).frames ≤ most_frames) }
+    ensures there { OnOk result (IsFileThere (D.seen folder.old).files input.now) }
     ensures octets { OnOk result (HoldsOctets input.now (D.seen folder.old).files) }
-    ensures reads { ReadsInput input.now result
+    ensures reads { ReadsDamaged input.now result
         (D.seen folder.old)
         (D.seen folder.new) }
 {
@@ -44,7 +44,7 @@ fn read_input<D: Folder>(alloc: Global, folder: &mut D, input: &str) -> Result<M
 
 /// All frames.
 fn all_frames(survey: &Survey) -> Chosen
-    ensures { chosen_in result ≡ all_of (tells survey.now) }
+    ensures { chosen_in result ≡ all_chosen (survey_view survey.now) }
 {
     Chosen {
         from: 0,
@@ -57,11 +57,11 @@ fn all_frames(survey: &Survey) -> Chosen
 ///
 /// # Errors
 /// Where there is no memory.
-fn make_ready(alloc: Global, mended: Mended) -> Result<Work, AllocError>
-    requires laid { IsLaidSurvey (tells mended.survey) }
-    requires few { length (tells mended.survey).frames ≤ most_frames }
+fn make_ready(alloc: Global, mended: Mended) -> Result<SalvageWork, AllocError>
+    requires laid { IsSurveyLaidOut (survey_view mended.survey) }
+    requires few { length (survey_view mended.survey).frames ≤ most_frames }
     ensures { IfOk result (λ work. (input : List ℕ) (files : Files) → IsMended input files mended
-        → IsThere files input → HoldsOctets input files → IsReady input files work) }
+        → IsFileThere files input → HoldsOctets input files → IsSalvageReady input files work) }
 {
     let Mended {
         survey,
@@ -71,7 +71,7 @@ fn make_ready(alloc: Global, mended: Mended) -> Result<Work, AllocError>
     let selected = plan_file(alloc, &survey, &all_frames(&survey), false)?;
     let laid = LaidWork::new(alloc, survey, selected)?;
     let sending = SendBuffer::new(alloc)?;
-    Ok(Work {
+    Ok(SalvageWork {
         laid,
         report: Report { gaps, emptied },
         sending,
@@ -86,9 +86,9 @@ pub(crate) fn prepare<D: Folder>(
     alloc: Global,
     folder: &mut D,
     input: &str,
-) -> Result<Work, EditFault>
-    ensures ready { IfOk result (IsReady input.now (D.seen folder.old).files) }
-    ensures reads { ReadsInput input.now result
+) -> Result<SalvageWork, EditFault>
+    ensures ready { IfOk result (IsSalvageReady input.now (D.seen folder.old).files) }
+    ensures reads { ReadsDamaged input.now result
         (D.seen folder.old)
         (D.seen folder.new) }
 {

@@ -1,9 +1,9 @@
 //! What is missing in a damaged file.
 ghost use Rattle.std.specs.Prelude.{◌≡◌, ◌<◌, [], OnOk, OnErr};
-ghost use Rattle.outside.specs.Files.{sent_more};
-ghost use Rattle.outside.specs.Passed.{SentPrefix};
+ghost use Rattle.outside.specs.Files.{sent_and_more};
+ghost use Rattle.outside.specs.BufferOutput.{SentPrefix};
 ghost use Rattle.outside.specs.Counts.{HasCause};
-ghost use Rattle.salvage_edits.specs.Ordered.{IsInOrder, report_text};
+ghost use Rattle.salvage_edits.specs.Ordered.{IsReportInOrder, report_text};
 
 use crate::lines::{set_counts, set_line};
 use list_edits::Line;
@@ -29,9 +29,9 @@ pub(crate) fn send_report<T: Sink>(
     buffer: &mut SendBuffer,
     out: &mut T,
 ) -> Result<(), Failed>
-    requires order { IsInOrder report.now }
+    requires order { IsReportInOrder report.now }
     requires empty { buffer.old ≡ [] }
-    ensures sent { OnOk result ((T.heard out.new).sent ≡ sent_more (T.heard out.old).sent
+    ensures sent { OnOk result ((T.heard out.new).sent ≡ sent_and_more (T.heard out.old).sent
         (report_text frames report.now)) }
     ensures prefix { OnErr result (SentPrefix (report_text frames report.now) (T.heard out.old).sent
         (T.heard out.new).sent) }

@@ -2,15 +2,15 @@
 ghost use Rattle.std.specs.Prelude.{◌≡◌, ◌↔◌, ℕ, None, Some, IfErr, OnOk, IsErrOf};
 ghost use Rattle.outside.specs.Counts.{NoneFell};
 ghost use Rattle.commands.specs.Command.{HoldsStreams, clash_of};
-ghost use Rattle.commands.specs.Left.{IsDone, Leaves, HasNumbers};
+ghost use Rattle.commands.specs.AfterCall.{IsCommandDone, IsCommandFault, HasNumbers};
 ghost use Rattle.commands.specs.Runs.{IsRunOf};
-ghost use Rattle.commands.specs.Said.{Says, fault_of};
-ghost use Rattle.salvage_edits.specs.Ready.{IsReady};
+ghost use Rattle.commands.specs.SentText.{SaysText, answer_fault};
+ghost use Rattle.salvage_edits.specs.Ready.{IsSalvageReady};
 ghost use Rattle.salvage_edits.specs.Salvaged.{salvage_command};
 
 use crate::prepared::prepare;
 use crate::report::send_report;
-use crate::work::Work;
+use crate::work::SalvageWork;
 use commands::{EditFault, Inputs, write_output};
 use outside::{Failed, Folder, Sink};
 use std::alloc::Global;
@@ -23,17 +23,17 @@ fn write_and_tell<D: Folder, T: Sink>(
     folder: &mut D,
     input: &str,
     output: &str,
-    work: &mut Work,
+    work: &mut SalvageWork,
     out: &mut T,
 ) -> Result<(), EditFault>
     requires free { clash_of (salvage_command input.now output.now) ≡ None }
-    requires ready { IsReady input.now (D.seen folder.old).files work.old }
+    requires ready { IsSalvageReady input.now (D.seen folder.old).files work.old }
     ensures run { IsRunOf (salvage_command input.now output.now)
         (D.seen folder.old)
         (D.seen folder.new) result }
-    ensures says { Says (salvage_command input.now output.now) (D.seen folder.old).files
+    ensures says { SaysText (salvage_command input.now output.now) (D.seen folder.old).files
         (T.heard out.old) (T.heard out.new)
-        (fault_of result) }
+        (answer_fault result) }
 {
     let count = work.laid.survey.frames().len() as u64;
     write_output(folder, input, output, &mut work.laid)?;
@@ -70,16 +70,16 @@ pub fn salvage<D: Folder, T: Sink>(
     output: &str,
     out: &mut T,
 ) -> Result<(), EditFault>
-    ensures done { OnOk result (IsDone (salvage_command input.now output.now)
+    ensures done { OnOk result (IsCommandDone (salvage_command input.now output.now)
         (D.seen folder.old)
         (D.seen folder.new)) }
-    ensures left { IfErr result (Leaves (salvage_command input.now output.now)
+    ensures left { IfErr result (IsCommandFault (salvage_command input.now output.now)
         (D.seen folder.old)
         (D.seen folder.new)) }
     // The text, of which a prefix was sent where a write failed.
-    ensures says { Says (salvage_command input.now output.now) (D.seen folder.old).files
+    ensures says { SaysText (salvage_command input.now output.now) (D.seen folder.old).files
         (T.heard out.old) (T.heard out.new)
-        (fault_of result) }
+        (answer_fault result) }
     // Over a folder that tells nothing too.
     ensures numbers { IfErr result (HasNumbers (salvage_command input.now output.now)) }
     ensures names { (place : ℕ) → IsErrOf result (EditFault.EqualNames place)

@@ -7,25 +7,25 @@ use Rattle.exact_span.specs.Overlaps.{IsOverlap}
 use Rattle.exact_span.specs.PlayedPositions.{AreCounted, longest_rest, rest_of}
 use Rattle.exact_span.specs.declared.overlap.Overlap.{Overlap}
 use Rattle.frame_header.specs.{Fields.{ClassFields, IsClass, SlotFields}, Tables.window_of}
-use Rattle.seam_plan.specs.{Frames.{Brought, Frame, needs_of}, Joins.joining}
-use Rattle.seam_plan.specs.Seams.{compared, ends_alike, Joint, joint_of, joint_with, left_out}
-use Rattle.seam_plan.specs.{Seams.overlap_of, declared.input.Input.Input}
+use Rattle.seam_plan.specs.{Frames.{Brought, needs_of, RunFrame}, Joins.joining_frames}
+use Rattle.seam_plan.specs.Seams.{compared_frames, ends_alike, joint_of, joint_with, JointFrames}
+use Rattle.seam_plan.specs.{Seams.{left_out_count, overlap_of}, declared.input.Input.Input}
 use Rattle.seam_plan.specs.declared.run.{FramePlace.FramePlace, Joint.Joint as CodeJoint, Run.Run}
 use Rattle.seam_plan.specs.declared.seam.Seam.{Seam}
-use Rattle.slot_plan.specs.{Behind.{first_in, FitsBehind, IsLeft}, Parts.AreOfClass}
-use Rattle.slot_plan.specs.declared.needs.Need.{Need}
+use Rattle.slot_plan.specs.FreeBytes.{FitsBehind, IsMostLeft, needs_with_first_slot}
+use Rattle.slot_plan.specs.{Parts.AreNeedsOfClass, declared.needs.Need.Need}
 
 -- frames of an input of this class, each in its own slot; they fit
 -- behind no bytes, as those of every file do whose head is set apart
-pub record CanBeJoined (class : ClassFields) (input : Input) : Type 0 where
+pub record IsJoinableInput (class : ClassFields) (input : Input) : Type 0 where
   pub some : 0 < length input.needs.now
   pub few : length input.needs.now < 4294967296
-  pub same : AreOfClass class input.needs.now
+  pub same : AreNeedsOfClass class input.needs.now
   pub fits : FitsBehind (window_of class.version) 0 input.needs.now
   pub counted : IfSome input.played (AreCounted class (length input.needs.now))
 
 -- this is what the input brings
-pub record IsBrought (input : Input) (brought : Brought) : Type 0 where
+pub record IsBroughtInput (input : Input) (brought : Brought) : Type 0 where
   pub needs : input.needs.now ≡ needs_of brought.frames
   pub blank : input.blank ≡ brought.blank
   pub played : input.played ≡ brought.played
@@ -35,27 +35,29 @@ abbrev pub last_seven : {X : Type 0} → List X → List X
 last_seven xs = drop (length xs - 7) xs
 
 -- the positions after the last played one, where the head counts
-abbrev pub rest_in : ClassFields → Brought → Option ℕ
-rest_in class brought = option_map (λ p. rest_of class (length brought.frames) p) brought.played
+abbrev pub brought_rest : ClassFields → Brought → Option ℕ
+brought_rest class brought =
+    option_map (λ p. rest_of class (length brought.frames) p) brought.played
 
 -- The run has these frames, which are at these places, the last
 -- of them of what this input brings, or of inputs before it.
-pub record IsRun (class : ClassFields) (frames : List Frame) (places : List FramePlace)
+pub record IsRun (class : ClassFields) (frames : List RunFrame) (places : List FramePlace)
     (before : Brought) (run : Run) : Type 0 where
   pub of_class : run.class ≡ class
-  pub left : IsLeft (window_of class.version) (window_of class.version) (needs_of frames) run.left
+  pub left : IsMostLeft (window_of class.version) (window_of class.version)
+      (needs_of frames) run.left
   pub last : run.last.items ≡ last_seven places
   pub same : length places ≡ length frames
-  pub rest : run.rest ≡ rest_in class before
+  pub rest : run.rest ≡ brought_rest class before
 
 -- no more bytes are left than the window of its class
-pub record IsWithin (run : Run) : Type 0 where
+pub record IsRunInWindow (run : Run) : Type 0 where
   pub known : IsClass run.class
   pub most : run.left ≤ window_of run.class.version
 
 -- nor are more positions after the last played one than a head counts
-pub record IsSound (run : Run) : Type 0 where
-  pub within : IsWithin run
+pub record IsSoundRun (run : Run) : Type 0 where
+  pub within : IsRunInWindow run
   pub rest : IfSome run.rest (λ rest. rest ≤ longest_rest)
 
 -- frames are shared, all of them of the input; one to seven of them are to be alike
@@ -65,28 +67,29 @@ pub record CanFollow (input : Input) (overlap : Overlap) : Type 0 where
   pub few : overlap.frames ≤ overlap.first_alike + 7
 
 -- of the frames that are shared, those that are to be alike are
-abbrev pub if_alike : List Frame → Brought → Overlap → Option Overlap
-if_alike run brought overlap =
-    if ends_alike run (compared overlap brought) then Some overlap else None
+abbrev pub overlap_if_alike : List RunFrame → Brought → Overlap → Option Overlap
+overlap_if_alike run brought overlap =
+    if ends_alike run (compared_frames overlap brought) then Some overlap else None
 
 -- the frames that the input shares with the one before it, if these are alike
-abbrev pub alike_overlap : ClassFields → List Frame → Brought → Brought → Option Overlap
+abbrev pub alike_overlap : ClassFields → List RunFrame → Brought → Brought → Option Overlap
 alike_overlap class run before brought =
-    option_and_then (if_alike run brought) (overlap_of class before brought)
+    option_and_then (overlap_if_alike run brought) (overlap_of class before brought)
 
 -- the place of a frame: its input and its number there
-abbrev pub place_of : ℕ → ℕ → FramePlace
-place_of input frame = record { input = input; frame = frame }
+abbrev pub frame_place : ℕ → ℕ → FramePlace
+frame_place input frame = record { input = input; frame = frame }
 
 -- the places of the frames of an input from one on, so many
-abbrev pub places_from : ℕ → ℕ → ℕ → List FramePlace
-places_from input from count = map (place_of input) (range_with_len from count)
+abbrev pub frame_places : ℕ → ℕ → ℕ → List FramePlace
+frame_places input from count = map (frame_place input) (range_with_len from count)
 
 -- this is decided: the seam, and the slot of the first
 -- frame that the input adds to the run, if it adds one
-pub record IsJoint (joint : Joint) (result : CodeJoint) : Type 0 where
+pub record IsJoint (joint : JointFrames) (result : CodeJoint) : Type 0 where
   pub seam : result.seam ≡ joint.seam
-  pub slot : result.slot ≡ option_map (λ (f : Frame). f.need.header.slot) (slice_get joint.frames 0)
+  pub slot : result.slot
+      ≡ option_map (λ (f : RunFrame). f.need.header.slot) (slice_get joint.frames 0)
 
 -- a place comes behind the last seven, of which the first goes where there are seven
 pub record IsSlid (old : List FramePlace) (place : FramePlace) (new : List FramePlace)
@@ -96,61 +99,62 @@ pub record IsSlid (old : List FramePlace) (place : FramePlace) (new : List Frame
   pub full : length old ≡ 7 → new ≡ drop 1 old ++ place ∷ []
 
 -- the last of these places, so many; none where there are fewer
-abbrev pub last_of : List FramePlace → ℕ → Option (List FramePlace)
-last_of places count =
+abbrev pub last_places : List FramePlace → ℕ → Option (List FramePlace)
+last_places places count =
     if nat_le count (length places) then Some (drop (length places - count) places) else None
 
 -- this is what becomes of the input, and the run goes on with the frames that it adds
-pub record Joins (class : ClassFields) (number : ℕ) (frames : List Frame) (places : List FramePlace)
+pub record JoinsRun (class : ClassFields) (number : ℕ) (frames : List RunFrame)
+    (places : List FramePlace)
     (before brought : Brought) (result : CodeJoint) (run : Run) : Type 0 where
   pub joint : IsJoint (joint_of class frames before brought) result
   pub goes_on :
       let joint = joint_of class frames before brought in
       IsRun class (frames ++ joint.frames)
-      (places ++ places_from number (left_out joint.seam) (length joint.frames)) brought run
+      (places ++ frame_places number (left_out_count joint.seam) (length joint.frames)) brought run
 
 -- these frames with the first in this slot, if there is one
-abbrev pub moved_first : Option SlotFields → List Need → List Need
-moved_first None needs = needs
-moved_first (Some slot) needs = first_in slot needs
+abbrev pub joined_needs : Option SlotFields → List Need → List Need
+joined_needs None needs = needs
+joined_needs (Some slot) needs = needs_with_first_slot slot needs
 
 -- the run goes on with the frames of the input that are left so, whatever they sound like
 abbrev pub RunGoesOn : ℕ → Input → CodeJoint → Run → Run → Type 0
 RunGoesOn number input joint old new =
-    (class : ClassFields) (frames more : List Frame) (places : List FramePlace)
-    (before brought : Brought) → IsRun class frames places before old → IsBrought input brought
-    → needs_of more ≡ moved_first joint.slot (drop (left_out joint.seam) input.needs.now)
+    (class : ClassFields) (frames more : List RunFrame) (places : List FramePlace)
+    (before brought : Brought) → IsRun class frames places before old → IsBroughtInput input brought
+    → needs_of more ≡ joined_needs joint.slot (drop (left_out_count joint.seam) input.needs.now)
     → IsRun class (frames ++ more)
-    (places ++ places_from number (left_out joint.seam) (length more)) brought new
+    (places ++ frame_places number (left_out_count joint.seam) (length more)) brought new
 
 -- The frames of an input that are added to a run fit behind what it
 -- leaves, each in its own slot but for the first, which has this one.
-abbrev pub FitIn : ClassFields → ℕ → List Need → Option SlotFields → Type 0
-FitIn class left [] None = Unit {0}
-FitIn class left [] (Some slot) = ⊥
-FitIn class left (first ∷ needs) None = ⊥
-FitIn class left (first ∷ needs) (Some slot) =
-    FitsBehind (window_of class.version) left (first_in slot (first ∷ needs))
+abbrev pub AddedFramesFit : ClassFields → ℕ → List Need → Option SlotFields → Type 0
+AddedFramesFit class left [] None = Unit {0}
+AddedFramesFit class left [] (Some slot) = ⊥
+AddedFramesFit class left (first ∷ needs) None = ⊥
+AddedFramesFit class left (first ∷ needs) (Some slot) =
+    FitsBehind (window_of class.version) left (needs_with_first_slot slot (first ∷ needs))
 
 -- so do those that are left in the input
-pub record FitsAs (class : ClassFields) (left : ℕ) (input : Input)
+pub record AddedInputFits (class : ClassFields) (left : ℕ) (input : Input)
     (joint : CodeJoint) : Type 0 where
-  pub out : left_out joint.seam ≤ length input.needs.now
-  pub fit : FitIn class left (drop (left_out joint.seam) input.needs.now) joint.slot
+  pub out : left_out_count joint.seam ≤ length input.needs.now
+  pub fit : AddedFramesFit class left (drop (left_out_count joint.seam) input.needs.now) joint.slot
 
 -- this is decided, or nothing
-abbrev pub AreJoint : Option Joint → Option CodeJoint → Type 0
+abbrev pub AreJoint : Option JointFrames → Option CodeJoint → Type 0
 AreJoint None None = Unit {0}
 AreJoint (Some joint) (Some result) = IsJoint joint result
 AreJoint _ _ = ⊥
 
 -- frames join with this seam, or can't
-abbrev pub IsJoining : Seam → Option (List Frame) → Option CodeJoint → Type 0
-IsJoining seam frames result = AreJoint (option_map (joint_with seam) frames) result
+abbrev pub IsJointOfFrames : Seam → Option (List RunFrame) → Option CodeJoint → Type 0
+IsJointOfFrames seam frames result = AreJoint (option_map (joint_with seam) frames) result
 
 -- so it is with frames that are left of an input behind a run, which need this
 abbrev pub JoinRun : Seam → List Need → Run → Option CodeJoint → Type 0
 JoinRun seam needs run result =
-    (class : ClassFields) (frames rest : List Frame) (places : List FramePlace) (before : Brought)
-    → IsRun class frames places before run → needs ≡ needs_of rest
-    → IsJoining seam (joining (window_of class.version) frames rest) result
+    (class : ClassFields) (frames rest : List RunFrame) (places : List FramePlace)
+    (before : Brought) → IsRun class frames places before run → needs ≡ needs_of rest
+    → IsJointOfFrames seam (joining_frames (window_of class.version) frames rest) result

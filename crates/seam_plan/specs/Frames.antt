@@ -5,18 +5,18 @@ use Rattle.slot_plan.specs.declared.needs.Need.{Need}
 
 -- A frame: what it needs, and its sound: the numbers by which it is compared
 -- with others, which tell its entry in the stream, but for the gains.
-pub record Frame : Type 0 where
+pub record RunFrame : Type 0 where
   pub need : Need
   pub sound : List ℕ
 
 -- what these frames need
-abbrev pub needs_of : List Frame → List Need
+abbrev pub needs_of : List RunFrame → List Need
 needs_of frames = map (λ f. f.need) frames
 
 -- what an input brings: its frames, and its played positions
 pub record Brought : Type 0 where
   -- all its frames; there is one
-  pub frames : List Frame
+  pub frames : List RunFrame
   -- all bytes of the side information of the first are 0
   pub blank : Bool
   -- its played positions, where its head counts

@@ -3,9 +3,9 @@ use Rattle.std.specs.Prelude.{Bool, bytes_eq, drop, false, find, List, map, nat_
 use Rattle.std.specs.Prelude.{Option, option_map, Some, ℕ, [], ◌&&◌, ◌++◌, ◌∷◌}
 use Rattle.frame_header.specs.Fields.{ClassFields, HeaderFields, SlotFields}
 use Rattle.frame_header.specs.{HeaderBits.header_bits, Slots.all_slots, Tables.{area_of, class_of}}
-use Rattle.seam_plan.specs.Frames.{Brought, Frame, needs_of}
-use Rattle.slot_plan.specs.{Behind.in_slot, Layouts.has_layout, Parts.{own_area, own_frame}}
-use Rattle.slot_plan.specs.declared.needs.Need.{Need}
+use Rattle.seam_plan.specs.Frames.{Brought, needs_of, RunFrame}
+use Rattle.slot_plan.specs.{FreeBytes.need_in_slot, Layouts.has_layout}
+use Rattle.slot_plan.specs.{Parts.{own_frame, own_slot_area}, declared.needs.Need.Need}
 
 -- frames, each in its own slot, have a layout after so many bytes of areas that hold nothing
 -- (`FitsBehind` of `slot_plan` as a value)
@@ -27,18 +27,18 @@ lead_in_header window (first ∷ needs) =
     (lead_in_slot window (class_of first.header) (first ∷ needs))
 
 -- the same 32 bits
-abbrev pub same_header : HeaderFields → HeaderFields → Bool
-same_header g h = bytes_eq (header_bits g) (header_bits h)
+abbrev pub is_same_header : HeaderFields → HeaderFields → Bool
+is_same_header g h = bytes_eq (header_bits g) (header_bits h)
 
 -- there is this header
-abbrev pub is_header : HeaderFields → Option HeaderFields → Bool
-is_header h None = false
-is_header h (Some other) = same_header h other
+abbrev pub matches_header : HeaderFields → Option HeaderFields → Bool
+matches_header h None = false
+matches_header h (Some other) = is_same_header h other
 
 -- the first frame has the header of the lead-in of all frames after it, of which there is one
 abbrev pub leads_others : ℕ → List Need → Bool
 leads_others window [] = false
-leads_others window (first ∷ needs) = is_header first.header (lead_in_header window needs)
+leads_others window (first ∷ needs) = matches_header first.header (lead_in_header window needs)
 
 -- The input has a lead-in in front, whichever program wrote it: all bytes of the side information
 -- of its first frame are 0, and it has the header of the lead-in of the frames after it.
@@ -46,30 +46,31 @@ unfoldable pub has_lead_in : ℕ → Brought → Bool
 has_lead_in window input = input.blank && leads_others window (needs_of input.frames)
 
 -- The frames after it want it: without main data before them they don't fit.
-abbrev pub is_wanted : ℕ → Brought → Bool
-is_wanted window input = not (fits_behind window 0 (needs_of (drop 1 input.frames)))
+abbrev pub is_lead_in_wanted : ℕ → Brought → Bool
+is_lead_in_wanted window input = not (fits_behind window 0 (needs_of (drop 1 input.frames)))
 
 -- ---- frames that join a run
 
 -- the frame in this slot has no smaller area than in its own
-abbrev pub is_no_less : Need → SlotFields → Bool
-is_no_less need slot = nat_le (own_area need) (own_area (in_slot slot need))
+abbrev pub is_area_no_less : Need → SlotFields → Bool
+is_area_no_less need slot = nat_le (own_slot_area need) (own_slot_area (need_in_slot slot need))
 
 -- The slot in which the first of some frames joins a run of frames, so that the run, this frame and
 -- then the others fit behind a whole window: the least that is no less than its own.
 abbrev pub join_slot : ℕ → List Need → Need → List Need → Option SlotFields
 join_slot window run first needs =
     find
-    (λ slot. is_no_less first slot && fits_behind window window (run ++ in_slot slot first ∷ needs))
+    (λ slot. is_area_no_less first slot
+    && fits_behind window window (run ++ need_in_slot slot first ∷ needs))
     all_slots
 
 -- a frame in another slot
-abbrev pub moved_to : SlotFields → Frame → Frame
-moved_to slot f = record f { need = in_slot slot f.need }
+abbrev pub frame_in_slot : SlotFields → RunFrame → RunFrame
+frame_in_slot slot f = record f { need = need_in_slot slot f.need }
 
 -- The frames as they join a run, the first in its slot, if they can. No frames always can.
-unfoldable pub joining : ℕ → List Frame → List Frame → Option (List Frame)
-joining window run [] = Some []
-joining window run (first ∷ frames) =
-    option_map (λ slot. moved_to slot first ∷ frames)
+unfoldable pub joining_frames : ℕ → List RunFrame → List RunFrame → Option (List RunFrame)
+joining_frames window run [] = Some []
+joining_frames window run (first ∷ frames) =
+    option_map (λ slot. frame_in_slot slot first ∷ frames)
     (join_slot window (needs_of run) first.need (needs_of frames))

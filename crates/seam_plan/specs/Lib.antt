@@ -6,6 +6,6 @@ pub mod Decisions
 pub mod Laws
 pub use Rattle.exact_span.specs.Overlaps
 pub use Rattle.exact_span.specs.PlayedPositions
-pub use Rattle.slot_plan.specs.Behind
+pub use Rattle.slot_plan.specs.FreeBytes
 pub use Rattle.slot_plan.specs.Layouts
 pub use Rattle.slot_plan.specs.Parts

@@ -4,41 +4,43 @@ use Rattle.std.specs.Option.{option_or}
 use Rattle.std.specs.Prelude.{Bool, bytes_eq, drop, false, flat_map, if◌then◌else◌, length, List}
 use Rattle.std.specs.Prelude.{nat_le, None, not, Option, option_and_then, option_map, slice_range}
 use Rattle.std.specs.Prelude.{true, unwrap_or, ℕ, [], ◌&&◌, ◌++◌, ◌-◌, ◌∷◌}
-use Rattle.exact_span.specs.{Overlaps.shared_of, PlayedPositions.rest_of}
+use Rattle.exact_span.specs.{Overlaps.shared_overlap, PlayedPositions.rest_of}
 use Rattle.exact_span.specs.declared.{overlap.Overlap.Overlap, played.Played.Played}
 use Rattle.frame_header.specs.{Fields.ClassFields, Tables.window_of}
-use Rattle.seam_plan.specs.Frames.{Brought, Frame, needs_of}
-use Rattle.seam_plan.specs.Joins.{fits_behind, has_lead_in, is_wanted, joining}
+use Rattle.seam_plan.specs.Frames.{Brought, needs_of, RunFrame}
+use Rattle.seam_plan.specs.Joins.{fits_behind, has_lead_in, is_lead_in_wanted, joining_frames}
 use Rattle.seam_plan.specs.declared.seam.Seam.{Seam, TheVariants.{Follows, LeadIn, Whole}}
 
 -- what becomes of an input: its seam, and the frames that it adds to the run, the first of them in
 -- the slot in which it joined
-pub record Joint : Type 0 where
+pub record JointFrames : Type 0 where
   pub seam : Seam
-  pub frames : List Frame
+  pub frames : List RunFrame
 
 -- the joint with this seam and these frames
-abbrev pub joint_with : Seam → List Frame → Joint
+abbrev pub joint_with : Seam → List RunFrame → JointFrames
 joint_with seam frames = record { seam = seam; frames = frames }
 
 -- how many frames are left out at its front
-abbrev pub left_out : Seam → ℕ
-left_out (Follows frames) = frames
-left_out LeadIn = 1
-left_out Whole = 0
+abbrev pub left_out_count : Seam → ℕ
+left_out_count (Follows frames) = frames
+left_out_count LeadIn = 1
+left_out_count Whole = 0
 
 -- ---- an input that follows the one before it
 
 -- frames that are alike, one by one
-unfoldable pub are_alike : List Frame → List Frame → Bool
-are_alike [] [] = true
-are_alike (f ∷ frames) (g ∷ others) = bytes_eq f.sound g.sound && are_alike frames others
-are_alike _ _ = false
+unfoldable pub are_frames_alike : List RunFrame → List RunFrame → Bool
+are_frames_alike [] [] = true
+are_frames_alike (f ∷ frames) (g ∷ others) =
+    bytes_eq f.sound g.sound && are_frames_alike frames others
+are_frames_alike _ _ = false
 
 -- the last frames of a run are alike these
-abbrev pub ends_alike : List Frame → List Frame → Bool
+abbrev pub ends_alike : List RunFrame → List RunFrame → Bool
 ends_alike run frames =
-    nat_le (length frames) (length run) && are_alike (drop (length run - length frames) run) frames
+    nat_le (length frames) (length run)
+    && are_frames_alike (drop (length run - length frames) run) frames
 
 -- the frames that an input shares with the one before it, where the heads of both count
 abbrev pub overlap_of : ClassFields → Brought → Brought → Option Overlap
@@ -46,87 +48,90 @@ overlap_of class before input =
     option_and_then
     (λ (p : Played).
     option_and_then
-    (λ (q : Played). shared_of class
+    (λ (q : Played). shared_overlap class
     (rest_of class (length before.frames) p) q.start (length input.frames))
     input.played)
     before.played
 
 -- of the frames that it shares, those that are to be alike
-abbrev pub compared : Overlap → Brought → List Frame
-compared overlap input = slice_range input.frames overlap.first_alike overlap.frames
+abbrev pub compared_frames : Overlap → Brought → List RunFrame
+compared_frames overlap input = slice_range input.frames overlap.first_alike overlap.frames
 
 -- these are alike the last frames of the run, and the frames after them can join it
-abbrev pub follow_by : ClassFields → List Frame → Brought → Overlap → Option Joint
-follow_by class run input overlap =
-    if ends_alike run (compared overlap input)
+abbrev pub overlap_joint : ClassFields → List RunFrame → Brought → Overlap → Option JointFrames
+overlap_joint class run input overlap =
+    if ends_alike run (compared_frames overlap input)
     then option_map (joint_with (Follows overlap.frames))
-    (joining (window_of class.version) run (drop overlap.frames input.frames))
+    (joining_frames (window_of class.version) run (drop overlap.frames input.frames))
     else None
 
 -- what becomes of an input that follows the one before it, if it can
-unfoldable pub following : ClassFields → List Frame → Brought → Brought → Option Joint
-following class run before input =
-    option_and_then (follow_by class run input) (overlap_of class before input)
+unfoldable pub following_joint : ClassFields → List RunFrame → Brought → Brought
+    → Option JointFrames
+following_joint class run before input =
+    option_and_then (overlap_joint class run input) (overlap_of class before input)
 
 -- ---- an input whose lead-in is left out
 
 -- it has a lead-in in front, which is wanted, and its other frames can join the run
-unfoldable pub without_lead_in : ClassFields → List Frame → Brought → Option Joint
-without_lead_in class run input =
-    if has_lead_in (window_of class.version) input && is_wanted (window_of class.version) input
+unfoldable pub joint_without_lead_in : ClassFields → List RunFrame → Brought → Option JointFrames
+joint_without_lead_in class run input =
+    if has_lead_in (window_of class.version) input
+    && is_lead_in_wanted (window_of class.version) input
     then option_map (joint_with LeadIn)
-    (joining (window_of class.version) run (drop 1 input.frames))
+    (joining_frames (window_of class.version) run (drop 1 input.frames))
     else None
 
 -- ---- all inputs
 
 -- all its frames, in their own slots
-abbrev pub whole : Brought → Joint
-whole input = joint_with Whole input.frames
+abbrev pub whole_joint : Brought → JointFrames
+whole_joint input = joint_with Whole input.frames
 
 -- what becomes of an input after a run that ends with what the input before it
 -- added: it follows that one, or else its lead-in is left out, or else it is whole
-abbrev pub joint_of : ClassFields → List Frame → Brought → Brought → Joint
+abbrev pub joint_of : ClassFields → List RunFrame → Brought → Brought → JointFrames
 joint_of class run before input =
-    unwrap_or (option_or (following class run before input) (without_lead_in class run input))
-    (whole input)
+    unwrap_or (option_or (following_joint class run before input)
+    (joint_without_lead_in class run input))
+    (whole_joint input)
 
 -- what becomes of inputs, one after the other
-unfoldable pub joints_from : ClassFields → List Frame → Brought → List Brought → List Joint
+unfoldable pub joints_from : ClassFields → List RunFrame → Brought → List Brought → List JointFrames
 joints_from class run before [] = []
 joints_from class run before (input ∷ inputs) =
     let joint = joint_of class run before input in
     joint ∷ joints_from class (run ++ joint.frames) input inputs
 
 -- what becomes of the inputs after the first, which begins the run with all its frames
-abbrev pub joints_of : ClassFields → Brought → List Brought → List Joint
+abbrev pub joints_of : ClassFields → Brought → List Brought → List JointFrames
 joints_of class first inputs = joints_from class first.frames first inputs
 
 -- the frames of all inputs that are in the run
-abbrev pub run_with : Brought → List Joint → List Frame
-run_with first joints = first.frames ++ flat_map (λ (j : Joint). j.frames) joints
+abbrev pub run_with : Brought → List JointFrames → List RunFrame
+run_with first joints = first.frames ++ flat_map (λ (j : JointFrames). j.frames) joints
 
 -- The lead-in of the first input leaves the run at last if the run without
 -- it wants one: then it gets one again, with the area that all of them want.
-unfoldable pub front_left_out : ClassFields → Brought → List Frame → ℕ
-front_left_out class first run =
+unfoldable pub front_left_out_count : ClassFields → Brought → List RunFrame → ℕ
+front_left_out_count class first run =
     let window = window_of class.version in
     if has_lead_in window first && not (fits_behind window 0 (needs_of (drop 1 run))) then 1 else 0
 
 -- what becomes of all inputs: how many frames are left out at the front of the first, and of each
 -- later one its seam and its frames
-pub record Joined : Type 0 where
+pub record SeamlessJoin : Type 0 where
   pub front : ℕ
-  pub joints : List Joint
+  pub joints : List JointFrames
 
 -- what becomes of these inputs
-unfoldable pub joined_of : ClassFields → Brought → List Brought → Joined
-joined_of class first inputs =
+unfoldable pub seamless_join : ClassFields → Brought → List Brought → SeamlessJoin
+seamless_join class first inputs =
     let joints = joints_of class first inputs in record {
-      front = front_left_out class first (run_with first joints);
+      front = front_left_out_count class first (run_with first joints);
       joints = joints;
     }
 
 -- the run: the frames that are written
-abbrev pub run_of : Brought → Joined → List Frame
+abbrev pub run_of : Brought → SeamlessJoin → List RunFrame
 run_of first joined = drop joined.front (run_with first joined.joints)

@@ -14,7 +14,7 @@ pub struct Input<'a> {
 }
 
 /// What all frames need but so many at the front.
-pub(crate) fn behind(needs: &[Need], count: usize) -> &[Need]
+pub(crate) fn needs_after(needs: &[Need], count: usize) -> &[Need]
     requires { count ≤ length needs.now }
     ensures { result.now ≡ drop count needs.now }
 {

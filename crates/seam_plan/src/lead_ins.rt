@@ -2,20 +2,20 @@
 ghost use Rattle.std.specs.Prelude.{◌≡◌, ◌<◌, List, length, drop};
 ghost use Rattle.frame_header.specs.Tables.{window_of};
 ghost use Rattle.frame_header.specs.Fields.{ClassFields};
-ghost use Rattle.slot_plan.specs.Parts.{AreOfClass};
-ghost use Rattle.slot_plan.specs.Behind.{FitBehindWindow};
-ghost use Rattle.seam_plan.specs.Frames.{Frame, Brought, needs_of};
-ghost use Rattle.seam_plan.specs.Joins.{has_lead_in as has_lead_in_lem, leads_others as leads_others_lem, same_header, fits_behind};
-ghost use Rattle.seam_plan.specs.Seams.{front_left_out as front_left_out_lem};
-ghost use Rattle.seam_plan.specs.Decisions.{IsBrought};
+ghost use Rattle.slot_plan.specs.Parts.{AreNeedsOfClass};
+ghost use Rattle.slot_plan.specs.FreeBytes.{FitBehindWindow};
+ghost use Rattle.seam_plan.specs.Frames.{RunFrame, Brought, needs_of};
+ghost use Rattle.seam_plan.specs.Joins.{has_lead_in, leads_others, is_same_header, fits_behind};
+ghost use Rattle.seam_plan.specs.Seams.{front_left_out_count};
+ghost use Rattle.seam_plan.specs.Decisions.{IsBroughtInput};
 
-use crate::input::{Input, behind};
+use crate::input::{Input, needs_after};
 use frame_header::Header;
 use slot_plan::{Need, lead_in, wants};
 
 /// Whether two headers are the same 32 bits.
 fn are_same(first: &Header, second: &Header) -> bool
-    ensures { result ≡ same_header first.now second.now }
+    ensures { result ≡ is_same_header first.now second.now }
 {
     first.bytes() == second.bytes()
 }
@@ -23,20 +23,20 @@ fn are_same(first: &Header, second: &Header) -> bool
 /// Whether the first frame has the header of the lead-in of all frames after it, of which there is one.
 fn leads_others(needs: &[Need]) -> bool
     requires { FitBehindWindow needs.now }
-    ensures { (class : ClassFields) → AreOfClass class needs.now
-        → result ≡ leads_others_lem (window_of class.version) needs.now }
+    ensures { (class : ClassFields) → AreNeedsOfClass class needs.now
+        → result ≡ leads_others (window_of class.version) needs.now }
 {
     if needs.len() < 2 {
         return false;
     }
-    let header = lead_in(behind(needs, 1));
+    let header = lead_in(needs_after(needs, 1));
     are_same(&needs[0].header, &header)
 }
 
 /// Whether the frames fit behind no bytes.
 pub(crate) fn fit_alone(needs: &[Need]) -> bool
     requires { FitBehindWindow needs.now }
-    ensures { (class : ClassFields) → AreOfClass class needs.now
+    ensures { (class : ClassFields) → AreNeedsOfClass class needs.now
         → result ≡ fits_behind (window_of class.version) 0 needs.now }
 {
     wants(needs) == 0
@@ -46,8 +46,8 @@ pub(crate) fn fit_alone(needs: &[Need]) -> bool
 /// it has the header of the lead-in of the frames after it.
 pub(crate) fn has_lead_in(input: &Input<'_>) -> bool
     requires { FitBehindWindow input.now.needs.now }
-    ensures { (class : ClassFields) (brought : Brought) → AreOfClass class input.now.needs.now
-        → IsBrought input.now brought → result ≡ has_lead_in_lem (window_of class.version) brought }
+    ensures { (class : ClassFields) (brought : Brought) → AreNeedsOfClass class input.now.needs.now
+        → IsBroughtInput input.now brought → result ≡ has_lead_in (window_of class.version) brought }
 {
     input.blank && leads_others(input.needs)
 }
@@ -58,13 +58,13 @@ pub fn front_left_out(first: &Input<'_>, run: &[Need]) -> u32
     requires input { FitBehindWindow first.now.needs.now }
     requires some { 0 < length run.now }
     requires run { FitBehindWindow (drop 1 run.now) }
-    ensures { (class : ClassFields) (brought : Brought) (frames : List Frame)
-        → AreOfClass class first.now.needs.now → AreOfClass class run.now
-        → IsBrought first.now brought → run.now ≡ needs_of frames
-        → result ≡ front_left_out_lem class brought frames }
+    ensures { (class : ClassFields) (brought : Brought) (frames : List RunFrame)
+        → AreNeedsOfClass class first.now.needs.now → AreNeedsOfClass class run.now
+        → IsBroughtInput first.now brought → run.now ≡ needs_of frames
+        → result ≡ front_left_out_count class brought frames }
 {
     if !has_lead_in(first) {
         return 0;
     }
-    if fit_alone(behind(run, 1)) { 0 } else { 1 }
+    if fit_alone(needs_after(run, 1)) { 0 } else { 1 }
 }

@@ -2,14 +2,14 @@
 ghost use Rattle.std.specs.Prelude.{◌≡◌, ◌<◌, ◌≤◌, ◌-◌, ◌++◌, List, [], ◌∷◌, length, drop, IfSome, option_map};
 ghost use Rattle.frame_header.specs.Fields.{ClassFields};
 ghost use Rattle.frame_header.specs.Tables.{window_of};
-ghost use Rattle.exact_span.specs.PlayedPositions.{rest_of as rest_of_lem, longest_rest};
-ghost use Rattle.slot_plan.specs.Parts.{AreOfClass};
-ghost use Rattle.slot_plan.specs.Behind.{FitsBehind, IsLeft, in_slot as in_slot_lem};
-ghost use Rattle.seam_plan.specs.Frames.{Frame, Brought, needs_of};
-ghost use Rattle.seam_plan.specs.Seams.{joint_of, left_out, overlap_of, following as following_lem, without_lead_in as without_lead_in_lem};
-ghost use Rattle.seam_plan.specs.Decisions.{CanBeJoined, IsBrought, IsRun, IsWithin, IsJoint, AreJoint, FitIn, FitsAs, IsSlid, IsSound, CanFollow, JoinRun, Joins, RunGoesOn, alike_overlap, last_of, last_seven, moved_first, places_from};
+ghost use Rattle.exact_span.specs.PlayedPositions.{rest_of, longest_rest};
+ghost use Rattle.slot_plan.specs.Parts.{AreNeedsOfClass};
+ghost use Rattle.slot_plan.specs.FreeBytes.{FitsBehind, IsMostLeft, need_in_slot};
+ghost use Rattle.seam_plan.specs.Frames.{RunFrame, Brought, needs_of};
+ghost use Rattle.seam_plan.specs.Seams.{joint_of, left_out_count, overlap_of, following_joint, joint_without_lead_in};
+ghost use Rattle.seam_plan.specs.Decisions.{IsJoinableInput, IsBroughtInput, IsRun, IsRunInWindow, IsJoint, AreJoint, AddedFramesFit, AddedInputFits, IsSlid, IsSoundRun, CanFollow, JoinRun, JoinsRun, RunGoesOn, alike_overlap, last_places, last_seven, joined_needs, frame_places};
 
-use crate::input::{Input, behind};
+use crate::input::{Input, needs_after};
 use crate::lead_ins::{fit_alone, has_lead_in};
 use crate::seam::Seam;
 use arrayvec::ArrayVec;
@@ -44,9 +44,9 @@ pub struct Run {
 
 /// How many positions of the input are after its last played one, where its head counts.
 fn rest_of(class: Class, input: &Input<'_>) -> Option<u64>
-    requires { CanBeJoined class input.now }
+    requires { IsJoinableInput class input.now }
     ensures most { IfSome result (λ rest. rest ≤ longest_rest) }
-    ensures rest { result ≡ option_map (λ p. rest_of_lem class (length input.now.needs.now) p)
+    ensures rest { result ≡ option_map (λ p. rest_of class (length input.now.needs.now) p)
         input.now.played }
 {
     let played = input.played?;
@@ -55,7 +55,7 @@ fn rest_of(class: Class, input: &Input<'_>) -> Option<u64>
 
 /// A frame that is the first of others in another slot.
 fn in_slot(need: &Need, slot: Slot) -> Need
-    ensures { result ≡ in_slot_lem slot need.now }
+    ensures { result ≡ need_in_slot slot need.now }
 {
     let mut moved = *need;
     moved.header.slot = slot;
@@ -75,10 +75,10 @@ fn slide(last: &mut ArrayVec<FramePlace, 7>, place: FramePlace)
 impl Run {
     /// The run that begins with all frames of the first input. It takes no memory.
     pub fn begin(class: Class, input: &Input<'_>) -> Run
-        requires { CanBeJoined class input.now }
-        ensures run { (first : Brought) → IsBrought input.now first
-            → IsRun class first.frames (places_from 0 0 (length first.frames)) first result }
-        ensures sound { IsSound result }
+        requires { IsJoinableInput class input.now }
+        ensures run { (first : Brought) → IsBroughtInput input.now first
+            → IsRun class first.frames (frame_places 0 0 (length first.frames)) first result }
+        ensures sound { IsSoundRun result }
         ensures class { result.class ≡ class }
     {
         let window = class.window();
@@ -94,11 +94,11 @@ impl Run {
 
     /// The frames that the next input shares with the one before it, where the heads of both count.
     pub fn overlap(&self, input: &Input<'_>) -> Option<Overlap>
-        requires input { CanBeJoined self.now.class input.now }
-        requires sound { IsSound self.now }
-        ensures overlap { (class : ClassFields) (frames : List Frame) (places : List FramePlace)
+        requires input { IsJoinableInput self.now.class input.now }
+        requires sound { IsSoundRun self.now }
+        ensures overlap { (class : ClassFields) (frames : List RunFrame) (places : List FramePlace)
             (before brought : Brought) → IsRun class frames places before self.now
-            → IsBrought input.now brought → result ≡ overlap_of class before brought }
+            → IsBroughtInput input.now brought → result ≡ overlap_of class before brought }
         ensures can { IfSome result (CanFollow input.now) }
     {
         let rest = self.rest?;
@@ -108,9 +108,9 @@ impl Run {
 
     /// The last frames of the run, so many. `None` exactly where it has fewer.
     pub fn last(&self, count: usize) -> Option<&[FramePlace]>
-        ensures { (class : ClassFields) (frames : List Frame) (places : List FramePlace)
+        ensures { (class : ClassFields) (frames : List RunFrame) (places : List FramePlace)
             (before : Brought) → IsRun class frames places before self.now → count ≤ 7
-            → option_map (λ s. s.now) result ≡ last_of places count }
+            → option_map (λ s. s.now) result ≡ last_places places count }
     {
         let last = self.last.as_slice();
         if count > last.len() {
@@ -121,17 +121,17 @@ impl Run {
 
     /// The run has these frames of an input behind its own, the first of them in this slot, if there is one.
     fn add(&mut self, needs: &[Need], slot: Option<Slot>)
-        requires within { IsWithin self.old }
-        requires same { AreOfClass self.old.class needs.now }
-        requires fit { FitIn self.old.class self.old.left needs.now slot }
+        requires within { IsRunInWindow self.old }
+        requires same { AreNeedsOfClass self.old.class needs.now }
+        requires fit { AddedFramesFit self.old.class self.old.left needs.now slot }
         ensures class { self.new.class ≡ self.old.class }
         ensures last { self.new.last ≡ self.old.last }
         ensures rest { self.new.rest ≡ self.old.rest }
-        ensures within { IsWithin self.new }
-        ensures left { (frames : List Need) → IsLeft (window_of self.old.class.version)
+        ensures within { IsRunInWindow self.new }
+        ensures left { (frames : List Need) → IsMostLeft (window_of self.old.class.version)
             (window_of self.old.class.version) frames self.old.left
-            → IsLeft (window_of self.old.class.version) (window_of self.old.class.version)
-            (frames ++ moved_first slot needs.now) self.new.left }
+            → IsMostLeft (window_of self.old.class.version) (window_of self.old.class.version)
+            (frames ++ joined_needs slot needs.now) self.new.left }
     {
         let Some(slot) = slot else {
             return;
@@ -139,7 +139,7 @@ impl Run {
         let first = in_slot(&needs[0], slot);
         let window = self.class.window();
         let free = free_behind(window, self.left, first.bytes, first.header.area());
-        self.left = leaves(behind(needs, 1), free);
+        self.left = leaves(needs_after(needs, 1), free);
     }
 
     /// The run has the frames of an input from one to before another behind its own.
@@ -149,7 +149,7 @@ impl Run {
         ensures left { self.new.left ≡ self.old.left }
         ensures rest { self.new.rest ≡ self.old.rest }
         ensures last { (places : List FramePlace) → self.old.last.items ≡ last_seven places
-            → self.new.last.items ≡ last_seven (places ++ places_from input from (to - from)) }
+            → self.new.last.items ≡ last_seven (places ++ frame_places input from (to - from)) }
     {
         let first = from.max(to.saturating_sub(7));
         for frame in first..to {
@@ -160,12 +160,12 @@ impl Run {
     /// How the frames of an input that are left with this seam join the run: the slot of the first, if there is
     /// one. `None` where they can't.
     fn joining(&self, seam: Seam, needs: &[Need]) -> Option<Joint>
-        requires within { IsWithin self.now }
-        requires same { AreOfClass self.now.class needs.now }
+        requires within { IsRunInWindow self.now }
+        requires same { AreNeedsOfClass self.now.class needs.now }
         requires fits { FitsBehind (window_of self.now.class.version)
             (window_of self.now.class.version) needs.now }
         ensures joining { JoinRun seam needs.now self.now result }
-        ensures fit { IfSome result (λ j. FitIn self.now.class self.now.left needs.now j.slot) }
+        ensures fit { IfSome result (λ j. AddedFramesFit self.now.class self.now.left needs.now j.slot) }
         ensures seam { IfSome result (λ j. j.seam ≡ seam) }
     {
         if needs.is_empty() {
@@ -182,33 +182,33 @@ impl Run {
 
     /// The next input follows the one before it, if the frames that have to be alike are.
     fn following(&self, input: &Input<'_>, alike: Option<Overlap>) -> Option<Joint>
-        requires input { CanBeJoined self.now.class input.now }
-        requires within { IsWithin self.now }
+        requires input { IsJoinableInput self.now.class input.now }
+        requires within { IsRunInWindow self.now }
         requires alike { IfSome alike (λ o. o.frames ≤ length input.now.needs.now) }
-        ensures joint { (class : ClassFields) (frames : List Frame) (places : List FramePlace)
+        ensures joint { (class : ClassFields) (frames : List RunFrame) (places : List FramePlace)
             (before brought : Brought) → IsRun class frames places before self.now
-            → IsBrought input.now brought → alike ≡ alike_overlap class frames before brought
-            → AreJoint (following_lem class frames before brought) result }
-        ensures fits { IfSome result (FitsAs self.now.class self.now.left input.now) }
+            → IsBroughtInput input.now brought → alike ≡ alike_overlap class frames before brought
+            → AreJoint (following_joint class frames before brought) result }
+        ensures fits { IfSome result (AddedInputFits self.now.class self.now.left input.now) }
     {
         let Some(overlap) = alike else {
             return None;
         };
-        let needs = behind(input.needs, overlap.frames as usize);
+        let needs = needs_after(input.needs, overlap.frames as usize);
         self.joining(Seam::Follows(overlap.frames), needs)
     }
 
     /// The lead-in of the next input is left out, if it has one that is wanted.
     fn without_lead_in(&self, input: &Input<'_>) -> Option<Joint>
-        requires input { CanBeJoined self.now.class input.now }
-        requires within { IsWithin self.now }
-        ensures joint { (class : ClassFields) (frames : List Frame) (places : List FramePlace)
+        requires input { IsJoinableInput self.now.class input.now }
+        requires within { IsRunInWindow self.now }
+        ensures joint { (class : ClassFields) (frames : List RunFrame) (places : List FramePlace)
             (before brought : Brought) → IsRun class frames places before self.now
-            → IsBrought input.now brought
-            → AreJoint (without_lead_in_lem class frames brought) result }
-        ensures fits { IfSome result (FitsAs self.now.class self.now.left input.now) }
+            → IsBroughtInput input.now brought
+            → AreJoint (joint_without_lead_in class frames brought) result }
+        ensures fits { IfSome result (AddedInputFits self.now.class self.now.left input.now) }
     {
-        let others = behind(input.needs, 1);
+        let others = needs_after(input.needs, 1);
         if !has_lead_in(input) {
             return None;
         }
@@ -220,14 +220,14 @@ impl Run {
 
     /// What becomes of the next input.
     fn decide(&self, input: &Input<'_>, alike: Option<Overlap>) -> Joint
-        requires input { CanBeJoined self.now.class input.now }
-        requires within { IsWithin self.now }
+        requires input { IsJoinableInput self.now.class input.now }
+        requires within { IsRunInWindow self.now }
         requires alike { IfSome alike (λ o. o.frames ≤ length input.now.needs.now) }
-        ensures joint { (class : ClassFields) (frames : List Frame) (places : List FramePlace)
+        ensures joint { (class : ClassFields) (frames : List RunFrame) (places : List FramePlace)
             (before brought : Brought) → IsRun class frames places before self.now
-            → IsBrought input.now brought → alike ≡ alike_overlap class frames before brought
+            → IsBroughtInput input.now brought → alike ≡ alike_overlap class frames before brought
             → IsJoint (joint_of class frames before brought) result }
-        ensures fits { FitsAs self.now.class self.now.left input.now result }
+        ensures fits { AddedInputFits self.now.class self.now.left input.now result }
     {
         if let Some(joint) = self.following(input, alike) {
             return joint;
@@ -255,22 +255,22 @@ impl Run {
     /// Frames can join where all fit behind a whole window with the first of them in its own slot or in a
     /// greater one; they join in the least such slot. It takes no memory.
     pub fn join(&mut self, number: u32, input: &Input<'_>, alike: Option<Overlap>) -> Joint
-        requires input { CanBeJoined self.old.class input.now }
-        requires sound { IsSound self.old }
+        requires input { IsJoinableInput self.old.class input.now }
+        requires sound { IsSoundRun self.old }
         requires alike { IfSome alike (λ o. o.frames ≤ length input.now.needs.now) }
-        ensures joint { (class : ClassFields) (frames : List Frame) (places : List FramePlace)
+        ensures joint { (class : ClassFields) (frames : List RunFrame) (places : List FramePlace)
             (before brought : Brought) → IsRun class frames places before self.old
-            → IsBrought input.now brought → alike ≡ alike_overlap class frames before brought
-            → Joins class number frames places before brought result self.new }
+            → IsBroughtInput input.now brought → alike ≡ alike_overlap class frames before brought
+            → JoinsRun class number frames places before brought result self.new }
         // Whatever is alike.
-        ensures fits { FitsAs self.old.class self.old.left input.now result }
+        ensures fits { AddedInputFits self.old.class self.old.left input.now result }
         ensures goes_on { RunGoesOn number input.now result self.old self.new }
-        ensures sound { IsSound self.new }
+        ensures sound { IsSoundRun self.new }
         ensures class { self.new.class ≡ self.old.class }
     {
         let joint = self.decide(input, alike);
         let left_out = joint.seam.left_out();
-        self.add(behind(input.needs, left_out as usize), joint.slot);
+        self.add(needs_after(input.needs, left_out as usize), joint.slot);
         self.note(number, left_out, input.needs.len() as u32);
         self.rest = rest_of(self.class, input);
         joint

@@ -1,6 +1,6 @@
 //! What becomes of an input after the first.
 ghost use Rattle.std.specs.Prelude.{◌≡◌};
-ghost use Rattle.seam_plan.specs.Seams.{left_out};
+ghost use Rattle.seam_plan.specs.Seams.{left_out_count};
 
 /// Which frames are left out at the front of an input.
 #[derive(Clone, Copy, Debug, PartialEq, Eq)]
@@ -17,7 +17,7 @@ pub enum Seam {
 impl Seam {
     /// How many frames are left out at the front of the input.
     pub fn left_out(self) -> u32
-        ensures { result ≡ left_out self }
+        ensures { result ≡ left_out_count self }
     {
         match self {
             Seam::Follows(frames) => frames,

@@ -1,10 +1,10 @@
-pub mod GranuleLaws
-pub mod SideLaws
-pub mod CheckWordLaws
-pub mod FrameLaws
-pub mod LastBytes
-mod DivisionLaws
-mod ReadLaws
-mod WriteLaws
-pub mod GainsLaws
-pub mod FrontLaws
+pub mod GranuleLemmas
+pub mod SideLemmas
+pub mod CheckWordLemmas
+pub mod FrameLemmas
+pub mod LastBytesLemmas
+mod CrcLemmas
+mod ReadLemmas
+mod WriteLemmas
+pub mod GainsLemmas
+pub mod FrontLemmas

@@ -14,27 +14,27 @@ polynomial = 0x8005
 
 -- the word one bit further on: shifted by one, and less the
 -- divisor where the bit that went out isn't the bit that comes in
-unfoldable pub bit_step : ℕ → ℕ → ℕ
-bit_step word bit = let shifted = word * 2 % 65536 in
+unfoldable pub crc_bit : ℕ → ℕ → ℕ
+crc_bit word bit = let shifted = word * 2 % 65536 in
     if bit_at word 15 == bit then shifted else bit_xor shifted polynomial
 
 -- the word after these bits, which come in one after the other
 unfoldable pub remainder : ℕ → List ℕ → ℕ
 remainder word [] = word
-remainder word (bit ∷ rest) = remainder (bit_step word bit) rest
+remainder word (bit ∷ rest) = remainder (crc_bit word bit) rest
 
 -- all ones, from which the division starts
-abbrev pub start_word : ℕ
-start_word = 0xffff
+abbrev pub crc_start : ℕ
+crc_start = 0xffff
 
 -- the check word of a frame: over the last 16 bits of the header and the side bits, one bit at a
 -- time, from all ones
 unfoldable pub check_word_of : HeaderFields → Side → ℕ
-check_word_of h s = remainder start_word (drop 16 (header_bits h) ++ side_bits (class_of h) s)
+check_word_of h s = remainder crc_start (drop 16 (header_bits h) ++ side_bits (class_of h) s)
 
 -- the check word of these four bytes and of the side bytes after them
-pub record IsWordOf (header part : List ℕ) (word : ℕ) : Type 0 where
-  pub bytes : word ≡ remainder start_word (bits (drop 2 header ++ part))
+pub record IsCrcOf (header part : List ℕ) (word : ℕ) : Type 0 where
+  pub bytes : word ≡ remainder crc_start (bits (drop 2 header ++ part))
   -- it is that of the header and of the side fields that these bytes are
   pub read : (h : HeaderFields) → header_at header ≡ Ok h → length part ≡ side_size_of (class_of h)
       → word ≡ check_word_of h (side_at (class_of h) (bits part))

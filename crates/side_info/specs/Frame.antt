@@ -20,24 +20,24 @@ unfoldable pub side_in : HeaderFields → List ℕ → Side
 side_in h frame = side_at (class_of h) (bits (side_part h frame))
 
 -- the check word that is in a protected frame: the two bytes after the header (2.4.1.4)
-unfoldable pub word_said : List ℕ → ℕ
-word_said frame = number (bits (take 2 (drop 4 frame)))
+unfoldable pub stored_crc : List ℕ → ℕ
+stored_crc frame = number (bits (take 2 (drop 4 frame)))
 
 -- the check word that is right for its header and side information (2.4.3.1)
-abbrev pub word_right : HeaderFields → List ℕ → ℕ
-word_right h frame = check_word_of h (side_in h frame)
+abbrev pub right_crc : HeaderFields → List ℕ → ℕ
+right_crc h frame = check_word_of h (side_in h frame)
 
 -- the bytes of the check word of a frame with this side information; none where it isn't protected
-abbrev pub word_part : HeaderFields → Side → List ℕ
-word_part h s = if h.protected then bytes (bits_of 16 (check_word_of h s)) else []
+abbrev pub crc_part : HeaderFields → Side → List ℕ
+crc_part h s = if h.protected then bytes (bits_of 16 (check_word_of h s)) else []
 
 -- the frame with this side information in place of its
 -- own, and with the check word that is right for it
-unfoldable pub frame_with : HeaderFields → Side → List ℕ → List ℕ
-frame_with h s frame = take 4 frame ++ (word_part h s
+unfoldable pub frame_with_side : HeaderFields → Side → List ℕ → List ℕ
+frame_with_side h s frame = take 4 frame ++ (crc_part h s
     ++ (bytes (side_bits (class_of h) s) ++ drop (overhead_of (class_of h) h.protected) frame))
 
 -- the front of a frame: the header, the check word of a protected frame, which
 -- is right for this header and this side information, and the side information
-unfoldable pub front_of : HeaderFields → Side → List ℕ
-front_of h s = bytes (header_bits h) ++ (word_part h s ++ bytes (side_bits (class_of h) s))
+unfoldable pub frame_front_bytes : HeaderFields → Side → List ℕ
+frame_front_bytes h s = bytes (header_bits h) ++ (crc_part h s ++ bytes (side_bits (class_of h) s))

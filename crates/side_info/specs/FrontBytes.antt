@@ -6,7 +6,7 @@ use Rattle.frame_header.specs.Fields.{ClassFields, HeaderFields, IsHeader, IsSlo
 use Rattle.frame_header.specs.{HeaderBits.header_bits, Reading.header_fields}
 use Rattle.frame_header.specs.{Tables.{class_of, side_size_of}, declared.version.Version.Version}
 use Rattle.frame_header.specs.declared.version.Version.TheVariants.{One, Two, TwoFive}
-use Rattle.side_info.specs.{Frame.{side_in, side_place, word_part}, FrameFields.FrameFields}
+use Rattle.side_info.specs.{Frame.{crc_part, side_in, side_place}, FrameFields.FrameFields}
 use Rattle.side_info.specs.Side.{payload_bits, side_at, side_bits, SideFits}
 use Rattle.side_info.specs.declared.frame_front.{Extent.Extent, FrameFront.TheInside.Inside}
 use Rattle.side_info.specs.declared.side.Side.{Side}
@@ -19,7 +19,7 @@ begin_width TwoFive = 8
 
 -- the bits of two headers are the same but for bitrate_index,
 -- padding_bit and mode_extension, the sync bits and the layer
-pub record AreAlike (bs cs : List ℕ) : Type 0 where
+pub record AreHeadersAlike (bs cs : List ℕ) : Type 0 where
   pub version : group 11 2 bs ≡ group 11 2 cs
   pub protection : group 15 1 bs ≡ group 15 1 cs
   pub frequency : group 20 2 bs ≡ group 20 2 cs
@@ -36,8 +36,8 @@ pub record AreInHeader (at n : ℕ) : Type 0 where
   pub few : n ≤ 4
 
 -- 32 bytes that begin with these, and are zeros after them
-unfoldable pub padded : List ℕ → List ℕ
-padded side = side ++ drop (length side) (replicate 32 0)
+unfoldable pub padded_side : List ℕ → List ℕ
+padded_side side = side ++ drop (length side) (replicate 32 0)
 
 -- the bytes of side information among 32 that begin with it
 unfoldable pub own_side : ClassFields → List ℕ → List ℕ
@@ -52,20 +52,20 @@ unfoldable pub side_of : Inside → Side
 side_of a = side_at (class_of (header_of a)) (bits (own_side (class_of (header_of a)) a.side))
 
 -- the header and the side information that the bytes hold
-abbrev pub fields_of : Inside → FrameFields
-fields_of a = record { header = header_of a; side = side_of a }
+abbrev pub front_view : Inside → FrameFields
+front_view a = record { header = header_of a; side = side_of a }
 
 -- the bytes as which these fields are written
-abbrev pub inside_of : FrameFields → Inside
-inside_of f = record {
+abbrev pub front_inside : FrameFields → Inside
+front_inside f = record {
   header = bytes (header_bits f.header);
-  side = padded (bytes (side_bits (class_of f.header) f.side));
+  side = padded_side (bytes (side_bits (class_of f.header) f.side));
 }
 
 -- the bytes are those of a header of the standard's and of side information, with zeros after it
-pub record AreWritten (a : Inside) : Type 0 where
+pub record AreFrontBytes (a : Inside) : Type 0 where
   pub known : IsHeader (header_of a)
-  pub same : inside_of (fields_of a) ≡ a
+  pub same : front_inside (front_view a) ≡ a
 
 -- where the main data of a frame begin, and how long they are
 pub record IsExtent (s : Side) (e : Extent) : Type 0 where
@@ -79,7 +79,7 @@ pub record IsFrontOf (h : HeaderFields) (frame : List ℕ) (f : FrameFields) : T
 
 -- the bytes of side information, and zeros after them
 pub record IsRoomOf (c : ClassFields) (s : Side) (all : List ℕ) : Type 0 where
-  pub room : all ≡ padded (bytes (side_bits c s))
+  pub room : all ≡ padded_side (bytes (side_bits c s))
   pub size : length (bytes (side_bits c s)) ≡ side_size_of c
   pub back : side_at c (bits (bytes (side_bits c s))) ≡ s
 
@@ -91,9 +91,9 @@ pub record PutsSlot (slot : SlotFields) (old new : List ℕ) : Type 0 where
   pub known : IsSlot slot
 
 -- so many bytes are the header and the check word of a protected frame
-pub record HasHead (f : FrameFields) (n : ℕ) (room : List ℕ) : Type 0 where
+pub record HasHeaderPart (f : FrameFields) (n : ℕ) (room : List ℕ) : Type 0 where
   pub place : n ≡ side_place f.header.protected
-  pub head : take n room ≡ bytes (header_bits f.header) ++ word_part f.header f.side
+  pub head : take n room ≡ bytes (header_bits f.header) ++ crc_part f.header f.side
 
 -- 32 zeros, over which these bytes may be written
 pub record AreZerosFor (part room : List ℕ) : Type 0 where

@@ -3,7 +3,7 @@ use Rattle.std.specs.Prelude.{drop, length, List, slice_index_or, take, ℕ, [],
 use Rattle.bit_fields.specs.Bits.{bits, bits_of, bytes}
 use Rattle.frame_header.specs.Fields.{ClassFields, HeaderFields}
 use Rattle.frame_header.specs.Tables.{class_of, overhead_of, side_size_of}
-use Rattle.side_info.specs.{CheckWord.check_word_of, Frame.{frame_with, side_in}}
+use Rattle.side_info.specs.{CheckWord.check_word_of, Frame.{frame_with_side, side_in}}
 use Rattle.side_info.specs.{Side.{HasOtherGains, side_at, side_bits}, declared.side.Side.Side}
 
 -- side bytes get the gains of this side information, if theirs
@@ -21,7 +21,7 @@ pub record PutsSideAt (class : ClassFields) (place : ℕ) (s : Side) (old new : 
       → bits (take (side_size_of class) (drop place new)) ≡ side_bits class s
 
 -- a frame gets the check word that is right for its side bytes, and stays otherwise
-pub record PutsWord (h : HeaderFields) (old new : List ℕ) : Type 0 where
+pub record PutsCrc (h : HeaderFields) (old new : List ℕ) : Type 0 where
   pub before : take 4 new ≡ take 4 old
   pub behind : drop 6 new ≡ drop 6 old
   pub word : (s : Side)
@@ -35,4 +35,4 @@ pub record PutsGains (h : HeaderFields) (s : Side) (old new : List ℕ) : Type 0
   pub header : take 4 new ≡ take 4 old
   pub behind : drop (overhead_of (class_of h) h.protected) new
       ≡ drop (overhead_of (class_of h) h.protected) old
-  pub gains : HasOtherGains (side_in h old) s → new ≡ frame_with h s old
+  pub gains : HasOtherGains (side_in h old) s → new ≡ frame_with_side h s old

@@ -1,7 +1,7 @@
 -- The side information of one granule and channel, as successive
 -- groups of bits (ISO/IEC 11172-3 and 13818-3, 2.4.1.7 and 2.4.2.7).
 use Rattle.std.specs.Prelude.{Bool, false, List, slice_index, sum, ℕ, [], ◌<◌, ◌==◌, ◌^◌, ◌∷◌, ◌≡◌}
-use Rattle.bit_fields.specs.Groups.{numbers_at, spelled}
+use Rattle.bit_fields.specs.Groups.{group_bits, numbers_at}
 use Rattle.frame_header.specs.{HeaderBits.flag_of, declared.version.Version.Version}
 use Rattle.frame_header.specs.declared.version.Version.TheVariants.{One, Two, TwoFive}
 use Rattle.side_info.specs.declared.granule.Granule.{Granule}
@@ -75,7 +75,7 @@ granule_at version bs = granule_of (numbers_at (granule_widths version) bs)
 
 -- the bits of a granule
 unfoldable pub granule_bits : Version → Granule → List ℕ
-granule_bits version g = spelled (granule_widths version) (granule_numbers g)
+granule_bits version g = group_bits (granule_widths version) (granule_numbers g)
 
 -- each field is within its bits, which are so many for scalefac_compress and for preflag
 pub record FieldsFit (compress_bits preflag_bits : ℕ) (g : Granule) : Type 0 where
@@ -91,5 +91,5 @@ abbrev pub GranuleFits : Version → Granule → Type 0
 GranuleFits version g = FieldsFit (compress_width version) (preflag_width version) g
 
 -- the two granules differ in no field but global_gain
-abbrev pub AreAlike : Granule → Granule → Type 0
-AreAlike g h = record g { global_gain = h.global_gain } ≡ h
+abbrev pub AreGranulesAlike : Granule → Granule → Type 0
+AreGranulesAlike g h = record g { global_gain = h.global_gain } ≡ h

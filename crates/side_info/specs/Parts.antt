@@ -3,16 +3,16 @@
 use Rattle.std.specs.Prelude.{drop, flat_map, if◌then◌else◌, length, List, slice_index}
 use Rattle.std.specs.Prelude.{slice_index_or, sum, take, ℕ, [], ◌*◌, ◌++◌, ◌+◌, ◌<◌, ◌==◌, ◌∷◌, ◌≡◌}
 use Rattle.std.specs.Prelude.{◌≤◌}
-use Rattle.bit_fields.specs.Groups.{numbers_at, spelled}
+use Rattle.bit_fields.specs.Groups.{group_bits, numbers_at}
 use Rattle.frame_header.specs.{Fields.ClassFields, Tables.granules_of}
 use Rattle.frame_header.specs.declared.version.Version.{Version}
-use Rattle.side_info.specs.Granule.{AreAlike, granule_at, granule_bits, granule_size, GranuleFits}
-use Rattle.side_info.specs.{Granule.no_granule, Side.front_widths_of, declared.front.Front.Front}
-use Rattle.side_info.specs.declared.{granule.Granule.Granule, side.Side.Side}
+use Rattle.side_info.specs.Granule.{AreGranulesAlike, granule_at, granule_bits, granule_size}
+use Rattle.side_info.specs.{Granule.{GranuleFits, no_granule}, Side.front_widths_of}
+use Rattle.side_info.specs.declared.{front.Front.Front, granule.Granule.Granule, side.Side.Side}
 
 -- the fields before the granules, from their numbers
-unfoldable pub front_of : List ℕ → Front
-front_of front = record {
+unfoldable pub front_of_numbers : List ℕ → Front
+front_of_numbers front = record {
   main_data_begin = slice_index front 0;
   private_bits = slice_index front 1;
   scfsi = slice_index front 2 ∷ slice_index front 3 ∷ [];
@@ -20,7 +20,7 @@ front_of front = record {
 
 -- the fields before the granules, with which these bits begin; one that the class lacks is 0
 abbrev pub front_at : Version → ℕ → List ℕ → Front
-front_at version channels bs = front_of (numbers_at (front_widths_of version channels) bs)
+front_at version channels bs = front_of_numbers (numbers_at (front_widths_of version channels) bs)
 
 -- widths of these fields, none wider than in any class
 pub record AreFrontWidths (begin private_bits first second : ℕ) : Type 0 where
@@ -36,7 +36,7 @@ front_size version channels = sum (front_widths_of version channels)
 -- the bits of these fields
 abbrev pub front_bits : Version → ℕ → Side → List ℕ
 front_bits version channels s =
-    spelled (front_widths_of version channels) (s.main_data_begin ∷ s.private_bits ∷ s.scfsi)
+    group_bits (front_widths_of version channels) (s.main_data_begin ∷ s.private_bits ∷ s.scfsi)
 
 -- a granule that the class lacks: all fields of both channels are 0
 abbrev pub no_pair : List Granule
@@ -49,8 +49,8 @@ pair_at version channels bs = granule_at version bs
     ∷ []
 
 -- the same of the second granule, which MPEG-1 alone has
-abbrev pub second_at : Version → ℕ → List ℕ → List Granule
-second_at version channels bs =
+abbrev pub second_pair_at : Version → ℕ → List ℕ → List Granule
+second_pair_at version channels bs =
     if granules_of version == 1 then no_pair else pair_at version channels bs
 
 -- a class of this version with so many channels, on which alone the side information depends
@@ -76,21 +76,21 @@ abbrev pub pair_bits : Version → ℕ → List Granule → List ℕ
 pair_bits version channels gs = flat_map (granule_bits version) (take channels gs)
 
 -- the same of the second granule
-abbrev pub second_bits : Version → ℕ → List Granule → List ℕ
-second_bits version channels gs =
+abbrev pub second_pair_bits : Version → ℕ → List Granule → List ℕ
+second_pair_bits version channels gs =
     if granules_of version == 1 then [] else pair_bits version channels gs
 
 -- the channels of two granules differ in no field but global_gain
-abbrev pub AllAlike : List Granule → List Granule → Type 0
-AllAlike gs hs = (channel : ℕ)
-    → AreAlike (slice_index_or gs channel no_granule) (slice_index_or hs channel no_granule)
+abbrev pub ArePairsAlike : List Granule → List Granule → Type 0
+ArePairsAlike gs hs = (channel : ℕ)
+    → AreGranulesAlike (slice_index_or gs channel no_granule) (slice_index_or hs channel no_granule)
 
 -- the gains of a granule's channels are put where the
 -- bits of a granule begin that differs in them alone
 abbrev pub PutsPair : (List Granule → List ℕ) → List Granule → ℕ → List ℕ → List ℕ → Type 0
 PutsPair bits_of_pair hs at old new =
     (gs : List Granule) (before after : List ℕ) → length gs ≡ 2 → length before ≡ at
-    → old ≡ before ++ (bits_of_pair gs ++ after) → AllAlike gs hs
+    → old ≡ before ++ (bits_of_pair gs ++ after) → ArePairsAlike gs hs
     → new ≡ before ++ (bits_of_pair hs ++ after)
 
 -- fields of so many bits, and two granules of so many after them,

@@ -2,11 +2,12 @@
 use Rattle.std.specs.Prelude.{Bool, drop, flat_map, if◌then◌else◌, List, MatchBool, nat_lt}
 use Rattle.std.specs.Prelude.{slice_index, slice_index_or, sum, sum_by, take, ℕ, [], ◌&&◌, ◌*◌}
 use Rattle.std.specs.Prelude.{◌++◌, ◌+◌, ◌/◌, ◌<◌, ◌==◌, ◌^◌, ◌∷◌, ◌≡◌}
-use Rattle.bit_fields.specs.{Bits.bits, Groups.{numbers_at, spelled}}
+use Rattle.bit_fields.specs.{Bits.bits, Groups.{group_bits, numbers_at}}
 use Rattle.frame_header.specs.{Fields.ClassFields, Tables.granules_of}
 use Rattle.frame_header.specs.declared.version.Version.{Version, TheVariants.{One, Two, TwoFive}}
-use Rattle.side_info.specs.Granule.{AreAlike, granule_at, granule_bits, granule_size, GranuleFits}
-use Rattle.side_info.specs.{Granule.no_granule, declared.{granule.Granule.Granule, side.Side.Side}}
+use Rattle.side_info.specs.Granule.{AreGranulesAlike, granule_at, granule_bits, granule_size}
+use Rattle.side_info.specs.{Granule.{GranuleFits, no_granule}, declared.granule.Granule.Granule}
+use Rattle.side_info.specs.declared.side.Side.{Side}
 
 -- the widths in bits of main_data_begin, the private bits, and
 -- the scfsi of each channel; 0 for one that the class lacks
@@ -60,7 +61,7 @@ granules_in c s = flat_map (take c.channels) (take (granules_of c.version) s.gra
 -- the bits of the fields of the side information
 unfoldable pub side_bits : ClassFields → Side → List ℕ
 side_bits c s =
-    spelled (front_widths c) (s.main_data_begin ∷ s.private_bits ∷ s.scfsi)
+    group_bits (front_widths c) (s.main_data_begin ∷ s.private_bits ∷ s.scfsi)
     ++ flat_map (granule_bits c.version) (granules_in c s)
 
 -- a granule's channel; all 0 past the two of each
@@ -113,7 +114,7 @@ pub record HasOtherGains (s t : Side) : Type 0 where
   pub private_bits : t.private_bits ≡ s.private_bits
   pub scfsi : t.scfsi ≡ s.scfsi
   pub granules : (granule channel : ℕ)
-      → AreAlike (granule_in s granule channel) (granule_in t granule channel)
+      → AreGranulesAlike (granule_in s granule channel) (granule_in t granule channel)
 
 -- the length of a frame's main data in bits: the sum of all part2_3_length (2.4.2.7)
 unfoldable pub payload_bits : Side → ℕ

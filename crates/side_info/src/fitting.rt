@@ -1,7 +1,7 @@
 //! Whether the fields of side information are within the bits that a class has for them.
 ghost use Rattle.std.specs.Prelude.{◌≡◌, ℕ, ◌^◌, ◌<◌, ◌↔◌, IsTrue, MatchBool, length, slice_index};
 ghost use Rattle.side_info.specs.Granule.{no_granule, GranuleFits};
-ghost use Rattle.side_info.specs.Side.{front_width, has_granule as has_granule_lem, FieldsWithin, PairFits};
+ghost use Rattle.side_info.specs.Side.{front_width, has_granule, FieldsWithin, PairFits};
 
 use crate::granule::{Granule, NO_GRANULE};
 use crate::side::Side;
@@ -32,7 +32,7 @@ pub(crate) fn front_fits(side: &Side, class: Class) -> bool
 
 /// Whether the class has this granule and channel.
 fn has_granule(class: Class, granule: u8, channel: u8) -> bool
-    ensures { result ≡ has_granule_lem class granule channel }
+    ensures { result ≡ has_granule class granule channel }
 {
     let granules = match class.version {
         Version::One => 2,

@@ -9,13 +9,13 @@ ghost use Rattle.side_info.specs.CheckWord.{check_word_of};
 ghost use Rattle.frame_header.specs.Tables.{class_of, side_size_of, overhead_of};
 ghost use Rattle.frame_header.specs.Reading.{header_at, header_fields};
 ghost use Rattle.side_info.specs.Side.{no_side, side_at, side_bits, front_width, payload_bytes, SideFits};
-ghost use Rattle.side_info.specs.Frame.{side_in, side_part, front_of};
+ghost use Rattle.side_info.specs.Frame.{side_in, side_part, frame_front_bytes};
 ghost use Rattle.side_info.specs.FrameFields.{header_like, with_begin};
-ghost use Rattle.side_info.specs.FrontBytes.{padded, begin_width, AreAlike, AreInHeader, AreZerosFor, HasHead, IsExtent, IsFrontOf, IsRoomOf, PutsSlot};
+ghost use Rattle.side_info.specs.FrontBytes.{padded_side, begin_width, AreHeadersAlike, AreInHeader, AreZerosFor, HasHeaderPart, IsExtent, IsFrontOf, IsRoomOf, PutsSlot};
 ghost use Rattle.frame_header.specs.Limits.{most_front};
 
-use crate::division::check_word_of_bytes;
-use crate::frame::{HEADER_SIZE, PROTECTED_SIZE, put_word};
+use crate::crc::check_word_of_bytes;
+use crate::frame::{HEADER_SIZE, PROTECTED_SIZE, put_crc};
 use crate::side::Side;
 use bit_fields::{number_at, put};
 use frame_header::{Class, Header, Slot, Version};
@@ -38,13 +38,13 @@ impl Model for FrameFront {
 
     ghost Value = { FrameFields };
 
-    ghost use Rattle.side_info.specs.FrontBytes.{fields_of, inside_of, AreWritten};
+    ghost use Rattle.side_info.specs.FrontBytes.{front_view, front_inside, AreFrontBytes};
 
-    ghost view = { fields_of };
+    ghost view = { front_view };
 
-    ghost invariant = { AreWritten };
+    ghost invariant = { AreFrontBytes };
 
-    ghost inverse = { inside_of };
+    ghost inverse = { front_inside };
 
     ghost inverse_ok = { λ a written. written.same };
 }
@@ -73,7 +73,7 @@ impl Extent {
 #[inline(never)]
 fn fill_short(part: &[u8], room: &mut [u8; 32])
     requires { AreZerosFor part.now room.old }
-    ensures { room.new ≡ padded part.now }
+    ensures { room.new ≡ padded_side part.now }
 {
     room[..part.len()].copy_from_slice(part);
 }
@@ -83,7 +83,7 @@ fn fill_short(part: &[u8], room: &mut [u8; 32])
 #[inline(always)]
 fn fill(part: &[u8], room: &mut [u8; 32])
     requires { AreZerosFor part.now room.old }
-    ensures { room.new ≡ padded part.now }
+    ensures { room.new ≡ padded_side part.now }
 {
     if part.len() == MOST {
         room.copy_from_slice(part);
@@ -96,7 +96,7 @@ fn fill(part: &[u8], room: &mut [u8; 32])
 #[inline(always)]
 fn side_room(class: Class, place: usize, frame: &[u8]) -> [u8; 32]
     requires { place + side_size_of class ≤ length frame.now }
-    ensures { result ≡ padded (take (side_size_of class) (drop place frame.now)) }
+    ensures { result ≡ padded_side (take (side_size_of class) (drop place frame.now)) }
 {
     let size = class.side_size() as usize;
     let mut room = [0; MOST];
@@ -171,7 +171,7 @@ fn first_four(frame: &[u8]) -> [u8; 4]
 fn room_of_frame(class: Class, header: &Header, frame: &[u8]) -> [u8; 32]
     requires class { class ≡ class_of header.now }
     requires room { overhead_of (class_of header.now) header.now.protected ≤ length frame.now }
-    ensures room { result ≡ padded (side_part header.now frame.now) }
+    ensures room { result ≡ padded_side (side_part header.now frame.now) }
     ensures octets { AreBytes (side_part header.now frame.now) }
 {
     let place = if header.protected {
@@ -255,7 +255,7 @@ fn same_group(word: u32, other: u32, at: u32, n: u32) -> bool
 // Without branches, the compiler makes one test of the eight.
 #[inline(always)]
 fn are_alike(word: u32, other: u32) -> bool
-    ensures { IsTrue result ↔ AreAlike (bits_of 32 word) (bits_of 32 other) }
+    ensures { IsTrue result ↔ AreHeadersAlike (bits_of 32 word) (bits_of 32 other) }
 {
     let class = same_group(word, other, 11, 2) & same_group(word, other, 20, 2);
     let mode = same_group(word, other, 24, 2) & same_group(word, other, 15, 1);
@@ -480,7 +480,7 @@ impl FrameFront {
 
     /// The check word that is right for it.
     #[inline(always)]
-    pub fn right_word(&self) -> u16
+    pub fn right_crc(&self) -> u16
         ensures { result ≡ check_word_of self.now.header self.now.side }
     {
         let size = self.class().side_size() as usize;
@@ -491,11 +491,11 @@ impl FrameFront {
     #[inline(always)]
     fn put_head(&self, room: &mut [u8]) -> usize
         requires { 6 ≤ length room.old }
-        ensures { HasHead self.now result room.new }
+        ensures { HasHeaderPart self.now result room.new }
     {
         room[..HEADER_SIZE].copy_from_slice(&self.four());
         if self.protected() {
-            put_word(self.right_word(), room);
+            put_crc(self.right_crc(), room);
             PROTECTED_SIZE
         } else {
             HEADER_SIZE
@@ -517,12 +517,12 @@ impl FrameFront {
     /// change.
     // Copying is fastest if the number of bytes is a constant, so that also the zeros after the side information are copied.
     #[inline(always)]
-    #[tactic(auto, unfolding(crate::specs::Frame::front_of))]
+    #[tactic(auto, unfolding(crate::specs::Frame::frame_front_bytes))]
     pub fn put_in(&self, class: Class, room: &mut [u8]) -> usize
         requires class { class ≡ class_of self.now.header }
         requires room { most_front ≤ length room.old }
         ensures size { result ≤ most_front }
-        ensures front { take result room.new ≡ front_of self.now.header self.now.side }
+        ensures front { take result room.new ≡ frame_front_bytes self.now.header self.now.side }
     {
         let place = self.put_head(room);
         self.put_room(place, room);

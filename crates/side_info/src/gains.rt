@@ -5,11 +5,11 @@ ghost use Rattle.frame_header.specs.declared.version.Version.{Version};
 ghost use Rattle.frame_header.specs.Tables.{class_of, granules_of, side_size_of, overhead_of};
 ghost use Rattle.side_info.specs.declared.granule.Granule.{Granule};
 ghost use Rattle.side_info.specs.Granule.{granule_bits, granule_size};
-ghost use Rattle.side_info.specs.Parts.{pair_bits, second_bits, AreChannels, PutsPair};
-ghost use Rattle.side_info.specs.Gains.{PutsSide, PutsSideAt, PutsWord, PutsGains};
+ghost use Rattle.side_info.specs.Parts.{pair_bits, second_pair_bits, AreChannels, PutsPair};
+ghost use Rattle.side_info.specs.Gains.{PutsSide, PutsSideAt, PutsCrc, PutsGains};
 
-use crate::division::check_word_of_bytes;
-use crate::frame::{HEADER_SIZE, PROTECTED_SIZE, put_word};
+use crate::crc::check_word_of_bytes;
+use crate::frame::{HEADER_SIZE, PROTECTED_SIZE, put_crc};
 use crate::frame_front::FrameFront;
 use crate::granule::Granule;
 use crate::side::Side;
@@ -60,7 +60,7 @@ fn put_second(pair: &[Granule; 2], version: Version, channels: u8, bytes: &mut [
     // Said of an array in an array, whose length the caller doesn't know.
     // The type says so; a proof that cites this call needs it as a fact.
     ensures two { length pair.now ≡ 2 }
-    ensures put { PutsPair (second_bits version channels) pair.now at (bits bytes.old)
+    ensures put { PutsPair (second_pair_bits version channels) pair.now at (bits bytes.old)
         (bits bytes.new) }
 {
     match version {
@@ -117,13 +117,13 @@ fn put_at_place(class: Class, side: &Side, place: usize, frame: &mut [u8])
 }
 
 /// Writes the check word that is right for the side bytes that are in the frame.
-fn put_right_word(header: &Header, frame: &mut [u8])
+fn put_right_crc(header: &Header, frame: &mut [u8])
     requires { 6 + side_size_of (class_of header.now) ≤ length frame.old }
-    ensures { PutsWord header.now frame.old frame.new }
+    ensures { PutsCrc header.now frame.old frame.new }
 {
     let end = PROTECTED_SIZE + header.class().side_size() as usize;
     let word = check_word_of_bytes(&header.bytes(), &frame[PROTECTED_SIZE..end]);
-    put_word(word, frame);
+    put_crc(word, frame);
 }
 
 /// Writes the gains of `side` into a frame of this class that has the header of `front`, each into its 8 bits, and into a
@@ -139,7 +139,7 @@ pub fn put_gains(front: &FrameFront, class: Class, side: &Side, frame: &mut [u8]
 {
     if front.protected() {
         put_at_place(class, side, PROTECTED_SIZE, frame);
-        put_right_word(&front.header(), frame);
+        put_right_crc(&front.header(), frame);
     } else {
         put_at_place(class, side, HEADER_SIZE, frame);
     }

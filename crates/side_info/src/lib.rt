@@ -1,7 +1,7 @@
 //! The side information of Layer III frames, read and written bit for bit.
 #![tactic(auto)]
 
-mod division;
+mod crc;
 mod fitting;
 mod frame;
 mod frame_front;
@@ -13,8 +13,8 @@ mod side;
 mod widths;
 mod writing;
 
-pub use division::{check_word, check_word_of_bytes, word_of_bytes};
-pub use frame::word_said;
+pub use crc::{check_word, check_word_of_bytes, crc_of_bytes};
+pub use frame::stored_crc;
 pub use frame_front::{Extent, FrameFront};
 pub use gains::put_gains;
 pub use granule::{Granule, NO_GRANULE};

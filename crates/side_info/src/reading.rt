@@ -4,7 +4,7 @@ ghost use Rattle.bit_fields.specs.Bits.{bits};
 ghost use Rattle.bit_fields.specs.Groups.{numbers_at};
 ghost use Rattle.frame_header.specs.Tables.{granules_of};
 ghost use Rattle.side_info.specs.Granule.{granule_at, granule_size};
-ghost use Rattle.side_info.specs.Parts.{AreChannels, AreFrontWidths, front_of, front_at, front_size as front_size_lem, pair_at, second_at};
+ghost use Rattle.side_info.specs.Parts.{AreChannels, AreFrontWidths, front_of_numbers, front_at, front_size, pair_at, second_pair_at};
 
 use crate::front::Front;
 use crate::granule::{Granule, NO_GRANULE};
@@ -15,7 +15,7 @@ use frame_header::Version;
 /// The fields before the granules.
 #[inline(always)]
 pub(crate) fn read_front(version: Version, channels: u8, bytes: &[u8]) -> Front
-    requires enough { front_size_lem version channels ≤ 8 * length bytes.now }
+    requires enough { front_size version channels ≤ 8 * length bytes.now }
     requires short { length bytes.now ≤ 2 ^ 28 }
     ensures { result ≡ front_at version channels (bits bytes.now) }
 {
@@ -34,7 +34,7 @@ fn front_with(bytes: &[u8], begin: u32, private_bits: u32, first: u32, second: u
     requires widths { AreFrontWidths begin private_bits first second }
     requires enough { begin + private_bits + first + second ≤ 8 * length bytes.now }
     requires short { length bytes.now ≤ 2 ^ 28 }
-    ensures { result ≡ front_of (numbers_at (begin ∷ private_bits ∷ first ∷ second ∷ [])
+    ensures { result ≡ front_of_numbers (numbers_at (begin ∷ private_bits ∷ first ∷ second ∷ [])
         (bits bytes.now)) }
 {
     let fields = number_at(bytes, 0, begin + private_bits + first + second);
@@ -114,7 +114,7 @@ pub(crate) fn read_second(
     requires enough { granules_of version ≡ 2
         → at + channels * granule_size version ≤ 8 * length bytes.now }
     requires short { length bytes.now ≤ 2 ^ 28 }
-    ensures { pair.new ≡ second_at version channels (drop at (bits bytes.now)) }
+    ensures { pair.new ≡ second_pair_at version channels (drop at (bits bytes.now)) }
 {
     match version {
         Version::One => read_pair(version, channels, bytes, at, pair),

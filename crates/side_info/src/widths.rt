@@ -1,7 +1,7 @@
 //! The widths in bits of the fields that a version has; 0 for one that it lacks.
 ghost use Rattle.std.specs.Prelude.{◌≡◌, ◌≤◌};
-ghost use Rattle.side_info.specs.Granule.{compress_width as compress_width_lem, preflag_width as preflag_width_lem, granule_size};
-ghost use Rattle.side_info.specs.Parts.{class_with, front_size as front_size_lem};
+ghost use Rattle.side_info.specs.Granule.{compress_width, preflag_width, granule_size};
+ghost use Rattle.side_info.specs.Parts.{class_with, front_size};
 ghost use Rattle.frame_header.specs.Tables.{side_size_of};
 
 use frame_header::Version;
@@ -9,7 +9,7 @@ use frame_header::Version;
 /// How many bits scalefac_compress has.
 #[inline(always)]
 pub(crate) fn compress_width(version: Version) -> u32
-    ensures width { result ≡ compress_width_lem version }
+    ensures width { result ≡ compress_width version }
     ensures most { result ≤ 9 }
 {
     match version {
@@ -21,7 +21,7 @@ pub(crate) fn compress_width(version: Version) -> u32
 /// How many bits preflag has; MPEG-1 alone has it.
 #[inline(always)]
 pub(crate) fn preflag_width(version: Version) -> u32
-    ensures width { result ≡ preflag_width_lem version }
+    ensures width { result ≡ preflag_width version }
     ensures most { result ≤ 1 }
 {
     u32::from(matches!(version, Version::One))
@@ -41,7 +41,7 @@ pub(crate) fn granule_width(version: Version) -> usize
 /// How many bits the fields before the granules have.
 #[inline(always)]
 pub(crate) fn front_size(version: Version, channels: u8) -> usize
-    ensures { result ≡ front_size_lem version channels }
+    ensures { result ≡ front_size version channels }
 {
     match (version, channels == 1) {
         (Version::One, true) => 18,

@@ -3,7 +3,7 @@ ghost use Rattle.std.specs.Prelude.{◌≡◌, ◌^◌, ◌<◌, ◌++◌, All, 
 ghost use Rattle.bit_fields.specs.Bits.{bits, bits_of};
 ghost use Rattle.frame_header.specs.Tables.{side_size_of};
 ghost use Rattle.side_info.specs.Granule.{granule_bits, granule_size, GranuleFits};
-ghost use Rattle.side_info.specs.Parts.{AreChannels, AreWidths, PairsFit, class_with, front_size as front_size_lem, front_bits, pair_bits, second_bits};
+ghost use Rattle.side_info.specs.Parts.{AreChannels, AreWidths, PairsFit, class_with, front_size, front_bits, pair_bits, second_pair_bits};
 ghost use Rattle.side_info.specs.Side.{FrontFits};
 
 use crate::granule::Granule;
@@ -16,7 +16,7 @@ use frame_header::Version;
 #[inline]
 pub(crate) fn front_word(side: &Side, version: Version, channels: u8) -> u64
     requires { FrontFits version channels side.now }
-    ensures { bits_of (front_size_lem version channels) result
+    ensures { bits_of (front_size version channels) result
         ≡ front_bits version channels side.now }
 {
     let begin = u64::from(side.main_data_begin);
@@ -111,8 +111,8 @@ pub(crate) fn write_granules(
     ensures two { length first.now ≡ 2 }
     ensures second_two { length second.now ≡ 2 }
     ensures written { bits bytes.new
-        ≡ (bits_of (front_size_lem version channels) front ++ pair_bits version channels first.now)
-        ++ second_bits version channels second.now }
+        ≡ (bits_of (front_size version channels) front ++ pair_bits version channels first.now)
+        ++ second_pair_bits version channels second.now }
 {
     match (version, channels == 1) {
         (Version::One, true) => {

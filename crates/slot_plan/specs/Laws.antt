@@ -3,17 +3,18 @@ use Rattle.std.specs.Prelude.{All, AllPairs, Contains, false, List, map, None, S
 use Rattle.std.specs.Prelude.{◌++◌, ◌<◌, ◌↔◌, ◌∷◌, ◌≡◌, ◌≤◌}
 use Rattle.frame_header.specs.Fields.{ClassFields, HeaderFields, IsClass, SlotFields}
 use Rattle.frame_header.specs.{Slots.all_slots, Tables.{area_of, class_of, window_of}}
-use Rattle.slot_plan.specs.Behind.{FitsBehind, IsLeadInSlot, IsLeft, IsWanted}
-use Rattle.slot_plan.specs.{LeastPlan.{least_plan, led_plan}, Lists.{CanBeLaid, IsLeast, Open}}
-use Rattle.slot_plan.specs.Parts.{areas_with, AreOfClass, ArePartsFeasible, IsLeadIn, item_of}
-use Rattle.slot_plan.specs.Parts.{items_of, lead_in_of, open_of, parts_of, window_in}
-use Rattle.slot_plan.specs.{Plans.{AreFor, IsLedPlan, IsPlan}, declared.needs.Need.Need}
-use Rattle.slot_plan.specs.declared.needs.Placed.{Placed}
+use Rattle.slot_plan.specs.FreeBytes.{FitsBehind, IsLeadInSlot, IsLeastWanted, IsMostLeft}
+use Rattle.slot_plan.specs.LeastPlan.{least_plan, led_plan}
+use Rattle.slot_plan.specs.Lists.{CanBeLaid, IsLeastList, OpenFrame}
+use Rattle.slot_plan.specs.Parts.{AreNeedsOfClass, ArePartsFeasible, IsLeadIn, lead_in_item}
+use Rattle.slot_plan.specs.Parts.{need_item, needs_in_parts, open_frame, part_items, slot_areas}
+use Rattle.slot_plan.specs.{Parts.window_in, Plans.{AreItemSlots, IsLedPlan, IsPlan}}
+use Rattle.slot_plan.specs.declared.needs.{Need.Need, Placed.Placed}
 
 -- a part's frames after one lead-in, which may have any slot
-abbrev pub behind_any : (HeaderFields → List SlotFields) → Need → List Need → List Open
-behind_any choices first part = map open_of
-    (lead_in_of (class_of first.header) all_slots ∷ map (item_of choices) (first ∷ part))
+abbrev pub led_open_frames : (HeaderFields → List SlotFields) → Need → List Need → List OpenFrame
+led_open_frames choices first part = map open_frame
+    (lead_in_item (class_of first.header) all_slots ∷ map (need_item choices) (first ∷ part))
 
 -- The lead-in of a part that can't be laid without one is the first entry
 -- of the lexicographically least list of its frames after one lead-in.
@@ -21,45 +22,46 @@ abbrev pub LeadInsComeFirst : Type 0
 LeadInsComeFirst =
     (window : ℕ) (choices : HeaderFields → List SlotFields) (first : Need) (part : List Need)
     (slot : SlotFields)
-    → (CanBeLaid window (map open_of (items_of choices (first ∷ part) None)) → ⊥)
+    → (CanBeLaid window (map open_frame (part_items choices (first ∷ part) None)) → ⊥)
     → Contains all_slots slot
-    → IsLeadIn window choices (first ∷ part) (Some slot) ↔ ((rest : List ℕ) × IsLeast window
-    (behind_any choices first part) (area_of (class_of first.header) slot false ∷ rest))
+    → IsLeadIn window choices (first ∷ part) (Some slot) ↔ ((rest : List ℕ) × IsLeastList window
+    (led_open_frames choices first part) (area_of (class_of first.header) slot false ∷ rest))
 
 -- the areas among which the frame chooses ascend, its own slot is among them, and its
 -- class is one of the standard's: what a policy's `choices` ensures of each header
 pub record ChoosesInOrder (choices : HeaderFields → List SlotFields) (need : Need) : Type 0 where
   pub class : IsClass (class_of need.header)
   pub ascending : AllPairs (λ m n. m < n)
-      (areas_with (class_of need.header) need.header.protected (choices need.header))
+      (slot_areas (class_of need.header) need.header.protected (choices need.header))
   pub own : Contains (choices need.header) need.header.slot
 
 -- so does each frame of each part
-abbrev pub ChooseInOrder : (HeaderFields → List SlotFields) → List (List Need) → Type 0
-ChooseInOrder choices parts = All (λ part. All (ChoosesInOrder choices) part) parts
+abbrev pub PartsChooseInOrder : (HeaderFields → List SlotFields) → List (List Need) → Type 0
+PartsChooseInOrder choices parts = All (λ part. All (ChoosesInOrder choices) part) parts
 
 -- what the planner answers for parts
-pub record IsThePlan (choices : HeaderFields → List SlotFields) (needs : List Need)
+pub record IsPlanAnswer (choices : HeaderFields → List SlotFields) (needs : List Need)
     (places : List ℕ) (placed : List Placed) : Type 0 where
   -- the plan of the parts
-  pub plan : IsPlan (window_in needs) choices (parts_of needs places) placed
+  pub plan : IsPlan (window_in needs) choices (needs_in_parts needs places) placed
   -- where the areas among which each frame chooses ascend, it is that of the first list
-  pub least : ChooseInOrder choices (parts_of needs places)
-      → placed ≡ least_plan (window_in needs) choices (parts_of needs places)
+  pub least : PartsChooseInOrder choices (needs_in_parts needs places)
+      → placed ≡ least_plan (window_in needs) choices (needs_in_parts needs places)
 
 -- what the planner answers for one part that is to have a lead-in
-pub record IsTheLedPlan (choices : HeaderFields → List SlotFields) (needs : List Need)
+pub record IsLedPlanAnswer (choices : HeaderFields → List SlotFields) (needs : List Need)
     (placed : List Placed) : Type 0 where
   -- the led plan of the part
   pub plan : IsLedPlan (window_in needs) choices needs placed
   -- where the areas among which each frame chooses ascend, it is that of the first list
-  pub least : ChooseInOrder choices (needs ∷ []) → placed ≡ led_plan (window_in needs) choices needs
+  pub least : PartsChooseInOrder choices (needs ∷ [])
+      → placed ≡ led_plan (window_in needs) choices needs
 
 -- parts have no two plans
 abbrev pub PlansAreUnique : Type 0
 PlansAreUnique =
     (window : ℕ) (choices : HeaderFields → List SlotFields) (parts : List (List Need))
-    (a b : List Placed) → ChooseInOrder choices parts → IsPlan window choices parts a
+    (a b : List Placed) → PartsChooseInOrder choices parts → IsPlan window choices parts a
     → IsPlan window choices parts b → a ≡ b
 
 -- parts of one class, each with a layout in its own
@@ -67,17 +69,17 @@ PlansAreUnique =
 abbrev pub LeastPlanIsThePlan : Type 0
 LeastPlanIsThePlan =
     (class : ClassFields) (choices : HeaderFields → List SlotFields) (parts : List (List Need))
-    (placed : List Placed) → All (λ part. AreOfClass class part) parts → ChooseInOrder choices parts
-    → ArePartsFeasible (window_of class.version) parts
+    (placed : List Placed) → All (λ part. AreNeedsOfClass class part) parts
+    → PartsChooseInOrder choices parts → ArePartsFeasible (window_of class.version) parts
     → IsPlan (window_of class.version) choices parts placed
     ↔ (placed ≡ least_plan (window_of class.version) choices parts)
 
 -- a part of one class that has a layout in its own slots
 -- has one led plan, which is that of the first list
-abbrev pub LedPlanIsThePlan : Type 0
-LedPlanIsThePlan =
+abbrev pub LedPlanIsLeast : Type 0
+LedPlanIsLeast =
     (class : ClassFields) (choices : HeaderFields → List SlotFields) (part : List Need)
-    (placed : List Placed) → AreOfClass class part → ChooseInOrder choices (part ∷ [])
+    (placed : List Placed) → AreNeedsOfClass class part → PartsChooseInOrder choices (part ∷ [])
     → ArePartsFeasible (window_of class.version) (part ∷ [])
     → IsLedPlan (window_of class.version) choices part placed
     ↔ (placed ≡ led_plan (window_of class.version) choices part)
@@ -86,7 +88,7 @@ LedPlanIsThePlan =
 abbrev pub LedWhereNeeded : Type 0
 LedWhereNeeded =
     (window : ℕ) (choices : HeaderFields → List SlotFields) (part : List Need)
-    (placed : List Placed) → (CanBeLaid window (map open_of (items_of choices part None)) → ⊥)
+    (placed : List Placed) → (CanBeLaid window (map open_frame (part_items choices part None)) → ⊥)
     → IsPlan window choices (part ∷ []) placed → IsLedPlan window choices part placed
 
 -- Frames and then others fit behind some free bytes exactly where the
@@ -95,32 +97,32 @@ abbrev pub FitsBehindWhatIsLeft : Type 0
 FitsBehindWhatIsLeft =
     (window free : ℕ) (first others : List Need) → free ≤ window → FitsBehind window window others
     → FitsBehind window free (first ++ others)
-    ↔ (FitsBehind window free first × ((left wanted : ℕ) → IsLeft window free first left
-    → IsWanted window others wanted → wanted ≤ left))
+    ↔ (FitsBehind window free first × ((left wanted : ℕ) → IsMostLeft window free first left
+    → IsLeastWanted window others wanted → wanted ≤ left))
 
 -- what frames and then others leave is what the others leave behind what the first leave
 abbrev pub LeavesGoOn : Type 0
 LeavesGoOn =
     (window free mid left : ℕ) (first others : List Need) → free ≤ window
-    → IsLeft window free first mid
-    → IsLeft window free (first ++ others) left ↔ IsLeft window mid others left
+    → IsMostLeft window free first mid
+    → IsMostLeft window free (first ++ others) left ↔ IsMostLeft window mid others left
 
 -- frames fit behind exactly the bytes that are at least what they want
 abbrev pub FitsWhereWanted : Type 0
-FitsWhereWanted = (window free wanted : ℕ) (needs : List Need) → IsWanted window needs wanted
+FitsWhereWanted = (window free wanted : ℕ) (needs : List Need) → IsLeastWanted window needs wanted
     → FitsBehind window free needs ↔ (wanted ≤ free)
 
 -- the frames of a plan, each in its own slot, without a lead-in
-abbrev pub AreOwn : List Need → List Placed → Type 0
-AreOwn needs placed = AreFor (map (item_of (λ h. h.slot ∷ [])) needs) placed
+abbrev pub AreInOwnSlots : List Need → List Placed → Type 0
+AreInOwnSlots needs placed = AreItemSlots (map (need_item (λ h. h.slot ∷ [])) needs) placed
 
 -- the same behind their lead-in
-unfoldable pub AreLed : ℕ → List Need → List Placed → Type 0
-AreLed window [] placed = ⊥
-AreLed window (first ∷ needs) [] = ⊥
-AreLed window (first ∷ needs) (p ∷ placed) =
+unfoldable pub AreLedInOwnSlots : ℕ → List Need → List Placed → Type 0
+AreLedInOwnSlots window [] placed = ⊥
+AreLedInOwnSlots window (first ∷ needs) [] = ⊥
+AreLedInOwnSlots window (first ∷ needs) (p ∷ placed) =
     (p.lead_in ≡ true) × IsLeadInSlot window (class_of first.header) (first ∷ needs) p.slot
-    × AreOwn (first ∷ needs) placed
+    × AreInOwnSlots (first ∷ needs) placed
 
 -- the plan of one part whose frames keep their slots has
 -- no lead-in where they want nothing, and else theirs
@@ -128,5 +130,5 @@ abbrev pub LeadInWhereWanted : Type 0
 LeadInWhereWanted =
     (window : ℕ) (needs : List Need) (placed : List Placed)
     → IsPlan window (λ h. h.slot ∷ []) (needs ∷ []) placed
-    → (FitsBehind window 0 needs → AreOwn needs placed)
-    × ((FitsBehind window 0 needs → ⊥) → AreLed window needs placed)
+    → (FitsBehind window 0 needs → AreInOwnSlots needs placed)
+    × ((FitsBehind window 0 needs → ⊥) → AreLedInOwnSlots window needs placed)

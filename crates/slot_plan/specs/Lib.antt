@@ -1,4 +1,4 @@
-pub mod Behind
+pub mod FreeBytes
 pub mod ClassLengths
 pub mod Laws
 pub mod Layouts

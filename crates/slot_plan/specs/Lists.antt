@@ -1,31 +1,32 @@
 -- Lists of areas, one for each frame: which there are, and which is the least.
 use Rattle.std.specs.Prelude.{Contains, List, ℕ, [], ◌<◌, ◌∷◌, ◌≡◌, ◌⊎◌}
-use Rattle.slot_plan.specs.Layouts.{Frame, IsFeasible}
+use Rattle.slot_plan.specs.Layouts.{FrameLengths, HasLayout}
 
 -- a frame whose slot isn't decided: the length of its main
 -- data in bytes, and the areas among which there is a choice
-pub record Open : Type 0 where
+pub record OpenFrame : Type 0 where
   pub bytes : ℕ
   pub areas : List ℕ
 
 -- an area for each frame, one of those among which it chooses
-unfoldable pub AreChosen : List Open → List ℕ → Type 0
-AreChosen [] [] = Unit {0}
-AreChosen [] (area ∷ areas) = ⊥
-AreChosen (o ∷ opens) [] = ⊥
-AreChosen (o ∷ opens) (area ∷ areas) = Contains o.areas area × AreChosen opens areas
+unfoldable pub AreChosenAreas : List OpenFrame → List ℕ → Type 0
+AreChosenAreas [] [] = Unit {0}
+AreChosenAreas [] (area ∷ areas) = ⊥
+AreChosenAreas (o ∷ opens) [] = ⊥
+AreChosenAreas (o ∷ opens) (area ∷ areas) = Contains o.areas area × AreChosenAreas opens areas
 
 -- the frames with these areas
-unfoldable pub frames_of : List Open → List ℕ → List Frame
-frames_of [] areas = []
-frames_of (o ∷ opens) [] = []
-frames_of (o ∷ opens) (area ∷ areas) =
-    record { bytes = o.bytes; area = area } ∷ frames_of opens areas
+unfoldable pub frames_with_areas : List OpenFrame → List ℕ → List FrameLengths
+frames_with_areas [] areas = []
+frames_with_areas (o ∷ opens) [] = []
+frames_with_areas (o ∷ opens) (area ∷ areas) =
+    record { bytes = o.bytes; area = area } ∷ frames_with_areas opens areas
 
 -- some choice of areas has a layout
-unfoldable pub CanBeLaid : ℕ → List Open → Type 0
+unfoldable pub CanBeLaid : ℕ → List OpenFrame → Type 0
 CanBeLaid window opens =
-    (areas : List ℕ) × AreChosen opens areas × IsFeasible window 0 (frames_of opens areas)
+    (areas : List ℕ) × AreChosenAreas opens areas
+    × HasLayout window 0 (frames_with_areas opens areas)
 
 -- in lexicographic order, the first list isn't after the second
 unfoldable pub IsNotBehind : List ℕ → List ℕ → Type 0
@@ -35,8 +36,8 @@ IsNotBehind (m ∷ ms) [] = ⊥
 IsNotBehind (m ∷ ms) (n ∷ ns) = (m < n) ⊎ ((m ≡ n) × IsNotBehind ms ns)
 
 -- the lexicographically least list among the choices that have a layout
-pub record IsLeast (window : ℕ) (opens : List Open) (areas : List ℕ) : Type 0 where
-  pub chosen : AreChosen opens areas
-  pub feasible : IsFeasible window 0 (frames_of opens areas)
-  pub least : (others : List ℕ) → AreChosen opens others
-      → IsFeasible window 0 (frames_of opens others) → IsNotBehind areas others
+pub record IsLeastList (window : ℕ) (opens : List OpenFrame) (areas : List ℕ) : Type 0 where
+  pub chosen : AreChosenAreas opens areas
+  pub feasible : HasLayout window 0 (frames_with_areas opens areas)
+  pub least : (others : List ℕ) → AreChosenAreas opens others
+      → HasLayout window 0 (frames_with_areas opens others) → IsNotBehind areas others

@@ -1,10 +1,11 @@
 -- The first of some slots that is long enough, by the length that is wanted.
 use Rattle.std.specs.Prelude.{Contains, length, List, slice_index_or, ℕ, ◌+◌, ◌<◌, ◌≡◌, ◌≤◌}
 use Rattle.frame_header.specs.{Fields.{ClassFields, SlotFields}, Tables.{length_of, side_size_of}}
-use Rattle.slot_plan.specs.{Parts.AreOfClass, declared.{needs.Need.Need, table.SlotTable.SlotTable}}
+use Rattle.slot_plan.specs.{Parts.AreNeedsOfClass, declared.needs.Need.Need}
+use Rattle.slot_plan.specs.declared.table.SlotTable.{SlotTable}
 
 -- of some slots, the one with the shortest frame of at least so many bytes
-pub record IsShortest (class : ClassFields) (slots : List SlotFields) (wanted : ℕ)
+pub record IsShortestSlot (class : ClassFields) (slots : List SlotFields) (wanted : ℕ)
     (slot : SlotFields) : Type 0 where
   pub chosen : Contains slots slot
   pub enough : wanted ≤ length_of class slot
@@ -13,25 +14,25 @@ pub record IsShortest (class : ClassFields) (slots : List SlotFields) (wanted : 
 
 -- There is a slot. The table has this slot for each length up to that of the
 -- longest frame, and each frame has room for more than what is before its area.
-pub record IsTableOf (slots : List SlotFields) (table : SlotTable) : Type 0 where
+pub record IsSlotTable (slots : List SlotFields) (table : SlotTable) : Type 0 where
   pub some : 1 ≤ length slots
   pub room : (slot : SlotFields) → Contains slots slot
       → 6 + side_size_of table.lengths < length_of table.lengths slot
   pub all : (slot : SlotFields) → Contains slots slot
       → length_of table.lengths slot < length table.by_length.items
   pub least : (wanted : ℕ) (d : SlotFields) → wanted < length table.by_length.items
-      → IsShortest table.lengths slots wanted (slice_index_or table.by_length.items wanted d)
+      → IsShortestSlot table.lengths slots wanted (slice_index_or table.by_length.items wanted d)
 
 -- the table of these slots of a class
-pub record IsTableWith (class : ClassFields) (slots : List SlotFields)
+pub record IsClassTable (class : ClassFields) (slots : List SlotFields)
     (table : SlotTable) : Type 0 where
   pub class_is : table.lengths ≡ class
-  pub of_slots : IsTableOf slots table
+  pub of_slots : IsSlotTable slots table
 
 -- the table of these slots in the class of these frames
-pub record IsTableFor (slots : List SlotFields) (needs : List Need)
+pub record IsTableForNeeds (slots : List SlotFields) (needs : List Need)
     (table : SlotTable) : Type 0 where
   -- they are of its class
-  pub class : AreOfClass table.lengths needs
+  pub class : AreNeedsOfClass table.lengths needs
   -- it has these slots
-  pub of_slots : IsTableOf slots table
+  pub of_slots : IsSlotTable slots table

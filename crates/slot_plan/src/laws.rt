@@ -1,6 +1,6 @@
 //! Laws of the definitions that the contracts of `plan`, `wants` and `leaves` cite. Each function does nothing: a proof
 //! that needs its law calls it.
-ghost use Rattle.slot_plan.specs.Laws.{LeadInsComeFirst, PlansAreUnique, LeastPlanIsThePlan, LedPlanIsThePlan, LedWhereNeeded, FitsBehindWhatIsLeft, LeavesGoOn, FitsWhereWanted, LeadInWhereWanted};
+ghost use Rattle.slot_plan.specs.Laws.{LeadInsComeFirst, PlansAreUnique, LeastPlanIsThePlan, LedPlanIsLeast, LedWhereNeeded, FitsBehindWhatIsLeft, LeavesGoOn, FitsWhereWanted, LeadInWhereWanted};
 
 /// If the frames of a part can't be laid without a lead-in, its lead-in is the one with the smallest area
 /// with which they can. This is the first entry of the lexicographically least list of these frames after
@@ -24,8 +24,8 @@ pub fn least_plan_is_the_plan()
 /// A part of one class that has a layout in its own slots after a whole window of free bytes has one led
 /// plan: of all lists of slots with one lead-in in front the first, in the order of their areas, for which
 /// there is a layout.
-pub fn led_plan_is_the_plan()
-    ensures { LedPlanIsThePlan }
+pub fn led_plan_is_least()
+    ensures { LedPlanIsLeast }
 {}
 
 /// If the frames of a part can't be laid without a lead-in, its plan is its led plan.

@@ -3,7 +3,7 @@
 #![tactic(auto)]
 
 mod ascending;
-mod behind;
+mod free_bytes;
 mod laws;
 mod lengths;
 mod needs;
@@ -16,10 +16,10 @@ mod slots;
 mod table;
 
 pub use ascending::largest_area_of;
-pub use behind::{joins, lead_in, leaves, wants};
+pub use free_bytes::{joins, lead_in, leaves, wants};
 pub use laws::{
     fits_behind_what_is_left, fits_where_wanted, lead_in_where_wanted, lead_ins_come_first,
-    least_plan_is_the_plan, leaves_go_on, led_plan_is_the_plan, led_where_needed, plans_are_unique,
+    least_plan_is_the_plan, leaves_go_on, led_plan_is_least, led_where_needed, plans_are_unique,
 };
 pub use lengths::Lengths;
 pub use needs::{Need, Placed, Plan};

@@ -3,9 +3,9 @@ ghost use Rattle.std.specs.Prelude.{◌≡◌, ◌≤◌, ℕ, List, Contains};
 ghost use Rattle.frame_header.specs.Fields.{SlotFields, HeaderFields};
 ghost use Rattle.frame_header.specs.Tables.{class_of};
 ghost use Rattle.frame_header.specs.Slots.{all_slots};
-ghost use Rattle.slot_plan.specs.Parts.{areas_for};
-ghost use Rattle.slot_plan.specs.Reserve.{greatest, own_area_of, IsLeastFor};
-ghost use Rattle.slot_plan.specs.SlotTables.{IsTableWith};
+ghost use Rattle.slot_plan.specs.Parts.{header_areas};
+ghost use Rattle.slot_plan.specs.Reserve.{greatest_number, own_area_of, IsLeastSlotFor};
+ghost use Rattle.slot_plan.specs.SlotTables.{IsClassTable};
 
 use crate::policy::Policy;
 use crate::table::SlotTable;
@@ -25,17 +25,17 @@ pub trait Offer {
     /// The largest area that a frame with this header may have, in bytes. The table is that of the slots of
     /// lead-ins.
     fn largest_area_for(&self, header: &Header, table: &SlotTable) -> u64
-        requires table { IsTableWith (class_of header.now) (lead_slots_of self.now) table.now }
-        ensures largest { result ≡ greatest (areas_for (slots_of self.now) header.now) }
-        ensures has { Contains (areas_for (slots_of self.now) header.now)
+        requires table { IsClassTable (class_of header.now) (lead_slots_of self.now) table.now }
+        ensures largest { result ≡ greatest_number (header_areas (slots_of self.now) header.now) }
+        ensures has { Contains (header_areas (slots_of self.now) header.now)
             (some_area_of self.now header.now) };
 
     /// Of the slots that a frame with this header may have, the one with the smallest area of at least
     /// `wanted` bytes. The largest area has so many.
     fn least_slot_for(&self, header: &Header, wanted: u64, table: &SlotTable) -> Slot
-        requires table { IsTableWith (class_of header.now) (lead_slots_of self.now) table.now }
-        requires enough { wanted ≤ greatest (areas_for (slots_of self.now) header.now) }
-        ensures { IsLeastFor wanted (slots_of self.now) header.now result };
+        requires table { IsClassTable (class_of header.now) (lead_slots_of self.now) table.now }
+        requires enough { wanted ≤ greatest_number (header_areas (slots_of self.now) header.now) }
+        ensures { IsLeastSlotFor wanted (slots_of self.now) header.now result };
 }
 
 impl<P: Policy> Offer for P {

@@ -2,9 +2,9 @@
 //! is needed after it.
 ghost use Rattle.std.specs.Prelude.{◌+◌, ◌-◌, ◌≤◌, false, [], map, IfOk};
 ghost use Rattle.frame_header.specs.Tables.{class_of};
-ghost use Rattle.slot_plan.specs.Parts.{item_of, open_of};
-ghost use Rattle.slot_plan.specs.Reserve.{greatest, opens_in, AreReserves, CanBePlaced, IsPlaceable, IsPlacedIn, PlacesLed, PlacesOn, PlacesPart};
-ghost use Rattle.slot_plan.specs.SlotTables.{IsTableFor, IsTableWith};
+ghost use Rattle.slot_plan.specs.Parts.{need_item, open_frame};
+ghost use Rattle.slot_plan.specs.Reserve.{greatest_number, open_frames, AreReserves, CanBePlaced, IsPlaceablePart, IsLeastPlacement, PlacesLedPart, PlacesMore, PlacesPart};
+ghost use Rattle.slot_plan.specs.SlotTables.{IsTableForNeeds, IsClassTable};
 ghost use Rattle.frame_header.specs.Limits.{most_back};
 
 use crate::needs::{Need, Placed};
@@ -23,11 +23,11 @@ fn place_frame<O: Offer>(
     offer: &O,
     table: &SlotTable,
 ) -> Placed
-    requires table { IsTableWith (class_of need.now.header) (O.lead_slots_of offer.now) table.now }
-    requires enough { (need.now.bytes + behind) - greatest
-        (open_of (item_of (O.slots_of offer.now) need.now)).areas ≤ free }
+    requires table { IsClassTable (class_of need.now.header) (O.lead_slots_of offer.now) table.now }
+    requires enough { (need.now.bytes + behind) - greatest_number
+        (open_frame (need_item (O.slots_of offer.now) need.now)).areas ≤ free }
     requires free { free ≤ most_back }
-    ensures { IsPlacedIn false free ((need.now.bytes + behind) - free) (class_of need.now.header)
+    ensures { IsLeastPlacement false free ((need.now.bytes + behind) - free) (class_of need.now.header)
         need.now.header.protected (O.slots_of offer.now need.now.header) result }
 {
     let wanted = (u64::from(need.bytes) + u64::from(behind)).saturating_sub(u64::from(free));
@@ -58,13 +58,13 @@ fn place_frames<O: Offer>(
     behind: Vec<u16>,
     placed: &mut Vec<Placed>,
 ) -> Result<u32, AllocError>
-    requires table { IsTableFor (O.lead_slots_of offer.now) part.now table.now }
+    requires table { IsTableForNeeds (O.lead_slots_of offer.now) part.now table.now }
     requires window { room.window ≤ most_back }
-    requires ready { CanBePlaced room.window room.free (opens_in (O.slots_of offer.now) part.now)
+    requires ready { CanBePlaced room.window room.free (open_frames (O.slots_of offer.now) part.now)
         behind.items }
     ensures within { IfOk result (λ after. after ≤ room.window) }
-    ensures placed { IfOk result (λ after. PlacesOn room.window room.free after
-        (map (item_of (O.slots_of offer.now)) part.now) [] placed.old.items placed.new.items) }
+    ensures placed { IfOk result (λ after. PlacesMore room.window room.free after
+        (map (need_item (O.slots_of offer.now)) part.now) [] placed.old.items placed.new.items) }
 {
     let window = room.window;
     let mut behind = behind;
@@ -92,14 +92,14 @@ fn place_behind_lead_in<O: Offer>(
     reserves: Reserves,
     placed: &mut Vec<Placed>,
 ) -> Result<u32, AllocError>
-    requires table { IsTableFor (O.lead_slots_of offer.now) part.now table.now }
-    requires part { IsPlaceable room.window table.now.lengths (O.lead_slots_of offer.now)
+    requires table { IsTableForNeeds (O.lead_slots_of offer.now) part.now table.now }
+    requires part { IsPlaceablePart room.window table.now.lengths (O.lead_slots_of offer.now)
         (O.some_area_of offer.now) part.now }
     requires free { room.free ≤ room.window }
     requires reserves { AreReserves room.window (O.slots_of offer.now) (O.some_area_of offer.now)
         part.now reserves }
     ensures within { IfOk result (λ after. after ≤ room.window) }
-    ensures placed { IfOk result (λ after. PlacesLed room.window (O.lead_slots_of offer.now)
+    ensures placed { IfOk result (λ after. PlacesLedPart room.window (O.lead_slots_of offer.now)
         (O.slots_of offer.now) part.now room.free after placed.old.items placed.new.items) }
 {
     let window = room.window;
@@ -129,12 +129,12 @@ pub(crate) fn place_led<O: Offer>(
     table: &SlotTable,
     placed: &mut Vec<Placed>,
 ) -> Result<u32, AllocError>
-    requires table { IsTableFor (O.lead_slots_of offer.now) part.now table.now }
-    requires part { IsPlaceable room.window table.now.lengths (O.lead_slots_of offer.now)
+    requires table { IsTableForNeeds (O.lead_slots_of offer.now) part.now table.now }
+    requires part { IsPlaceablePart room.window table.now.lengths (O.lead_slots_of offer.now)
         (O.some_area_of offer.now) part.now }
     requires free { room.free ≤ room.window }
     ensures within { IfOk result (λ after. after ≤ room.window) }
-    ensures placed { IfOk result (λ after. PlacesLed room.window (O.lead_slots_of offer.now)
+    ensures placed { IfOk result (λ after. PlacesLedPart room.window (O.lead_slots_of offer.now)
         (O.slots_of offer.now) part.now room.free after placed.old.items placed.new.items) }
 {
     let reserves = reserves_of(alloc, room.window, part, offer, table)?;
@@ -155,8 +155,8 @@ pub fn place_part<O: Offer>(
     table: &SlotTable,
     placed: &mut Vec<Placed>,
 ) -> Result<u32, AllocError>
-    requires table { IsTableFor (O.lead_slots_of offer.now) part.now table.now }
-    requires part { IsPlaceable room.window table.now.lengths (O.lead_slots_of offer.now)
+    requires table { IsTableForNeeds (O.lead_slots_of offer.now) part.now table.now }
+    requires part { IsPlaceablePart room.window table.now.lengths (O.lead_slots_of offer.now)
         (O.some_area_of offer.now) part.now }
     requires free { room.free ≤ room.window }
     ensures within { IfOk result (λ after. after ≤ room.window) }

@@ -3,7 +3,7 @@ ghost use Rattle.std.specs.Prelude.{◌≡◌, ◌<◌, ◌≤◌, ◌+◌, [], 
 ghost use Rattle.frame_header.specs.Limits.{most_frames};
 ghost use Rattle.slot_plan.specs.Parts.{CanBePlanned};
 ghost use Rattle.slot_plan.specs.Plans.{entries};
-ghost use Rattle.slot_plan.specs.Laws.{IsThePlan, IsTheLedPlan};
+ghost use Rattle.slot_plan.specs.Laws.{IsPlanAnswer, IsLedPlanAnswer};
 
 use crate::needs::{Need, Plan};
 use crate::placing::{Room, place_led, place_part};
@@ -44,7 +44,7 @@ pub fn plan<P: Policy>(
     requires planned { CanBePlanned needs.now parts.now }
     requires needs { length needs.now ≤ most_frames }
     requires few { length parts.now ≤ 64 }
-    ensures { IfOk result (λ p. IsThePlan (P.choices_of policy.now) needs.now parts.now
+    ensures { IfOk result (λ p. IsPlanAnswer (P.choices_of policy.now) needs.now parts.now
         (entries p)) }
 {
     let class = needs[0].header.class();
@@ -73,7 +73,7 @@ pub fn plan<P: Policy>(
 pub fn plan_led<P: Policy>(alloc: Global, needs: &[Need], policy: &P) -> Result<Plan, AllocError>
     requires planned { CanBePlanned needs.now (0 ∷ []) }
     requires needs { length needs.now ≤ most_frames }
-    ensures { IfOk result (λ p. IsTheLedPlan (P.choices_of policy.now) needs.now (entries p)) }
+    ensures { IfOk result (λ p. IsLedPlanAnswer (P.choices_of policy.now) needs.now (entries p)) }
 {
     let class = needs[0].header.class();
     let window = class.window();

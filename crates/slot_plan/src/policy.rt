@@ -3,9 +3,9 @@ ghost use Rattle.std.specs.Prelude.{◌≡◌, ◌<◌, ◌≤◌, List, [], ◌
 ghost use Rattle.frame_header.specs.Fields.{SlotFields, HeaderFields};
 ghost use Rattle.frame_header.specs.Tables.{class_of, area_of};
 ghost use Rattle.frame_header.specs.Slots.{all_slots};
-ghost use Rattle.slot_plan.specs.Parts.{areas_for};
-ghost use Rattle.slot_plan.specs.Reserve.{greatest, IsLargestFor, IsLeastFor};
-ghost use Rattle.slot_plan.specs.SlotTables.{IsTableWith};
+ghost use Rattle.slot_plan.specs.Parts.{header_areas};
+ghost use Rattle.slot_plan.specs.Reserve.{greatest_number, IsLargestAreaFor, IsLeastSlotFor};
+ghost use Rattle.slot_plan.specs.SlotTables.{IsClassTable};
 
 use crate::ascending::{largest_area_of, least_slot_among};
 use crate::table::SlotTable;
@@ -26,7 +26,7 @@ pub trait Policy {
 
     /// The largest area that a frame with this header may have, in bytes: that of the last of the choices.
     fn largest_area(&self, header: &Header) -> u32
-        ensures { IsLargestFor (choices_of self.now) header.now result }
+        ensures { IsLargestAreaFor (choices_of self.now) header.now result }
     {
         let choices = self.choices(header);
         largest_area_of(header.class(), header.protected, choices.as_slice())
@@ -35,8 +35,8 @@ pub trait Policy {
     /// Of the slots that a frame with this header may have, the one with the smallest area of at least
     /// `wanted` bytes, which is the first such. The largest area has so many.
     fn least_slot(&self, header: &Header, wanted: u64) -> Slot
-        requires { wanted ≤ greatest (areas_for (choices_of self.now) header.now) }
-        ensures { IsLeastFor wanted (choices_of self.now) header.now result }
+        requires { wanted ≤ greatest_number (header_areas (choices_of self.now) header.now) }
+        ensures { IsLeastSlotFor wanted (choices_of self.now) header.now result }
     {
         let choices = self.choices(header);
         least_slot_among(header.class(), header.protected, choices.as_slice(), wanted)
@@ -45,16 +45,16 @@ pub trait Policy {
     /// `largest_area`, where the lengths of the header's class are known.
     fn largest_area_by(&self, header: &Header, _table: &SlotTable) -> u32
         requires class { _table.now.lengths ≡ class_of header.now }
-        ensures { IsLargestFor (choices_of self.now) header.now result }
+        ensures { IsLargestAreaFor (choices_of self.now) header.now result }
     {
         self.largest_area(header)
     }
 
     /// `least_slot`, where there is a table of all slots of the header's class.
     fn least_slot_by(&self, header: &Header, wanted: u64, _table: &SlotTable) -> Slot
-        requires table { IsTableWith (class_of header.now) all_slots _table.now }
-        requires enough { wanted ≤ greatest (areas_for (choices_of self.now) header.now) }
-        ensures { IsLeastFor wanted (choices_of self.now) header.now result }
+        requires table { IsClassTable (class_of header.now) all_slots _table.now }
+        requires enough { wanted ≤ greatest_number (header_areas (choices_of self.now) header.now) }
+        ensures { IsLeastSlotFor wanted (choices_of self.now) header.now result }
     {
         self.least_slot(header, wanted)
     }

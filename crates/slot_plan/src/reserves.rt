@@ -2,9 +2,9 @@
 //! first.
 ghost use Rattle.std.specs.Prelude.{◌≡◌, ◌+◌, ◌-◌, IfOk, Contains};
 ghost use Rattle.frame_header.specs.Tables.{class_of};
-ghost use Rattle.slot_plan.specs.Parts.{item_of, open_of};
-ghost use Rattle.slot_plan.specs.Reserve.{greatest, AreReserves, IsPlaceable};
-ghost use Rattle.slot_plan.specs.SlotTables.{IsTableFor, IsTableWith};
+ghost use Rattle.slot_plan.specs.Parts.{need_item, open_frame};
+ghost use Rattle.slot_plan.specs.Reserve.{greatest_number, AreReserves, IsPlaceablePart};
+ghost use Rattle.slot_plan.specs.SlotTables.{IsTableForNeeds, IsClassTable};
 
 use crate::needs::Need;
 use crate::offer::Offer;
@@ -22,10 +22,10 @@ pub(crate) struct Reserves {
 
 /// How many bytes have to be free before a frame, if `behind` bytes have to be free after it.
 fn needed_before<O: Offer>(need: &Need, behind: u16, offer: &O, table: &SlotTable) -> u64
-    requires table { IsTableWith (class_of need.now.header) (O.lead_slots_of offer.now) table.now }
-    ensures needed { result ≡ (need.now.bytes + behind) - greatest
-        (open_of (item_of (O.slots_of offer.now) need.now)).areas }
-    ensures has { Contains (open_of (item_of (O.slots_of offer.now) need.now)).areas
+    requires table { IsClassTable (class_of need.now.header) (O.lead_slots_of offer.now) table.now }
+    ensures needed { result ≡ (need.now.bytes + behind) - greatest_number
+        (open_frame (need_item (O.slots_of offer.now) need.now)).areas }
+    ensures has { Contains (open_frame (need_item (O.slots_of offer.now) need.now)).areas
         (O.some_area_of offer.now need.now.header) }
 {
     let largest = offer.largest_area_for(&need.header, table);
@@ -43,8 +43,8 @@ pub(crate) fn reserves_of<O: Offer>(
     offer: &O,
     table: &SlotTable,
 ) -> Result<Reserves, AllocError>
-    requires table { IsTableFor (O.lead_slots_of offer.now) part.now table.now }
-    requires part { IsPlaceable window table.now.lengths (O.lead_slots_of offer.now)
+    requires table { IsTableForNeeds (O.lead_slots_of offer.now) part.now table.now }
+    requires part { IsPlaceablePart window table.now.lengths (O.lead_slots_of offer.now)
         (O.some_area_of offer.now) part.now }
     ensures { IfOk result (λ r. AreReserves window (O.slots_of offer.now) (O.some_area_of offer.now)
         part.now r) }

@@ -1,6 +1,6 @@
 //! What a frame leaves free.
 ghost use Rattle.std.specs.Prelude.{◌≡◌, ◌+◌, ◌≤◌};
-ghost use Rattle.slot_plan.specs.Reserve.{free_behind as free_behind_lem};
+ghost use Rattle.slot_plan.specs.Reserve.{free_bytes_behind};
 ghost use Rattle.frame_header.specs.Limits.{most_back, most_frame_length};
 
 /// The free bytes after a frame: what it leaves of those before it and of its own area, but no more than
@@ -10,7 +10,7 @@ pub fn free_behind(window: u32, free: u32, bytes: u32, area: u32) -> u32
     requires free { free ≤ window }
     requires area { area ≤ most_frame_length }
     requires fits { bytes ≤ free + area }
-    ensures free { result ≡ free_behind_lem window free bytes area }
+    ensures free { result ≡ free_bytes_behind window free bytes area }
     ensures within { result ≤ window }
 {
     (free + area - bytes).min(window)

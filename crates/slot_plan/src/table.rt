@@ -3,9 +3,9 @@ ghost use Rattle.std.specs.Prelude.{◌≡◌, ◌+◌, ◌<◌, false, List, le
 ghost use Rattle.frame_header.specs.Fields.{SlotFields};
 ghost use Rattle.frame_header.specs.Tables.{overhead_of};
 ghost use Rattle.frame_header.specs.Slots.{all_slots};
-ghost use Rattle.slot_plan.specs.Parts.{areas_with, AreRising};
-ghost use Rattle.slot_plan.specs.Reserve.{greatest, IsLeastSlot};
-ghost use Rattle.slot_plan.specs.SlotTables.{IsTableOf, IsTableWith};
+ghost use Rattle.slot_plan.specs.Parts.{slot_areas, AreRisingSlots};
+ghost use Rattle.slot_plan.specs.Reserve.{greatest_number, IsLeastSlot};
+ghost use Rattle.slot_plan.specs.SlotTables.{IsSlotTable, IsClassTable};
 
 use crate::lengths::Lengths;
 use frame_header::{Class, Slot};
@@ -25,8 +25,8 @@ impl SlotTable {
     /// # Errors
     /// Where there is no memory.
     pub fn new(alloc: Global, class: Class, slots: &[Slot]) -> Result<SlotTable, AllocError>
-        requires { AreRising class false slots.now }
-        ensures { IfOk result (IsTableWith class slots.now) }
+        requires { AreRisingSlots class false slots.now }
+        ensures { IfOk result (IsClassTable class slots.now) }
     {
         let last = class.length_of(slots[slots.len() - 1]);
         let mut by_length = Vec::with_capacity(alloc, last as usize + 1)?;
@@ -43,7 +43,7 @@ impl SlotTable {
     /// # Errors
     /// Where there is no memory.
     pub fn of_class(alloc: Global, class: Class) -> Result<SlotTable, AllocError>
-        ensures { IfOk result (IsTableWith class all_slots) }
+        ensures { IfOk result (IsClassTable class all_slots) }
     {
         let slots = class.slots();
         SlotTable::new(alloc, class, slots.as_slice())
@@ -53,8 +53,8 @@ impl SlotTable {
     pub fn largest_area(&self, protected: bool) -> u64
         requires within { overhead_of self.now.lengths protected
             < length self.now.by_length.items }
-        ensures largest { (slots : List SlotFields) → IsTableOf slots self.now
-            → result ≡ greatest (areas_with self.now.lengths protected slots) }
+        ensures largest { (slots : List SlotFields) → IsSlotTable slots self.now
+            → result ≡ greatest_number (slot_areas self.now.lengths protected slots) }
     {
         let longest = self.by_length.len() as u64 - 1;
         longest - u64::from(self.lengths.overhead_of(protected))
@@ -64,7 +64,7 @@ impl SlotTable {
     pub fn least_slot(&self, protected: bool, wanted: u64) -> Slot
         requires within { wanted + overhead_of self.now.lengths protected < length
             self.now.by_length.items }
-        ensures least { (slots : List SlotFields) → IsTableOf slots self.now
+        ensures least { (slots : List SlotFields) → IsSlotTable slots self.now
             → IsLeastSlot wanted self.now.lengths protected slots result }
     {
         let overhead = self.lengths.overhead_of(protected);

@@ -1,8 +1,8 @@
 -- The lemmas of this crate.
-pub mod OutputsLaws
-pub mod PiecesLaws
-pub mod CutLaws
-pub mod CommandLaws
-pub mod SheetLaws
-pub mod PartsLaws
-pub mod RecordingLaws
+pub mod OutputsLemmas
+pub mod PiecesLemmas
+pub mod CutLemmas
+pub mod CommandLemmas
+pub mod SheetLemmas
+pub mod PartsLemmas
+pub mod RecordingLemmas

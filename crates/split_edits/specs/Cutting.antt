@@ -4,11 +4,12 @@ use Rattle.std.specs.List.{All}
 use Rattle.std.specs.Prelude.{Bool, Err, IfErr, length, List, map, None, Ok, Option, Result, Some}
 use Rattle.std.specs.Prelude.{ℕ, [], ◌+◌, ◌∷◌, ◌≡◌, ◌≤◌}
 use Rattle.bit_fields.specs.Bits.{AreBytes}
-use Rattle.commands.specs.{Command.{clash_from, Command, Made, Output}, Left.{IsLate, IsNotBefore}}
-use Rattle.commands.specs.{One.most_frames, Refusing.then_made, declared.fault.EditFault.EditFault}
+use Rattle.commands.specs.AfterCall.{IsLateFault, IsNotBefore}
+use Rattle.commands.specs.{Command.{clash_from, Command, Made, Output}, Refusing.then_made}
+use Rattle.commands.specs.{SingleOutput.most_frames, declared.fault.EditFault.EditFault}
 use Rattle.commands.specs.declared.fault.EditFault.TheVariants.{EqualNames, Input}
 use Rattle.commands.specs.declared.fault.Refusal.{Refusal}
-use Rattle.laying.specs.Laid.{file_laid, Laid, stream_laid}
+use Rattle.laying.specs.Laid.{file_laid, LaidPart, stream_laid}
 use Rattle.outside.specs.Files.{Contents}
 use Rattle.requests.specs.Names.{piece_name, piece_names}
 use Rattle.sync_survey.specs.{Faults.{HoldsStream, SurveyFields}, MainData.StreamFrame}
@@ -24,7 +25,7 @@ pub record Cutting (P : Type 0) : Type 0 where
   -- the places, or why there are none, by what the folder holds
   pub places : Contents → Result (List P) EditFault
   -- what is laid from one place of a file with this survey to another, or why nothing is
-  pub between : P → P → List ℕ → SurveyFields → Result Laid EditFault
+  pub between : P → P → List ℕ → SurveyFields → Result LaidPart EditFault
   -- the survey by which it is laid
   pub survey : SurveyFields → SurveyFields
   -- which refusals there can be
@@ -33,26 +34,27 @@ pub record Cutting (P : Type 0) : Type 0 where
 -- ---- the pieces
 
 -- what is laid of a piece, and of those after it
-abbrev pub with_first : Laid → Result (List Laid) EditFault → Result (List Laid) EditFault
+abbrev pub with_first : LaidPart → Result (List LaidPart) EditFault
+    → Result (List LaidPart) EditFault
 with_first first (Ok more) = Ok (first ∷ more)
 with_first first (Err fault) = Err fault
 
 -- what is laid from a place to the first of these, and
 -- from each to the next, or the first fault of these
-abbrev pub laid_from : {P : Type 0} → Cutting P → List ℕ → SurveyFields → P → List P
-    → Result (List Laid) EditFault
-laid_from cut file s from [] = Ok []
-laid_from cut file s from (to ∷ more) = then_made (cut.between from to file s)
-    (λ first. with_first first (laid_from cut file s to more))
+abbrev pub piece_parts_from : {P : Type 0} → Cutting P → List ℕ → SurveyFields → P → List P
+    → Result (List LaidPart) EditFault
+piece_parts_from cut file s from [] = Ok []
+piece_parts_from cut file s from (to ∷ more) = then_made (cut.between from to file s)
+    (λ first. with_first first (piece_parts_from cut file s to more))
 
 -- from each place to the next
-abbrev pub laid_at : {P : Type 0} → Cutting P → List ℕ → SurveyFields → List P
-    → Result (List Laid) EditFault
-laid_at cut file s [] = Ok []
-laid_at cut file s (place ∷ places) = laid_from cut file s place places
+abbrev pub piece_parts : {P : Type 0} → Cutting P → List ℕ → SurveyFields → List P
+    → Result (List LaidPart) EditFault
+piece_parts cut file s [] = Ok []
+piece_parts cut file s (place ∷ places) = piece_parts_from cut file s place places
 
 -- the files of them by this survey, of which the first has this number
-abbrev pub pieces_from : List ℕ → ℕ → List ℕ → SurveyFields → List Laid → List Output
+abbrev pub pieces_from : List ℕ → ℕ → List ℕ → SurveyFields → List LaidPart → List Output
 pieces_from prefix k file s [] = []
 pieces_from prefix k file s (laid ∷ more) =
     record { name = piece_name prefix k; bytes = file_laid laid file s }
@@ -61,63 +63,65 @@ pieces_from prefix k file s (laid ∷ more) =
 -- ---- the command
 
 -- what is made of a file by this survey, of which these are the pieces
-abbrev pub made_of : List ℕ → List ℕ → SurveyFields → List Laid → Result Made EditFault
-made_of prefix file s laid = Ok (record { outputs = pieces_from prefix 1 file s laid; text = [] })
+abbrev pub pieces_result : List ℕ → List ℕ → SurveyFields → List LaidPart → Result Made EditFault
+pieces_result prefix file s laid =
+    Ok (record { outputs = pieces_from prefix 1 file s laid; text = [] })
 
 -- what is made of a file with this survey, cut at these places
-abbrev pub made_at : {P : Type 0} → Cutting P → List ℕ → List ℕ → SurveyFields → List P
+abbrev pub places_result : {P : Type 0} → Cutting P → List ℕ → List ℕ → SurveyFields → List P
     → Result Made EditFault
-made_at cut prefix file s places =
-    then_made (laid_at cut file s places) (made_of prefix file (cut.survey s))
+places_result cut prefix file s places =
+    then_made (piece_parts cut file s places) (pieces_result prefix file (cut.survey s))
 
 -- the same where there are places and the survey has no fault, else why not
-abbrev pub made_by : {P : Type 0} → Cutting P → List ℕ → Result (List P) EditFault → List ℕ
+abbrev pub surveyed_pieces : {P : Type 0} → Cutting P → List ℕ → Result (List P) EditFault → List ℕ
     → Result SurveyFields SurveyFault → Result Made EditFault
-made_by cut prefix places file (Err fault) = Err (Input 0 fault)
-made_by cut prefix places file (Ok s) = then_made places (made_at cut prefix file s)
+surveyed_pieces cut prefix places file (Err fault) = Err (Input 0 fault)
+surveyed_pieces cut prefix places file (Ok s) = then_made places (places_result cut prefix file s)
 
 -- It is refused where the input is at fault, or else where there are no places, or
 -- else where there is nothing from one to the next or the next is after the end.
-abbrev pub made_where : {P : Type 0} → Cutting P → List ℕ → Result (List P) EditFault
+abbrev pub input_pieces : {P : Type 0} → Cutting P → List ℕ → Result (List P) EditFault
     → Option (List ℕ) → Result Made EditFault
-made_where cut prefix places None = Err (Input 0 Absent)
-made_where cut prefix places (Some file) =
-    made_by cut prefix places file (survey_of file most_frames)
+input_pieces cut prefix places None = Err (Input 0 Absent)
+input_pieces cut prefix places (Some file) =
+    surveyed_pieces cut prefix places file (survey_of file most_frames)
 
 -- the answer, unless names are equal
-abbrev pub unless_equal : Option ℕ → Result Made EditFault → Result Made EditFault
-unless_equal (Some place) answer = Err (EqualNames place)
-unless_equal None answer = answer
+abbrev pub equal_names_or : Option ℕ → Result Made EditFault → Result Made EditFault
+equal_names_or (Some place) answer = Err (EqualNames place)
+equal_names_or None answer = answer
 
 -- it is refused where an input has the name of a piece, or else as above
-unfoldable pub made_result : {P : Type 0} → Cutting P → List ℕ → List (List ℕ)
+unfoldable pub split_result : {P : Type 0} → Cutting P → List ℕ → List (List ℕ)
     → Result (List P) EditFault → Option (List ℕ) → Result Made EditFault
-made_result cut prefix names places input =
-    unless_equal (clash_from (piece_names prefix) 0 names) (made_where cut prefix places input)
+split_result cut prefix names places input =
+    equal_names_or (clash_from (piece_names prefix) 0 names) (input_pieces cut prefix places input)
 
 -- the streams of the pieces; none where the split is refused
-abbrev pub streams_of : List ℕ → SurveyFields → Result (List Laid) EditFault
+abbrev pub laid_streams : List ℕ → SurveyFields → Result (List LaidPart) EditFault
     → List (List StreamFrame)
-streams_of file s (Err fault) = []
-streams_of file s (Ok laid) = map (λ (l : Laid). stream_laid l file s) laid
+laid_streams file s (Err fault) = []
+laid_streams file s (Ok laid) = map (λ (l : LaidPart). stream_laid l file s) laid
 
 -- the streams of the pieces of a file with this survey
-abbrev pub streams_at : {P : Type 0} → Cutting P → List ℕ → SurveyFields → Result (List P) EditFault
-    → List (List StreamFrame)
-streams_at cut file s (Err fault) = []
-streams_at cut file s (Ok places) = streams_of file (cut.survey s) (laid_at cut file s places)
+abbrev pub places_streams : {P : Type 0} → Cutting P → List ℕ → SurveyFields
+    → Result (List P) EditFault → List (List StreamFrame)
+places_streams cut file s (Err fault) = []
+places_streams cut file s (Ok places) =
+    laid_streams file (cut.survey s) (piece_parts cut file s places)
 
 -- the same where the survey has no fault, else none
-abbrev pub streams_by : {P : Type 0} → Cutting P → Result (List P) EditFault → List ℕ
+abbrev pub surveyed_streams : {P : Type 0} → Cutting P → Result (List P) EditFault → List ℕ
     → Result SurveyFields SurveyFault → List (List StreamFrame)
-streams_by cut places file (Err fault) = []
-streams_by cut places file (Ok s) = streams_at cut file s places
+surveyed_streams cut places file (Err fault) = []
+surveyed_streams cut places file (Ok s) = places_streams cut file s places
 
 -- the same where the file is there, else none
-unfoldable pub streams_where : {P : Type 0} → Cutting P → Result (List P) EditFault
+unfoldable pub input_streams : {P : Type 0} → Cutting P → Result (List P) EditFault
     → Option (List ℕ) → List (List StreamFrame)
-streams_where cut places None = []
-streams_where cut places (Some file) = streams_by cut places file (survey_of file most_frames)
+input_streams cut places None = []
+input_streams cut places (Some file) = surveyed_streams cut places file (survey_of file most_frames)
 
 -- The input is cut at places, which a further input may
 -- say. It may write a file of each of the 99 names.
@@ -127,8 +131,8 @@ split_command cut input prefix = record {
   outputs = piece_names prefix;
   sources = input ∷ [];
   always = Some [];
-  makes = λ files. made_result cut prefix (input ∷ cut.more) (cut.places files) (files input);
-  streams = λ files. streams_where cut (cut.places files) (files input);
+  makes = λ files. split_result cut prefix (input ∷ cut.more) (cut.places files) (files input);
+  streams = λ files. input_streams cut (cut.places files) (files input);
   refuses = cut.refuses;
 }
 
@@ -141,13 +145,13 @@ ArePlaces IsSound places = All IsSound places × (2 ≤ length places) × (lengt
 -- No fault of the places or of what is between them is found before
 -- memory is taken, and none is of an input before the sheet; and what
 -- is laid of a file without fault holds the stream that it says.
-pub record IsProper {P : Type 0} (cut : Cutting P) : Type 0 where
-  pub places_late : (f : Contents) → IfErr (cut.places f) IsLate
+pub record IsProperCutting {P : Type 0} (cut : Cutting P) : Type 0 where
+  pub places_late : (f : Contents) → IfErr (cut.places f) IsLateFault
   pub places_after : (f : Contents) → IfErr (cut.places f) (IsNotBefore (Input 1 Read))
   pub late : (from to : P) (file : List ℕ) (s : SurveyFields)
-      → IfErr (cut.between from to file s) IsLate
+      → IfErr (cut.between from to file s) IsLateFault
   pub after : (from to : P) (file : List ℕ) (s : SurveyFields)
       → IfErr (cut.between from to file s) (IsNotBefore (Input 1 Read))
-  pub streams : (from to : P) (file : List ℕ) (s : SurveyFields) (laid : Laid) → AreBytes file
+  pub streams : (from to : P) (file : List ℕ) (s : SurveyFields) (laid : LaidPart) → AreBytes file
       → survey_of file most_frames ≡ Ok s → cut.between from to file s ≡ Ok laid
       → HoldsStream (file_laid laid file (cut.survey s)) (stream_laid laid file (cut.survey s))

@@ -1,15 +1,16 @@
 -- What is played of the pieces of `split_exact`, one after another.
 use Rattle.std.specs.List.{range_with_len}
 use Rattle.std.specs.Prelude.{flat_map, length, List, map, Ok, Some, ℕ, [], ◌*◌, ◌+◌, ◌-◌, ◌∷◌, ◌≡◌}
-use Rattle.commands.specs.One.{most_frames}
-use Rattle.cut_edits.specs.{Exact.{apart, leads_in, piece_of, span_in}, ExactLaws.PlaysItsSamples}
+use Rattle.commands.specs.SingleOutput.{most_frames}
+use Rattle.cut_edits.specs.Exact.{file_span, span_lead_ins, span_piece, survey_without_head}
+use Rattle.cut_edits.specs.ExactLaws.{PlaysItsSamples}
 use Rattle.exact_span.specs.{Laws.{last_point, samples_between}, Places.sample_at}
 use Rattle.exact_span.specs.PlayedPositions.{length_of_played, played_of, samples_in}
 use Rattle.exact_span.specs.declared.{exact_place.ExactPlace.ExactPlace, played.Played.Played}
 use Rattle.exact_span.specs.declared.span.Span.{Span}
 use Rattle.frame_header.specs.Fields.{ClassFields}
-use Rattle.laying.specs.{KeptFields.fields_of_head, Laid.{info_laid, Laid}}
-use Rattle.split_edits.specs.{Cutting.laid_at, Split.exact_cutting_of}
+use Rattle.laying.specs.{KeptFields.fields_of_head, Laid.{info_laid, LaidPart}}
+use Rattle.split_edits.specs.{Cutting.piece_parts, Split.exact_cutting_of}
 use Rattle.split_edits.specs.declared.exact_points.ExactPoints.{ExactPoints}
 use Rattle.sync_survey.specs.{Faults.SurveyFields, Survey.survey_of}
 
@@ -26,47 +27,49 @@ sample_named file s place = sample_at s.class (length_of_played (input_played fi
 -- ---- the samples of a piece
 
 -- how many lead-ins are before the frames of a piece
-abbrev pub leads_laid : Laid → ℕ
-leads_laid laid = length laid.placed - (laid.to - laid.from)
+abbrev pub piece_lead_ins : LaidPart → ℕ
+piece_lead_ins laid = length laid.placed - (laid.to - laid.from)
 
 -- the positions of a piece that are played, by its Info frame and the number of its frames
-abbrev pub piece_played : List ℕ → SurveyFields → Laid → Played
+abbrev pub piece_played : List ℕ → SurveyFields → LaidPart → Played
 piece_played file s laid =
-    played_of (Some (info_laid laid file s)) s.class (leads_laid laid + (laid.to - laid.from))
+    played_of (Some (info_laid laid file s)) s.class (piece_lead_ins laid + (laid.to - laid.from))
 
 -- The sample of the input, whose first played position is `start`, that is at
 -- the offset in its frame at which position x of a piece is in the same frame.
-abbrev pub sample_of : ClassFields → ℕ → Laid → ℕ → ℕ
-sample_of class start laid x =
-    x + laid.from * samples_in class - (leads_laid laid * samples_in class + start)
+abbrev pub piece_sample : ClassFields → ℕ → LaidPart → ℕ → ℕ
+piece_sample class start laid x =
+    x + laid.from * samples_in class - (piece_lead_ins laid * samples_in class + start)
 
 -- the samples of the input that a piece plays, in order
-unfoldable pub piece_samples : List ℕ → SurveyFields → Laid → List ℕ
+unfoldable pub piece_samples : List ℕ → SurveyFields → LaidPart → List ℕ
 piece_samples file s laid =
-    let played = piece_played file (apart s) laid in
-    map (sample_of s.class (input_played file s).start laid)
+    let played = piece_played file (survey_without_head s) laid in
+    map (piece_sample s.class (input_played file s).start laid)
     (range_with_len played.start (length_of_played played))
 
 -- those of all pieces, one after another
-abbrev pub pieces_samples : List ℕ → SurveyFields → List Laid → List ℕ
-pieces_samples file s laid = flat_map (piece_samples file s) laid
+abbrev pub all_piece_samples : List ℕ → SurveyFields → List LaidPart → List ℕ
+all_piece_samples file s laid = flat_map (piece_samples file s) laid
 
 -- ---- the law
 
 -- What is laid is the piece of the span from one place to another. It plays the
 -- samples from the one to before the other, each at its place in its frame.
-pub record PlaysBetween (file : List ℕ) (s : SurveyFields) (from to : ExactPlace) (laid : Laid)
+pub record PlaysBetween (file : List ℕ) (s : SurveyFields) (from to : ExactPlace) (laid : LaidPart)
     : Type 0 where
   pub span : Span
-  pub found : span_in from to (fields_of_head file s.head) s ≡ Ok span
-  pub is : laid ≡ piece_of (fields_of_head file s.head) span file (apart s)
+  pub found : file_span from to (fields_of_head file s.head) s ≡ Ok span
+  pub is : laid ≡ span_piece (fields_of_head file s.head) span file (survey_without_head s)
   pub plays : PlaysItsSamples (fields_of_head file s.head) s (sample_named file s from)
-      (sample_named file s to) span (leads_in span laid.placed) (info_laid laid file (apart s))
+      (sample_named file s to) span (span_lead_ins span laid.placed)
+      (info_laid laid file (survey_without_head s))
   pub samples : piece_samples file s laid
       ≡ samples_between (sample_named file s from) (sample_named file s to)
 
 -- so does each of these, from a place to the first of others, and from each of them to the next
-abbrev pub PlayInTurn : List ℕ → SurveyFields → ExactPlace → List ExactPlace → List Laid → Type 0
+abbrev pub PlayInTurn : List ℕ → SurveyFields → ExactPlace → List ExactPlace → List LaidPart
+    → Type 0
 PlayInTurn file s from [] [] = Unit {0}
 PlayInTurn file s from (to ∷ places) (laid ∷ more) =
     PlaysBetween file s from to laid × PlayInTurn file s to places more
@@ -75,10 +78,10 @@ PlayInTurn file s from _ _ = ⊥
 -- the pieces from a place on, one by one and together: each sample
 -- from the first place to the last is played once, in order
 pub record PlayTheRecording (file : List ℕ) (s : SurveyFields) (place : ExactPlace)
-    (places : List ExactPlace) (laid : List Laid)
+    (places : List ExactPlace) (laid : List LaidPart)
     : Type 0 where
   pub each : PlayInTurn file s place places laid
-  pub all : pieces_samples file s laid
+  pub all : all_piece_samples file s laid
       ≡ samples_between (sample_named file s place)
       (last_point (sample_named file s place) (map (sample_named file s) places))
 
@@ -86,7 +89,7 @@ pub record PlayTheRecording (file : List ℕ) (s : SurveyFields) (place : ExactP
 abbrev pub PiecesAreTheRecording : Type 0
 PiecesAreTheRecording =
     (points : ExactPoints) (file : List ℕ) (s : SurveyFields) (place : ExactPlace)
-    (places : List ExactPlace) (laid : List Laid)
+    (places : List ExactPlace) (laid : List LaidPart)
     → survey_of file most_frames ≡ Ok s
-    → laid_at (exact_cutting_of points) file s (place ∷ places) ≡ Ok laid
+    → piece_parts (exact_cutting_of points) file s (place ∷ places) ≡ Ok laid
     → PlayTheRecording file s place places laid

@@ -1,18 +1,18 @@
 //! What the commands that split a file differ in.
 ghost use Rattle.std.specs.Prelude.{◌≡◌, ◌⊎◌, ◌≤◌, List, ℕ, Option, length, option_copied, option_to_list, Ok, Err, IfOk, IfErr, MatchResult};
-ghost use Rattle.outside.specs.Files.{IsThere};
+ghost use Rattle.outside.specs.Files.{IsFileThere};
 ghost use Rattle.outside.specs.Seen.{OnFile, OnlyRead};
 ghost use Rattle.info_header.specs.declared.fields.Info.{Info as InfoFields};
-ghost use Rattle.sync_survey.specs.Faults.{tells, SurveyFields};
-ghost use Rattle.sync_survey.specs.Survey.{survey_of, IsLaidOut};
-ghost use Rattle.laying.specs.Laid.{laid_in, IsWritable};
-ghost use Rattle.commands.specs.Left.{IsRefusal};
-ghost use Rattle.commands.specs.One.{most_frames};
-ghost use Rattle.cut_edits.specs.Heads.{IsHeadFault, IsOfHead};
+ghost use Rattle.sync_survey.specs.Faults.{survey_view, SurveyFields};
+ghost use Rattle.sync_survey.specs.Survey.{survey_of, IsSurveyLaidOut};
+ghost use Rattle.laying.specs.Laid.{selected_part, IsWritableSelection};
+ghost use Rattle.commands.specs.AfterCall.{IsEditRefusal};
+ghost use Rattle.commands.specs.SingleOutput.{most_frames};
+ghost use Rattle.cut_edits.specs.Heads.{IsHeadFault, HasHeadNumbers};
 ghost use Rattle.split_edits.specs.Cutting.{Cutting, ArePlaces};
-ghost use Rattle.split_edits.specs.Steps.{Says, IsPlacesFault, IsOfPlaces, IsSource};
+ghost use Rattle.split_edits.specs.Steps.{SaysPlaces, IsPlacesFault, HasPlacesNumbers, IsSplitSource};
 
-use crate::source::Source;
+use crate::source::SplitSource;
 use commands::EditFault;
 use laying::Selected;
 use outside::Folder;
@@ -50,13 +50,13 @@ pub(crate) trait Cut {
         folder: &mut D,
     ) -> Result<Vec<Self::Place>, EditFault>
         requires { IsLegal self.now }
-        ensures places { IfOk result (λ places. Says (cutting self.now) (D.seen folder.old).files
+        ensures places { IfOk result (λ places. SaysPlaces (cutting self.now) (D.seen folder.old).files
             (Ok places.items)) }
         ensures sound { IfOk result (λ places. ArePlaces IsSound places.items) }
         ensures refused { IfErr result (IsPlacesFault (cutting self.now)
             (D.seen folder.old)
             (D.seen folder.new)) }
-        ensures numbers { IfErr result (IsOfPlaces (cutting self.now)) }
+        ensures numbers { IfErr result (HasPlacesNumbers (cutting self.now)) }
         ensures reads { OnlyRead result (D.seen folder.old) (D.seen folder.new) };
 
     /// What pieces need of a surveyed input. The files stay.
@@ -68,22 +68,22 @@ pub(crate) trait Cut {
         folder: &mut D,
         input: &str,
         survey: Survey,
-    ) -> Result<Source, EditFault>
-        requires there { IsThere (D.seen folder.old).files input.now }
-        requires laid { IsLaidOut (tells survey) }
-        requires few { length (tells survey).frames ≤ most_frames }
+    ) -> Result<SplitSource, EditFault>
+        requires there { IsFileThere (D.seen folder.old).files input.now }
+        requires laid { IsSurveyLaidOut (survey_view survey) }
+        requires few { length (survey_view survey).frames ≤ most_frames }
         requires surveyed { OnFile (D.seen folder.old) input.now
-            (λ bytes. survey_of bytes most_frames ≡ Ok (tells survey)) }
+            (λ bytes. survey_of bytes most_frames ≡ Ok (survey_view survey)) }
         ensures source { IfOk result (λ source. OnFile (D.seen folder.old) input.now
-            (λ bytes. IsSource (cutting self.now) head source bytes (tells survey))) }
-        ensures survey { IfOk result (λ source. tells source.survey
-            ≡ (cutting self.now).survey (tells survey)) }
-        ensures laid { IfOk result (λ source. IsLaidOut (tells source.survey)) }
-        ensures few { IfOk result (λ source. length (tells source.survey).frames ≤ most_frames) }
+            (λ bytes. IsSplitSource (cutting self.now) head source bytes (survey_view survey))) }
+        ensures survey { IfOk result (λ source. survey_view source.survey
+            ≡ (cutting self.now).survey (survey_view survey)) }
+        ensures laid { IfOk result (λ source. IsSurveyLaidOut (survey_view source.survey)) }
+        ensures few { IfOk result (λ source. length (survey_view source.survey).frames ≤ most_frames) }
         ensures refused { IfErr result (IsHeadFault input.now
             (D.seen folder.old)
             (D.seen folder.new)) }
-        ensures numbers { IfErr result IsOfHead }
+        ensures numbers { IfErr result HasHeadNumbers }
         ensures reads { OnlyRead result (D.seen folder.old) (D.seen folder.new) };
 
     /// What is laid from one place of the input to another: refused where there is nothing between them, or where the second
@@ -91,21 +91,21 @@ pub(crate) trait Cut {
     fn select(
         &self,
         alloc: Global,
-        source: &Source,
+        source: &SplitSource,
         from: &Self::Place,
         to: &Self::Place,
     ) -> Result<Selected, EditFault>
         requires from { IsSound from.now }
         requires to { IsSound to.now }
-        requires laid { IsLaidOut (tells source.now.survey) }
-        requires few { length (tells source.now.survey).frames ≤ most_frames }
+        requires laid { IsSurveyLaidOut (survey_view source.now.survey) }
+        requires few { length (survey_view source.now.survey).frames ≤ most_frames }
         ensures laid { MatchResult result
             (λ selected. (file : List ℕ) (s : SurveyFields)
-            → IsSource (cutting self.now) head source.now file s
-            → (cutting self.now).between from.now to.now file s ≡ Ok (laid_in selected))
-            (λ fault. (fault ≡ EditFault.Memory) ⊎ (IsRefusal (cutting self.now).refuses fault
+            → IsSplitSource (cutting self.now) head source.now file s
+            → (cutting self.now).between from.now to.now file s ≡ Ok (selected_part selected))
+            (λ fault. (fault ≡ EditFault.Memory) ⊎ (IsEditRefusal (cutting self.now).refuses fault
             × ((file : List ℕ) (s : SurveyFields)
-            → IsSource (cutting self.now) head source.now file s
+            → IsSplitSource (cutting self.now) head source.now file s
             → (cutting self.now).between from.now to.now file s ≡ Err fault))) }
-        ensures writable { IfOk result (IsWritable (tells source.now.survey)) };
+        ensures writable { IfOk result (IsWritableSelection (survey_view source.now.survey)) };
 }

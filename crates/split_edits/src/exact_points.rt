@@ -7,7 +7,7 @@ ghost use Rattle.split_edits.specs.Split.{exact_cutting_of, AreExactPoints};
 
 use crate::cut::Cut;
 use crate::sheet::sheet_places;
-use crate::source::Source;
+use crate::source::SplitSource;
 use commands::EditFault;
 use cue_sheet::Place;
 use cut_edits::{find_span, read_head, select_piece, set_apart};
@@ -75,17 +75,17 @@ impl<'a> Cut for ExactPoints<'a> {
         folder: &mut D,
         input: &str,
         survey: Survey,
-    ) -> Result<Source, EditFault> {
+    ) -> Result<SplitSource, EditFault> {
         let head = read_head(folder, input, &survey)?;
         let mut survey = survey;
         set_apart(&mut survey);
-        Ok(Source { survey, head })
+        Ok(SplitSource { survey, head })
     }
 
     fn select(
         &self,
         alloc: Global,
-        source: &Source,
+        source: &SplitSource,
         from: &ExactPlace,
         to: &ExactPlace,
     ) -> Result<Selected, EditFault> {

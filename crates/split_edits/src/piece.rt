@@ -1,16 +1,16 @@
 //! Pieces that are ready to be written.
 ghost use Rattle.std.specs.Prelude.{◌≡◌, ◌⊎◌, ◌+◌, ◌≤◌, List, ℕ, length, map, Ok, Err, IfOk, IfErr, MatchResult, string_bytes};
-ghost use Rattle.sync_survey.specs.Faults.{tells, SurveyFields};
-ghost use Rattle.sync_survey.specs.Survey.{IsLaidOut};
-ghost use Rattle.laying.specs.Laid.{IsWritable};
-ghost use Rattle.commands.specs.One.{most_frames};
-ghost use Rattle.commands.specs.Left.{IsRefusal};
-ghost use Rattle.requests.specs.Names.{piece_name as piece_name_lem};
-ghost use Rattle.split_edits.specs.Cutting.{laid_at, ArePlaces};
-ghost use Rattle.split_edits.specs.Steps.{IsSource, ArePieces, laid_of};
+ghost use Rattle.sync_survey.specs.Faults.{survey_view, SurveyFields};
+ghost use Rattle.sync_survey.specs.Survey.{IsSurveyLaidOut};
+ghost use Rattle.laying.specs.Laid.{IsWritableSelection};
+ghost use Rattle.commands.specs.SingleOutput.{most_frames};
+ghost use Rattle.commands.specs.AfterCall.{IsEditRefusal};
+ghost use Rattle.requests.specs.Names.{piece_name};
+ghost use Rattle.split_edits.specs.Cutting.{piece_parts, ArePlaces};
+ghost use Rattle.split_edits.specs.Steps.{IsSplitSource, ArePieces, piece_part};
 
 use crate::cut::Cut;
-use crate::source::Source;
+use crate::source::SplitSource;
 use commands::EditFault;
 use laying::Selected;
 use requests::piece_name;
@@ -18,12 +18,12 @@ use std::alloc::Global;
 
 /// A piece that is to be written: its name, and its frames with their plan.
 #[derive(Drop)]
-pub(crate) struct Piece {
+pub(crate) struct PlannedPiece {
     pub name: String,
     pub selected: Selected,
 }
 
-impl Piece {
+impl PlannedPiece {
     /// These frames as the piece with this number, from 1 to 99.
     ///
     /// # Errors
@@ -33,14 +33,14 @@ impl Piece {
         prefix: &str,
         number: u8,
         selected: Selected,
-    ) -> Result<Piece, EditFault>
+    ) -> Result<PlannedPiece, EditFault>
         requires { number ≤ 99 }
         ensures name { IfOk result (λ piece. string_bytes piece.name ≡
-            piece_name_lem prefix.now number) }
+            piece_name prefix.now number) }
         ensures selected { IfOk result (λ piece. piece.selected ≡ selected) }
         ensures memory { IfErr result (λ fault. fault ≡ EditFault.Memory) }
     {
-        Ok(Piece {
+        Ok(PlannedPiece {
             name: piece_name(alloc, prefix, number)?,
             selected,
         })
@@ -51,24 +51,24 @@ impl Piece {
 pub(crate) fn make_pieces<C: Cut>(
     alloc: Global,
     cut: &C,
-    source: &Source,
+    source: &SplitSource,
     places: &[C::Place],
     prefix: &str,
-) -> Result<Vec<Piece>, EditFault>
+) -> Result<Vec<PlannedPiece>, EditFault>
     requires places { ArePlaces C.IsSound places.now }
-    requires laid { IsLaidOut (tells source.now.survey) }
-    requires few { length (tells source.now.survey).frames ≤ most_frames }
-    ensures pieces { IfOk result (λ pieces. ArePieces prefix.now (tells source.now.survey) 1
+    requires laid { IsSurveyLaidOut (survey_view source.now.survey) }
+    requires few { length (survey_view source.now.survey).frames ≤ most_frames }
+    ensures pieces { IfOk result (λ pieces. ArePieces prefix.now (survey_view source.now.survey) 1
         pieces.items) }
     ensures count { IfOk result (λ pieces. length pieces.items + 1 ≡ length places.now) }
     ensures laid { MatchResult result
         (λ pieces. (file : List ℕ) (s : SurveyFields)
-        → IsSource (C.cutting cut.now) C.head source.now file s
-        → laid_at (C.cutting cut.now) file s places.now ≡ Ok (map laid_of pieces.items))
-        (λ fault. (fault ≡ EditFault.Memory) ⊎ (IsRefusal (C.cutting cut.now).refuses fault
+        → IsSplitSource (C.cutting cut.now) C.head source.now file s
+        → piece_parts (C.cutting cut.now) file s places.now ≡ Ok (map piece_part pieces.items))
+        (λ fault. (fault ≡ EditFault.Memory) ⊎ (IsEditRefusal (C.cutting cut.now).refuses fault
         × ((file : List ℕ) (s : SurveyFields)
-        → IsSource (C.cutting cut.now) C.head source.now file s
-        → laid_at (C.cutting cut.now) file s places.now ≡ Err fault))) }
+        → IsSplitSource (C.cutting cut.now) C.head source.now file s
+        → piece_parts (C.cutting cut.now) file s places.now ≡ Err fault))) }
 {
     let rest = &places[1..];
     let mut from = &places[0];
@@ -77,7 +77,7 @@ pub(crate) fn make_pieces<C: Cut>(
     for to in rest {
         number += 1;
         let selected = cut.select(alloc, source, from, to)?;
-        let piece = Piece::numbered(alloc, prefix, number, selected)?;
+        let piece = PlannedPiece::numbered(alloc, prefix, number, selected)?;
         pieces.push(piece)?;
         from = to;
     }

@@ -5,7 +5,7 @@ ghost use Rattle.split_edits.specs.Split.{cutting_of, ArePoints};
 
 use crate::cut::Cut;
 use crate::sheet::sheet_places;
-use crate::source::Source;
+use crate::source::SplitSource;
 use commands::EditFault;
 use cue_sheet::Place;
 use cut_edits::{cut_choice, plan_file};
@@ -53,14 +53,14 @@ impl<'a> Cut for Points<'a> {
         folder: &mut D,
         input: &str,
         survey: Survey,
-    ) -> Result<Source, EditFault> {
-        Ok(Source { survey, head: None })
+    ) -> Result<SplitSource, EditFault> {
+        Ok(SplitSource { survey, head: None })
     }
 
     fn select(
         &self,
         alloc: Global,
-        source: &Source,
+        source: &SplitSource,
         from: &Place,
         to: &Place,
     ) -> Result<Selected, EditFault> {

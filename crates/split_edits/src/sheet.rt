@@ -1,9 +1,9 @@
 //! The positions at which a cue sheet cuts a file.
 ghost use Rattle.std.specs.Prelude.{◌≡◌, ◌⊎◌, ◌≤◌, length, Ok, Err, Some, IfOk, IfErr, OnOk, MatchResult};
-ghost use Rattle.outside.specs.Files.{IsThere};
+ghost use Rattle.outside.specs.Files.{IsFileThere};
 ghost use Rattle.outside.specs.Seen.{OnFile, OnlyRead};
-ghost use Rattle.split_edits.specs.Split.{places_in as places_in_lem, places_where, ArePositions};
-ghost use Rattle.split_edits.specs.Steps.{IsSheetFault, IsOfSheet};
+ghost use Rattle.split_edits.specs.Split.{places_in, cue_sheet_places, ArePositions};
+ghost use Rattle.split_edits.specs.Steps.{IsCueSheetFault, HasCueSheetNumbers};
 ghost use Rattle.cue_sheet.specs.Limits.{longest_sheet};
 
 use commands::{EditFault, Refusal, sheet_bytes};
@@ -16,9 +16,9 @@ use std::alloc::Global;
 fn places_in(alloc: Global, bytes: &[u8]) -> Result<Vec<Place>, EditFault>
     requires { length bytes.now ≤ longest_sheet }
     ensures places { MatchResult result
-        (λ places. places_in_lem bytes.now ≡ Ok places.items)
-        (λ fault. (fault ≡ EditFault.Memory) ⊎ (IsOfSheet fault
-        × (places_in_lem bytes.now ≡ Err fault))) }
+        (λ places. places_in bytes.now ≡ Ok places.items)
+        (λ fault. (fault ≡ EditFault.Memory) ⊎ (HasCueSheetNumbers fault
+        × (places_in bytes.now ≡ Err fault))) }
     ensures positions { IfOk result (λ places. ArePositions places.items) }
 {
     let cue = match Cue::read(alloc, bytes) {
@@ -42,14 +42,14 @@ pub(crate) fn sheet_places<D: Folder>(
     folder: &mut D,
     sheet: &str,
 ) -> Result<Vec<Place>, EditFault>
-    ensures there { OnOk result (IsThere (D.seen folder.old).files sheet.now) }
+    ensures there { OnOk result (IsFileThere (D.seen folder.old).files sheet.now) }
     ensures places { IfOk result (λ places. OnFile (D.seen folder.old) sheet.now
-        (λ bytes. places_where (Some bytes) ≡ Ok places.items)) }
+        (λ bytes. cue_sheet_places (Some bytes) ≡ Ok places.items)) }
     ensures positions { IfOk result (λ places. ArePositions places.items) }
-    ensures refused { IfErr result (IsSheetFault sheet.now
+    ensures refused { IfErr result (IsCueSheetFault sheet.now
         (D.seen folder.old)
         (D.seen folder.new)) }
-    ensures numbers { IfErr result IsOfSheet }
+    ensures numbers { IfErr result HasCueSheetNumbers }
     ensures reads { OnlyRead result (D.seen folder.old) (D.seen folder.new) }
 {
     let bytes = sheet_bytes(alloc, folder, sheet)?;

@@ -4,7 +4,7 @@ use sync_survey::Survey;
 
 /// The survey by which pieces are laid, and what is read of the head, where pieces need it.
 #[derive(Drop)]
-pub(crate) struct Source {
+pub(crate) struct SplitSource {
     pub survey: Survey,
     pub head: Option<Info>,
 }

@@ -3,7 +3,7 @@ ghost use Rattle.std.specs.Prelude.{◌≡◌, ◌∷◌, option_copied, option_
 ghost use Rattle.commands.specs.Command.{clash_from};
 ghost use Rattle.commands.specs.Runs.{IsRunOf};
 ghost use Rattle.requests.specs.Names.{piece_names};
-ghost use Rattle.split_edits.specs.Cutting.{split_command, IsProper};
+ghost use Rattle.split_edits.specs.Cutting.{split_command, IsProperCutting};
 ghost use Rattle.split_edits.specs.Split.{split_command_of, split_exact_command_of, ArePoints, AreExactPoints};
 
 use crate::cut::Cut;
@@ -12,7 +12,7 @@ use crate::piece::make_pieces;
 use crate::points::Points;
 use crate::writing::write_pieces;
 use commands::{EditFault, MOST_FRAMES, survey_at};
-use laying::Buffers;
+use laying::RelayBuffers;
 use outside::Folder;
 use requests::is_piece_name;
 use std::alloc::Global;
@@ -44,7 +44,7 @@ fn split_by<C: Cut, D: Folder>(
     prefix: &str,
 ) -> Result<(), EditFault>
     requires legal { C.IsLegal cut.now }
-    requires proper { IsProper (C.cutting cut.now) }
+    requires proper { IsProperCutting (C.cutting cut.now) }
     ensures { IsRunOf (split_command (C.cutting cut.now) input.now prefix.now)
         (D.seen folder.old)
         (D.seen folder.new) result }
@@ -56,7 +56,7 @@ fn split_by<C: Cut, D: Folder>(
     let source = cut.read(folder, input, survey)?;
     let places = cut.places(alloc, folder)?;
     let pieces = make_pieces(alloc, cut, &source, places.as_slice(), prefix)?;
-    let mut buffers = Buffers::new(alloc, source.survey.class())?;
+    let mut buffers = RelayBuffers::new(alloc, source.survey.class())?;
     write_pieces(
         folder,
         input,

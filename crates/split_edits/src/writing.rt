@@ -1,12 +1,12 @@
 //! The second pass: pieces are written one after the other.
 ghost use Rattle.std.specs.Prelude.{◌≡◌, [], length};
 ghost use Rattle.outside.specs.Feed.{IsFedFrom};
-ghost use Rattle.sync_survey.specs.Faults.{tells};
+ghost use Rattle.sync_survey.specs.Faults.{survey_view};
 ghost use Rattle.split_edits.specs.Steps.{IsSplit, pieces_of, WritesPieces};
 
-use crate::piece::Piece;
+use crate::piece::PlannedPiece;
 use commands::EditFault;
-use laying::{Buffers, Relay};
+use laying::{Relay, RelayBuffers};
 use outside::{Folder, Pass};
 use sync_survey::Survey;
 
@@ -20,13 +20,13 @@ pub(crate) fn write_pieces<D: Folder>(
     folder: &mut D,
     input: &str,
     survey: &Survey,
-    pieces: &[Piece],
-    buffers: &mut Buffers,
+    pieces: &[PlannedPiece],
+    buffers: &mut RelayBuffers,
 ) -> Result<(), EditFault>
-    requires split { IsSplit input.now (tells survey.now) pieces.now (D.seen folder.old) }
+    requires split { IsSplit input.now (survey_view survey.now) pieces.now (D.seen folder.old) }
     requires fed { IsFedFrom buffers.old.feed (D.seen folder.old).files input.now }
     requires unsent { buffers.old.waiting ≡ [] }
-    ensures { WritesPieces (pieces_of input.now (tells survey.now) pieces.now)
+    ensures { WritesPieces (pieces_of input.now (survey_view survey.now) pieces.now)
         (length pieces.now) (D.seen folder.old) (D.seen folder.new) result }
 {
     let mut place = 0;

@@ -5,12 +5,12 @@ use Rattle.std.specs.Prelude.{Bool, drop, Err, flat_map, if◌then◌else◌, le
 use Rattle.std.specs.Prelude.{not, Ok, Option, option_to_list, Result, Some, ℕ, [], ◌&&◌, ◌*◌, ◌++◌}
 use Rattle.std.specs.Prelude.{◌+◌, ◌==◌, ◌∷◌, ◌≡◌, ◌≤◌}
 use Rattle.frame_header.specs.{Fields.ClassFields, Tables.class_of}
-use Rattle.side_info.specs.{CheckWord.check_word_of, Frame.word_said, Side.payload_bits}
+use Rattle.side_info.specs.{CheckWord.check_word_of, Frame.stored_crc, Side.payload_bits}
 use Rattle.sync_survey.specs.Items.{same_class}
-use Rattle.sync_survey.specs.MainData.{end_before, end_of_data, lacks_data, main_bytes, marked}
-use Rattle.sync_survey.specs.MainData.{own_area, place, rows_of, start_of_data, stream_frames}
-use Rattle.sync_survey.specs.{MainData.StreamFrame, Row.Row, Start.start_of, Walk.walk_from}
-use Rattle.sync_survey.specs.declared.places.{Head.Head, Piece.Piece, Start.Start}
+use Rattle.sync_survey.specs.MainData.{data_end_before, end_of_data, lacks_data, main_bytes}
+use Rattle.sync_survey.specs.MainData.{marked_rows, own_area, place, rows_of, start_of_data}
+use Rattle.sync_survey.specs.{MainData.{stream_frames, StreamFrame}, Row.Row, Start.start_of}
+use Rattle.sync_survey.specs.{Walk.walk_from, declared.places.{Head.Head, Piece.Piece, Start.Start}}
 use Rattle.sync_survey.specs.declared.survey_fault.SurveyFault.{SurveyFault}
 use Rattle.sync_survey.specs.declared.survey_fault.SurveyFault.TheVariants.{BackPointer, CheckWord}
 use Rattle.sync_survey.specs.declared.survey_fault.SurveyFault.TheVariants.{FreeFormat, LostSync}
@@ -22,12 +22,12 @@ use Rattle.sync_survey.specs.declared.surveys.Survey.{Survey}
 -- ---- a frame
 
 -- this fault, if the test holds
-abbrev pub where_true : Bool → SurveyFault → List SurveyFault
-where_true holds fault = if holds then fault ∷ [] else []
+abbrev pub fault_if_true : Bool → SurveyFault → List SurveyFault
+fault_if_true holds fault = if holds then fault ∷ [] else []
 
 -- the frame has this check word, and it isn't the right one
-abbrev pub has_wrong_word : ℕ → Row → Bool
-has_wrong_word said r = r.header.protected && not (said == check_word_of r.header r.side)
+abbrev pub has_wrong_crc : ℕ → Row → Bool
+has_wrong_crc said r = r.header.protected && not (said == check_word_of r.header r.side)
 
 -- the main data of a frame whose own area begins at
 -- this place begin before the end of those before them
@@ -47,44 +47,44 @@ room_for_data r = 8 * (r.side.main_data_begin + own_area r.header)
 -- area (main_data_begin, ISO/IEC 11172-3 and 13818-3, 2.4.2.7)
 abbrev pub own_faults : ℕ → ℕ → Row → List SurveyFault
 own_faults place ended r =
-    where_true (points_too_far place r) (BackPointer r.offset r.side.main_data_begin place)
-    ++ where_true (overlaps place ended r) (Overlap r.offset)
-    ++ where_true (overruns place r) (Overrun r.offset (payload_bits r.side) (room_for_data r))
+    fault_if_true (points_too_far place r) (BackPointer r.offset r.side.main_data_begin place)
+    ++ fault_if_true (overlaps place ended r) (Overlap r.offset)
+    ++ fault_if_true (overruns place r) (Overrun r.offset (payload_bits r.side) (room_for_data r))
 
 -- a lost frame has none of them
 abbrev pub data_faults : ℕ → ℕ → Row → List SurveyFault
 data_faults place ended r = if lacks_data place ended r then [] else own_faults place ended r
 
 -- the fault of its check word
-abbrev pub word_faults : ℕ → Row → List SurveyFault
-word_faults said r =
-    where_true (has_wrong_word said r) (CheckWord r.offset said (check_word_of r.header r.side))
+abbrev pub crc_faults : ℕ → Row → List SurveyFault
+crc_faults said r =
+    fault_if_true (has_wrong_crc said r) (CheckWord r.offset said (check_word_of r.header r.side))
 
 -- the fault of a frame before which there are as many frames as are allowed
 abbrev pub count_faults : ℕ → ℕ → Row → List SurveyFault
-count_faults count allowed r = where_true (count == allowed) (TooManyFrames r.offset)
+count_faults count allowed r = fault_if_true (count == allowed) (TooManyFrames r.offset)
 
 -- the faults of a frame of the class, in their order: a wrong check word, those of its main data,
 -- and that it is one more than allowed
 abbrev pub later_faults : ℕ → ℕ → ℕ → ℕ → ℕ → Row → List SurveyFault
 later_faults said allowed place ended count r =
-    word_faults said r ++ data_faults place ended r ++ count_faults count allowed r
+    crc_faults said r ++ data_faults place ended r ++ count_faults count allowed r
 
 -- The faults of a frame, in their order. Given are the check word that is in it, the
 -- class, how many frames the file may have, the place of the frame's own area among
 -- all areas, the end of the main data before it, and how many frames are before it.
 unfoldable pub faults_at : ℕ → ClassFields → ℕ → ℕ → ℕ → ℕ → Row → List SurveyFault
 faults_at said class allowed place ended count r =
-    where_true (not (same_class (class_of r.header) class)) (Mixed r.offset)
-    ++ word_faults said r
+    fault_if_true (not (same_class (class_of r.header) class)) (Mixed r.offset)
+    ++ crc_faults said r
     ++ data_faults place ended r
     ++ count_faults count allowed r
 
 -- the faults of frame i of these
 abbrev pub frame_faults : List ℕ → Option Head → ClassFields → ℕ → List Row → ℕ → Row
     → List SurveyFault
-frame_faults file head class allowed rows i r = faults_at (word_said (drop r.offset file)) class
-    allowed (place head rows i) (end_before head rows i) i r
+frame_faults file head class allowed rows i r = faults_at (stored_crc (drop r.offset file)) class
+    allowed (place head rows i) (data_end_before head rows i) i r
 
 -- the faults of all of these in turn
 unfoldable pub all_faults : List ℕ → Option Head → ClassFields → ℕ → List Row → List SurveyFault
@@ -125,7 +125,7 @@ pub record SurveyFields : Type 0 where
 unfoldable pub fields_from : List ℕ → Start → SurveyFields
 fields_from file start =
     let walk = walk_from file start in record {
-      frames = marked walk.head (rows_of file walk.frames);
+      frames = marked_rows walk.head (rows_of file walk.frames);
       blocks = walk.blocks;
       head = walk.head;
       junk = start.front_end;
@@ -135,42 +135,43 @@ fields_from file start =
     }
 
 -- the survey, unless there is a fault
-abbrev pub unless_fault : Option SurveyFault → SurveyFields → Result SurveyFields SurveyFault
-unless_fault (Some fault) fields = Err fault
-unless_fault None fields = Ok fields
+abbrev pub fault_or_survey : Option SurveyFault → SurveyFields → Result SurveyFields SurveyFault
+fault_or_survey (Some fault) fields = Err fault
+fault_or_survey None fields = Ok fields
 
 -- the survey of a file by its start, or why there is none
-abbrev pub survey_by : List ℕ → ℕ → Result Start SurveyFault → Result SurveyFields SurveyFault
-survey_by file allowed (Err fault) = Err fault
-survey_by file allowed (Ok start) =
-    unless_fault (first_of (faults_from file allowed start)) (fields_from file start)
+abbrev pub survey_from_start : List ℕ → ℕ → Result Start SurveyFault
+    → Result SurveyFields SurveyFault
+survey_from_start file allowed (Err fault) = Err fault
+survey_from_start file allowed (Ok start) =
+    fault_or_survey (first_of (faults_from file allowed start)) (fields_from file start)
 
 -- the survey of a file that may have so many frames, or its first fault
-unfoldable pub surveyed : List ℕ → ℕ → Result SurveyFields SurveyFault
-surveyed file allowed = survey_by file allowed (start_of file)
+unfoldable pub survey_fields : List ℕ → ℕ → Result SurveyFields SurveyFault
+survey_fields file allowed = survey_from_start file allowed (start_of file)
 
 -- the offset of a fault of the bytes, 0 for any other fault
-abbrev pub fault_place : SurveyFault → ℕ
-fault_place (NoFrame at) = at
-fault_place (LostSync at) = at
-fault_place (Truncated at) = at
-fault_place (FreeFormat at) = at
-fault_place (Mixed at) = at
-fault_place (CheckWord at said right) = at
-fault_place (BackPointer at begin present) = at
-fault_place (Overlap at) = at
-fault_place (Overrun at bits room) = at
-fault_place (TooManyFrames at) = at
-fault_place _ = 0
+abbrev pub fault_offset : SurveyFault → ℕ
+fault_offset (NoFrame at) = at
+fault_offset (LostSync at) = at
+fault_offset (Truncated at) = at
+fault_offset (FreeFormat at) = at
+fault_offset (Mixed at) = at
+fault_offset (CheckWord at said right) = at
+fault_offset (BackPointer at begin present) = at
+fault_offset (Overlap at) = at
+fault_offset (Overrun at bits room) = at
+fault_offset (TooManyFrames at) = at
+fault_offset _ = 0
 
 -- none of these faults is before this offset
 abbrev pub NoneBefore : ℕ → List SurveyFault → Type 0
 NoneBefore at [] = Unit {0}
-NoneBefore at (fault ∷ later) = (at ≤ fault_place fault) × NoneBefore at later
+NoneBefore at (fault ∷ later) = (at ≤ fault_offset fault) × NoneBefore at later
 
 -- what a survey of the code tells
-abbrev pub tells : Survey → SurveyFields
-tells s = record {
+abbrev pub survey_view : Survey → SurveyFields
+survey_view s = record {
   frames = s.frames.items;
   blocks = s.blocks.items;
   head = s.head;
@@ -187,25 +188,25 @@ longest_file = 1073741824
 -- ---- well-formed files, and their streams
 
 -- the survey of a file that may have any number of frames: there are no more frames than bytes
-abbrev pub surveyed_freely : List ℕ → Result SurveyFields SurveyFault
-surveyed_freely file = surveyed file (length file + 1)
+abbrev pub unbounded_survey : List ℕ → Result SurveyFields SurveyFault
+unbounded_survey file = survey_fields file (length file + 1)
 
 -- a file is well-formed exactly if this survey has no fault
 abbrev pub IsWellFormed : List ℕ → Type 0
-IsWellFormed file = (s : SurveyFields) × (surveyed_freely file ≡ Ok s)
+IsWellFormed file = (s : SurveyFields) × (unbounded_survey file ≡ Ok s)
 
 -- the stream of a file that has been surveyed
 unfoldable pub stream_of_survey : List ℕ → SurveyFields → List StreamFrame
 stream_of_survey file s = stream_frames (main_bytes file s.head s.frames) s.head s.frames
 
 -- the stream of a file that was surveyed so; no frame where that has a fault
-abbrev pub stream_by : List ℕ → Result SurveyFields SurveyFault → List StreamFrame
-stream_by file (Ok s) = stream_of_survey file s
-stream_by file (Err fault) = []
+abbrev pub surveyed_stream : List ℕ → Result SurveyFields SurveyFault → List StreamFrame
+surveyed_stream file (Ok s) = stream_of_survey file s
+surveyed_stream file (Err fault) = []
 
 -- the stream of a well-formed file; no frame where it isn't well-formed
 unfoldable pub stream_of : List ℕ → List StreamFrame
-stream_of file = stream_by file (surveyed_freely file)
+stream_of file = surveyed_stream file (unbounded_survey file)
 
 -- the file is well-formed, and this is its stream
 pub record HoldsStream (file : List ℕ) (stream : List StreamFrame) : Type 0 where

@@ -18,13 +18,13 @@ unfoldable pub apart_rows : List Row → List Row
 apart_rows rows = map (λ (p : ℕ × Row). apart_row rows p.0 p.1) (enumerate_from 0 rows)
 
 -- without a head all stay
-abbrev pub set_apart : Option Head → List Row → List Row
-set_apart None rows = rows
-set_apart (Some head) rows = apart_rows rows
+abbrev pub rows_set_apart : Option Head → List Row → List Row
+rows_set_apart None rows = rows
+rows_set_apart (Some head) rows = apart_rows rows
 
 -- a survey whose head is set apart
 abbrev pub head_apart : SurveyFields → SurveyFields
-head_apart s = record s { frames = set_apart s.head s.frames }
+head_apart s = record s { frames = rows_set_apart s.head s.frames }
 
 -- ---- the frames as they are written
 
@@ -33,5 +33,5 @@ abbrev pub emptied_row : Row → Row
 emptied_row r = if r.lost then record r { side = no_side; lost = false } else r
 
 -- a survey with lost frames as empty ones
-abbrev pub emptied : SurveyFields → SurveyFields
-emptied s = record s { frames = map emptied_row s.frames }
+abbrev pub emptied_survey : SurveyFields → SurveyFields
+emptied_survey s = record s { frames = map emptied_row s.frames }

@@ -16,35 +16,37 @@ unfoldable pub header_front : List ℕ → Result HeaderFields NotHeader
 header_front bytes = if nat_le 4 (length bytes) then header_at (take 4 bytes) else Err No
 
 -- these bytes begin with this item
-abbrev pub Stands : List ℕ → Item → Type 0
-Stands bytes (Frame h) = header_front bytes ≡ Ok h
-Stands bytes Free = header_front bytes ≡ Err FreeHeader
-Stands bytes (Block b) = block_front bytes ≡ Some b
-Stands bytes Zero = take 1 bytes ≡ 0 ∷ []
-Stands bytes End = bytes ≡ []
-Stands bytes Nothing = (header_front bytes ≡ Err No) × (block_front bytes ≡ None) × (bytes ≢ [])
+abbrev pub IsItemFront : List ℕ → Item → Type 0
+IsItemFront bytes (Frame h) = header_front bytes ≡ Ok h
+IsItemFront bytes Free = header_front bytes ≡ Err FreeHeader
+IsItemFront bytes (Block b) = block_front bytes ≡ Some b
+IsItemFront bytes Zero = take 1 bytes ≡ 0 ∷ []
+IsItemFront bytes End = bytes ≡ []
+IsItemFront bytes Nothing =
+    (header_front bytes ≡ Err No) × (block_front bytes ≡ None) × (bytes ≢ [])
     × (take 1 bytes ≢ 0 ∷ [])
 
 -- a header, else what there is otherwise
-abbrev pub by_header : Result HeaderFields NotHeader → Item → Item
-by_header (Ok h) other = Frame h
-by_header (Err FreeHeader) other = Free
-by_header (Err No) other = other
+abbrev pub header_or_item : Result HeaderFields NotHeader → Item → Item
+header_or_item (Ok h) other = Frame h
+header_or_item (Err FreeHeader) other = Free
+header_or_item (Err No) other = other
 
 -- a block, else what there is otherwise
-abbrev pub by_block : Option TagBlock → Item → Item
-by_block (Some b) other = Block b
-by_block None other = other
+abbrev pub block_or_item : Option TagBlock → Item → Item
+block_or_item (Some b) other = Block b
+block_or_item None other = other
 
 -- by the first byte alone
-abbrev pub by_byte : List ℕ → Item
-by_byte [] = End
-by_byte (b ∷ bs) = if b == 0 then Zero else Nothing
+abbrev pub byte_item : List ℕ → Item
+byte_item [] = End
+byte_item (b ∷ bs) = if b == 0 then Zero else Nothing
 
 -- the item with which these bytes begin; they begin with one
 -- kind at most, so the order of these questions decides nothing
 unfoldable pub item_front : List ℕ → Item
-item_front bytes = by_header (header_front bytes) (by_block (block_front bytes) (by_byte bytes))
+item_front bytes =
+    header_or_item (header_front bytes) (block_or_item (block_front bytes) (byte_item bytes))
 
 -- the item at an offset of the file
 unfoldable pub item_at : List ℕ → ℕ → Item
@@ -61,5 +63,5 @@ size_of End = 0
 size_of Nothing = 0
 
 -- the item at the offset doesn't go past the end of the file
-abbrev pub fits : List ℕ → ℕ → Item → Bool
-fits file at item = nat_le (size_of item) (length file - at)
+abbrev pub item_fits : List ℕ → ℕ → Item → Bool
+item_fits file at item = nat_le (size_of item) (length file - at)

@@ -2,32 +2,36 @@
 use Rattle.std.specs.Prelude.{drop, length, List, None, Ok, Option, slice_get, Some, true, ℕ, ◌++◌}
 use Rattle.std.specs.Prelude.{◌+◌, ◌<◌, ◌↔◌, ◌≡◌, ◌≤◌, ◌⊎◌}
 use Rattle.frame_header.specs.Fields.{ClassFields}
-use Rattle.sync_survey.specs.Faults.{HoldsStream, stream_of_survey, surveyed, SurveyFields}
-use Rattle.sync_survey.specs.HeadApart.{emptied, head_apart, set_apart}
-use Rattle.sync_survey.specs.Items.{item_at, item_front, size_of, Stands}
+use Rattle.sync_survey.specs.Faults.{HoldsStream, stream_of_survey, survey_fields, SurveyFields}
+use Rattle.sync_survey.specs.HeadApart.{emptied_survey, head_apart, rows_set_apart}
+use Rattle.sync_survey.specs.Items.{IsItemFront, item_at, item_front, size_of}
 use Rattle.sync_survey.specs.{MainData.{is_lost, is_silent, place, points_too_far}, Row.Row}
-use Rattle.sync_survey.specs.Runs.{AreEndToEnd, bytes_of_items, item_of, Placed, run}
-use Rattle.sync_survey.specs.{Start.{IsLeastStart, start_of}, Survey.{AreWellPlaced, IsLaidOut}}
-use Rattle.sync_survey.specs.declared.{items.Item.{Item, TheVariants.Frame}, places.Head.Head}
-use Rattle.sync_survey.specs.declared.{places.Start.Start, runs.Part.Part}
+use Rattle.sync_survey.specs.Runs.{AreEndToEnd, bytes_of_items, item_run, PlacedItem, whole_item_at}
+use Rattle.sync_survey.specs.Start.{IsLeastStart, start_of}
+use Rattle.sync_survey.specs.{Survey.{AreWellPlaced, IsSurveyLaidOut}, declared.items.Item.Item}
+use Rattle.sync_survey.specs.declared.{items.Item.TheVariants.Frame, places.Head.Head}
+use Rattle.sync_survey.specs.declared.{places.Start.Start, runs.Region.Region}
 
 -- bytes begin with one item, and with no other
 abbrev pub OneItemStands : Type 0
-OneItemStands = (bytes : List ℕ) (item : Item) → Stands bytes item ↔ (item ≡ item_front bytes)
+OneItemStands = (bytes : List ℕ) (item : Item) → IsItemFront bytes item ↔ (item ≡ item_front bytes)
 
 -- The items of a run are whole and follow end to end, and none is after them; with the
 -- bytes after them they are the file's bytes; and no other items of the part are so.
-pub record IsOnlyRun (part : Part) (file : List ℕ) (from : ℕ) : Type 0 where
-  pub items : AreEndToEnd part file from (run part file from).items (run part file from).stop
-  pub last : item_of part file (run part file from).stop ≡ None
-  pub bytes : bytes_of_items file (run part file from).items ++ drop (run part file from).stop file
+pub record IsOnlyRun (part : Region) (file : List ℕ) (from : ℕ) : Type 0 where
+  pub items : AreEndToEnd part file from
+      (item_run part file from).items (item_run part file from).stop
+  pub last : whole_item_at part file (item_run part file from).stop ≡ None
+  pub bytes : bytes_of_items file (item_run part file from).items
+      ++ drop (item_run part file from).stop file
       ≡ drop from file
-  pub only : (others : List Placed) (stop : ℕ) → AreEndToEnd part file from others stop
-      → item_of part file stop ≡ None → run part file from ≡ record { items = others; stop = stop }
+  pub only : (others : List PlacedItem) (stop : ℕ) → AreEndToEnd part file from others stop
+      → whole_item_at part file stop ≡ None
+      → item_run part file from ≡ record { items = others; stop = stop }
 
 -- so is every run
 abbrev pub RunsAreOnly : Type 0
-RunsAreOnly = (part : Part) (file : List ℕ) (from : ℕ) → IsOnlyRun part file from
+RunsAreOnly = (part : Region) (file : List ℕ) (from : ℕ) → IsOnlyRun part file from
 
 -- The first frame of a stream is whole. It is where the front ends, or
 -- after junk at the smallest offset at which an anchored frame begins.
@@ -56,13 +60,13 @@ LostFramesLead =
 -- a file without fault holds the stream that its survey tells,
 -- and is well-formed whatever number of frames was allowed
 abbrev pub SurveysHoldStreams : Type 0
-SurveysHoldStreams = (file : List ℕ) (allowed : ℕ) (s : SurveyFields) → surveyed file allowed ≡ Ok s
-    → HoldsStream file (stream_of_survey file s)
+SurveysHoldStreams = (file : List ℕ) (allowed : ℕ) (s : SurveyFields)
+    → survey_fields file allowed ≡ Ok s → HoldsStream file (stream_of_survey file s)
 
 -- the main data of the frames of a file without fault are where they may be
 abbrev pub SurveysArePlaced : Type 0
-SurveysArePlaced = (file : List ℕ) (allowed : ℕ) (s : SurveyFields) → surveyed file allowed ≡ Ok s
-    → AreWellPlaced s.head s.class s.frames
+SurveysArePlaced = (file : List ℕ) (allowed : ℕ) (s : SurveyFields)
+    → survey_fields file allowed ≡ Ok s → AreWellPlaced s.head s.class s.frames
 
 -- In a file without fault a frame whose main_data_begin is greater than the sum
 -- of the areas of the frames before it, the head's left out, is lost where the
@@ -77,12 +81,13 @@ ApartFramesLead =
 -- frames are where they may be in a file of the same frames without a head
 abbrev pub HeadsApartArePlaced : Type 0
 HeadsApartArePlaced = (head : Option Head) (class : ClassFields) (rows : List Row)
-    → AreWellPlaced head class rows → AreWellPlaced None class (set_apart head rows)
+    → AreWellPlaced head class rows → AreWellPlaced None class (rows_set_apart head rows)
 
 -- with lost frames as empty ones they are where they may be in
 -- a file with the head, too, and all else is laid out as it was
 abbrev pub HeadsApartAreLaid : Type 0
-HeadsApartAreLaid = (s : SurveyFields) → IsLaidOut s → IsLaidOut (emptied (head_apart s))
+HeadsApartAreLaid =
+    (s : SurveyFields) → IsSurveyLaidOut s → IsSurveyLaidOut (emptied_survey (head_apart s))
 
 -- the main data of each frame begin within the areas of the frames before it, the head's left out
 abbrev pub AreNear : List Row → Type 0
@@ -91,4 +96,5 @@ AreNear rows =
 
 -- then no frame is lost where the head is set apart
 abbrev pub NearFramesStay : Type 0
-NearFramesStay = (head : Option Head) (rows : List Row) → AreNear rows → set_apart head rows ≡ rows
+NearFramesStay =
+    (head : Option Head) (rows : List Row) → AreNear rows → rows_set_apart head rows ≡ rows

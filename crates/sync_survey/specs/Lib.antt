@@ -9,10 +9,10 @@ pub mod Walk
 pub mod MainData
 pub mod Faults
 pub mod HeadApart
-pub mod Kinds
+pub mod SurveyFaultKinds
 pub mod Survey
 pub mod Answers
 pub mod Laws
-pub mod Begun
+pub mod WalkBeginning
 pub mod Merge
 pub mod Order

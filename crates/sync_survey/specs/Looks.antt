@@ -4,15 +4,17 @@ use Rattle.std.specs.Prelude.{drop, length, List, None, Option, option_to_list, 
 use Rattle.std.specs.Prelude.{◌++◌, ◌+◌, ◌-◌, ◌<◌, ◌==◌, ◌∷◌, ◌≡◌, ◌≤◌, ◌⊎◌}
 use Rattle.frame_header.specs.{Fields.{ClassFields, HeaderFields}, Limits.most_frame_length}
 use Rattle.frame_header.specs.Tables.{class_of, overhead_of}
-use Rattle.side_info.specs.{Frame.word_said, Side.SideFits}
+use Rattle.side_info.specs.{Frame.stored_crc, Side.SideFits}
 use Rattle.sync_survey.specs.Faults.{data_faults, faults_at, first_of, later_faults}
-use Rattle.sync_survey.specs.{Items.{item_front, size_of}, Kinds.RefusesRightly}
-use Rattle.sync_survey.specs.{MainData.{end_behind, lacks_data, own_area, row_in}, Row.Row}
-use Rattle.sync_survey.specs.Runs.{block_as, blocks_of, frame_as, frames_of, item_of, run}
-use Rattle.sync_survey.specs.{Walk.fault_at, declared.{found.Found.Found, items.Item.Item}}
+use Rattle.sync_survey.specs.Items.{item_front, size_of}
+use Rattle.sync_survey.specs.{MainData.{data_end_after, lacks_data, own_area, row_in}, Row.Row}
+use Rattle.sync_survey.specs.Runs.{block_of_item, blocks_of, frame_of_item, frames_of, item_run}
+use Rattle.sync_survey.specs.{Runs.whole_item_at, SurveyFaultKinds.RefusesRightly, Walk.fault_at}
+use Rattle.sync_survey.specs.declared.{found.SurveySoFar.SurveySoFar, items.Item.Item}
 use Rattle.sync_survey.specs.declared.items.Item.TheVariants.{Block, Frame, Zero}
-use Rattle.sync_survey.specs.declared.{places.Piece.Piece, rows.{Before.Before, Behind.Behind}}
-use Rattle.sync_survey.specs.declared.runs.{Part.{Part, TheVariants.Stream}, Step.Step}
+use Rattle.sync_survey.specs.declared.{places.Piece.Piece, rows.JudgedFrame.JudgedFrame}
+use Rattle.sync_survey.specs.declared.{rows.ReservoirState.ReservoirState, runs.Region.Region}
+use Rattle.sync_survey.specs.declared.runs.{Region.TheVariants.Stream, Step.Step}
 use Rattle.sync_survey.specs.declared.survey_fault.SurveyFault.{SurveyFault, TheVariants.Memory}
 
 -- how many bytes a look shows, 4,096 if the file has them: more than a frame and the 32 bytes after
@@ -27,12 +29,12 @@ pub record Shows (file : List ℕ) (at : ℕ) (front : List ℕ) (left : ℕ) : 
 
 -- the items of the part that follow end to end from the offset on are
 -- this one and those so many bytes later, except zero bytes between them
-pub record Passes (part : Part) (file : List ℕ) (at : ℕ) (item : Item) (size : ℕ) : Type 0 where
-  pub frames : frames_of (run part file at).items
-      ≡ option_to_list (frame_as at item) ++ frames_of (run part file (at + size)).items
-  pub blocks : blocks_of (run part file at).items
-      ≡ option_to_list (block_as at item) ++ blocks_of (run part file (at + size)).items
-  pub stop : (run part file at).stop ≡ (run part file (at + size)).stop
+pub record Passes (part : Region) (file : List ℕ) (at : ℕ) (item : Item) (size : ℕ) : Type 0 where
+  pub frames : frames_of (item_run part file at).items
+      ≡ option_to_list (frame_of_item at item) ++ frames_of (item_run part file (at + size)).items
+  pub blocks : blocks_of (item_run part file at).items
+      ≡ option_to_list (block_of_item at item) ++ blocks_of (item_run part file (at + size)).items
+  pub stop : (item_run part file at).stop ≡ (item_run part file (at + size)).stop
 
 -- An item that is passed, by the bytes of a look and how many are left: it
 -- is the one with which they begin, and is whole. The bytes that are passed
@@ -47,8 +49,8 @@ pub record PassesFront (front : List ℕ) (left : ℕ) (step : Step) : Type 0 wh
   pub within : step.size ≤ left
 
 -- this is passed at the offset, or no whole item of the part is there
-abbrev pub IsStep : Part → List ℕ → ℕ → Option Step → Type 0
-IsStep part file at None = item_of part file at ≡ None
+abbrev pub IsStep : Region → List ℕ → ℕ → Option Step → Type 0
+IsStep part file at None = whole_item_at part file at ≡ None
 IsStep part file at (Some step) = Passes part file at step.item step.size
 
 -- ---- a frame that is judged
@@ -58,26 +60,26 @@ abbrev pub ReachArea : HeaderFields → List ℕ → Type 0
 ReachArea h bytes = overhead_of (class_of h) h.protected ≤ length bytes
 
 -- the first fault of its main data
-abbrev pub data_fault : Before → Row → Option SurveyFault
+abbrev pub data_fault : ReservoirState → Row → Option SurveyFault
 data_fault b r = first_of (data_faults b.place b.ended r)
 
 -- the first fault of a frame of the class, by its bytes and how many frames are before it
-abbrev pub frame_fault : List ℕ → ℕ → Before → ℕ → Row → Option SurveyFault
+abbrev pub frame_fault : List ℕ → ℕ → ReservoirState → ℕ → Row → Option SurveyFault
 frame_fault bytes allowed b count r =
-    first_of (later_faults (word_said bytes) allowed b.place b.ended count r)
+    first_of (later_faults (stored_crc bytes) allowed b.place b.ended count r)
 
 -- ---- what is kept of an item
 
 -- what is known after a frame without fault, by the place of its own area and where
 -- the main data before it end: whether it is lost, and the areas before the next frame
-pub record IsBehind (place_now ended_now : ℕ) (r : Row) (b : Behind) : Type 0 where
+pub record IsJudgedFrame (place_now ended_now : ℕ) (r : Row) (b : JudgedFrame) : Type 0 where
   pub lost : b.lost ≡ lacks_data place_now ended_now r
   pub place : b.before.place ≡ place_now + own_area r.header
-  pub ended : b.before.ended ≡ end_behind place_now ended_now (Some r)
+  pub ended : b.before.ended ≡ data_end_after place_now ended_now (Some r)
 
 -- a frame has no fault, and is kept after the others, marked if it is lost
 pub record KeepsFrame (said : ℕ) (class : ClassFields) (allowed : ℕ) (r : Row)
-    (old new : Found) : Type 0 where
+    (old new : SurveySoFar) : Type 0 where
   pub sound : first_of (faults_at said class allowed
       old.before.place old.before.ended (length old.rows.items) r) ≡ None
   pub fits : SideFits (class_of r.header) r.side
@@ -85,26 +87,26 @@ pub record KeepsFrame (said : ℕ) (class : ClassFields) (allowed : ℕ) (r : Ro
       ≡ old.rows.items ++ record r { lost = lacks_data old.before.place old.before.ended r } ∷ []
   pub pieces : new.pieces.items ≡ old.pieces.items
   pub place : new.before.place ≡ old.before.place + own_area r.header
-  pub ended : new.before.ended ≡ end_behind old.before.place old.before.ended (Some r)
+  pub ended : new.before.ended ≡ data_end_after old.before.place old.before.ended (Some r)
 
 -- these blocks are kept after the others
-pub record KeepsBlocks (blocks : List Piece) (old new : Found) : Type 0 where
+pub record KeepsBlocks (blocks : List Piece) (old new : SurveySoFar) : Type 0 where
   pub rows : new.rows.items ≡ old.rows.items
   pub pieces : new.pieces.items ≡ old.pieces.items ++ blocks
   pub before : new.before ≡ old.before
 
 -- what is kept of an item at an offset, by the bytes from there on
-abbrev pub Keeps : ClassFields → ℕ → ℕ → Item → List ℕ → Found → Found → Type 0
-Keeps class allowed offset (Frame h) bytes old new =
-    KeepsFrame (word_said bytes) class allowed (row_in offset h bytes) old new
-Keeps class allowed offset (Block b) bytes old new =
+abbrev pub KeepsItem : ClassFields → ℕ → ℕ → Item → List ℕ → SurveySoFar → SurveySoFar → Type 0
+KeepsItem class allowed offset (Frame h) bytes old new =
+    KeepsFrame (stored_crc bytes) class allowed (row_in offset h bytes) old new
+KeepsItem class allowed offset (Block b) bytes old new =
     KeepsBlocks (record { offset = offset; block = b } ∷ []) old new
-Keeps class allowed offset _ bytes old new = KeepsBlocks [] old new
+KeepsItem class allowed offset _ bytes old new = KeepsBlocks [] old new
 
 -- the first fault of a frame
-abbrev pub IsFrameFault : ClassFields → ℕ → ℕ → Item → List ℕ → Found → SurveyFault → Type 0
+abbrev pub IsFrameFault : ClassFields → ℕ → ℕ → Item → List ℕ → SurveySoFar → SurveyFault → Type 0
 IsFrameFault class allowed offset (Frame h) bytes old fault =
-    first_of (faults_at (word_said bytes) class allowed
+    first_of (faults_at (stored_crc bytes) class allowed
     old.before.place old.before.ended (length old.rows.items) (row_in offset h bytes)) ≡ Some fault
 IsFrameFault class allowed offset _ bytes old fault = ⊥
 
@@ -113,15 +115,15 @@ IsFrameFault class allowed offset _ bytes old fault = ⊥
 -- A whole item is passed, by the bytes of a look and how many are left: so
 -- many bytes, and it is kept if it is a frame without fault or a block.
 pub record PassesItem (class : ClassFields) (allowed offset : ℕ) (bytes : List ℕ) (left : ℕ)
-    (old new : Found) (size : ℕ) : Type 0 where
+    (old new : SurveySoFar) (size : ℕ) : Type 0 where
   pub passes : (file : List ℕ) → Shows file offset bytes left
       → Passes Stream file offset (item_front bytes) size
   pub front : PassesFront bytes left (record { item = item_front bytes; size = size })
-  pub keeps : Keeps class allowed offset (item_front bytes) bytes old new
+  pub keeps : KeepsItem class allowed offset (item_front bytes) bytes old new
 
 -- a frame is passed that has a fault
 pub record PassesFault (class : ClassFields) (allowed offset : ℕ) (bytes : List ℕ) (left : ℕ)
-    (old : Found) (fault : SurveyFault) : Type 0 where
+    (old : SurveySoFar) (fault : SurveyFault) : Type 0 where
   pub size : ℕ
   pub passes : (file : List ℕ) → Shows file offset bytes left
       → Passes Stream file offset (item_front bytes) size
@@ -130,12 +132,13 @@ pub record PassesFault (class : ClassFields) (allowed offset : ℕ) (bytes : Lis
 
 -- no whole item of the stream is there
 pub record StopsThere (offset : ℕ) (bytes : List ℕ) (left : ℕ) (fault : SurveyFault) : Type 0 where
-  pub none : (file : List ℕ) → Shows file offset bytes left → item_of Stream file offset ≡ None
+  pub none : (file : List ℕ) → Shows file offset bytes left
+      → whole_item_at Stream file offset ≡ None
   pub why : fault_at offset (item_front bytes) ≡ Some fault
   pub rightly : RefusesRightly fault
 
 -- why an item isn't passed
-abbrev pub IsNotPassed : ClassFields → ℕ → ℕ → List ℕ → ℕ → Found → SurveyFault → Type 0
+abbrev pub IsNotPassed : ClassFields → ℕ → ℕ → List ℕ → ℕ → SurveySoFar → SurveyFault → Type 0
 IsNotPassed class allowed offset bytes left old fault =
     (fault ≡ Memory)
     ⊎ (PassesFault class allowed offset bytes left old fault ⊎ StopsThere offset bytes left fault)

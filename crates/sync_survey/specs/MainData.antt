@@ -16,7 +16,7 @@ use Rattle.sync_survey.specs.{Row.Row, declared.places.{Head.Head, PlacedFrame.P
 -- ---- frames with their side information
 
 -- a frame with the side information that is in these bytes, the first of which are
--- the frame's; whether it is lost depends on the frames before it (`marked` below)
+-- the frame's; whether it is lost depends on the frames before it (`marked_rows` below)
 abbrev pub row_in : ℕ → HeaderFields → List ℕ → Row
 row_in offset h bytes = record { offset = offset; header = h; side = side_in h bytes; lost = false }
 
@@ -67,33 +67,33 @@ lacks_data place ended r = ended == 0 && points_too_far place r
 
 -- where the main data end after a frame, by the place of its own area and
 -- where those before it end: a silent or lost frame doesn't change it
-abbrev pub end_behind : ℕ → ℕ → Option Row → ℕ
-end_behind place ended None = ended
-end_behind place ended (Some r) =
+abbrev pub data_end_after : ℕ → ℕ → Option Row → ℕ
+data_end_after place ended None = ended
+data_end_after place ended (Some r) =
     if is_silent r || lacks_data place ended r then ended else end_of_data place r
 
 -- the place where the main data end that are before frame i: those of the last
 -- frame before it that is neither silent nor lost, or 0 where there is none
-unfoldable pub end_before : Option Head → List Row → ℕ → ℕ
-end_before head rows zero = 0
-end_before head rows (suc i) =
-    end_behind (place head rows i) (end_before head rows i) (slice_get rows i)
+unfoldable pub data_end_before : Option Head → List Row → ℕ → ℕ
+data_end_before head rows zero = 0
+data_end_before head rows (suc i) =
+    data_end_after (place head rows i) (data_end_before head rows i) (slice_get rows i)
 
 -- ---- lost frames
 
 -- Frame i is lost: its main data begin before the stream, and every
 -- frame before it is silent or lost. (The law `LostFramesLead` says
--- that `end_before` is 0 exactly if no other frame is before it.)
+-- that `data_end_before` is 0 exactly if no other frame is before it.)
 abbrev pub is_lost : Option Head → List Row → ℕ → Row → Bool
-is_lost head rows i r = lacks_data (place head rows i) (end_before head rows i) r
+is_lost head rows i r = lacks_data (place head rows i) (data_end_before head rows i) r
 
 -- frame i, marked if it is lost
 abbrev pub marked_row : Option Head → List Row → ℕ → Row → Row
 marked_row head rows i r = record r { lost = is_lost head rows i r }
 
 -- all frames
-unfoldable pub marked : Option Head → List Row → List Row
-marked head rows = map (λ (p : ℕ × Row). marked_row head rows p.0 p.1) (enumerate_from 0 rows)
+unfoldable pub marked_rows : Option Head → List Row → List Row
+marked_rows head rows = map (λ (p : ℕ × Row). marked_row head rows p.0 p.1) (enumerate_from 0 rows)
 
 -- ---- the main data themselves
 
@@ -117,9 +117,9 @@ abbrev pub payload_at : List ℕ → ℕ → Side → List ℕ
 payload_at main start s = take (payload_bits s) (drop (8 * start) (bits main))
 
 -- bits in parts of these lengths, one after the other
-unfoldable pub parts_of : List ℕ → List ℕ → List (List ℕ)
-parts_of [] bs = []
-parts_of (n ∷ ns) bs = take n bs ∷ parts_of ns (drop n bs)
+unfoldable pub split_bits : List ℕ → List ℕ → List (List ℕ)
+split_bits [] bs = []
+split_bits (n ∷ ns) bs = take n bs ∷ split_bits ns (drop n bs)
 
 -- ---- the stream
 
@@ -136,20 +136,20 @@ abbrev pub no_slot : SlotFields
 no_slot = record { rate_index = 0; padding = false }
 
 -- the lengths in bits of the main data of each granule and channel, in their order
-abbrev pub part_lengths : HeaderFields → Side → List ℕ
-part_lengths h s = map (λ (g : Granule). g.part2_3_length) (granules_in (class_of h) s)
+abbrev pub granule_lengths : HeaderFields → Side → List ℕ
+granule_lengths h s = map (λ (g : Granule). g.part2_3_length) (granules_in (class_of h) s)
 
 -- the side information of a frame, all 0 if the frame is lost
-abbrev pub side_of : Row → Side
-side_of r = if r.lost then no_side else r.side
+abbrev pub row_side : Row → Side
+row_side r = if r.lost then no_side else r.side
 
 -- frame i
 abbrev pub stream_frame : List ℕ → Option Head → List Row → ℕ → Row → StreamFrame
 stream_frame main head rows i r = record {
   header = record r.header { slot = no_slot };
-  side = record (side_of r) { main_data_begin = 0 };
-  payload = parts_of (part_lengths r.header (side_of r))
-      (payload_at main (start_of_data (place head rows i) r) (side_of r));
+  side = record (row_side r) { main_data_begin = 0 };
+  payload = split_bits (granule_lengths r.header (row_side r))
+      (payload_at main (start_of_data (place head rows i) r) (row_side r));
 }
 
 -- all frames

@@ -1,6 +1,6 @@
 -- A walk over two lists that are in order of offset.
 use Rattle.std.specs.Prelude.{drop, List, map, None, Option, Some, ℕ, [], ◌+◌, ◌∷◌, ◌≡◌}
-use Rattle.sync_survey.specs.Order.{IsAfter, IsFrom, IsUntil, merged_by}
+use Rattle.sync_survey.specs.Order.{IsFirstAfter, IsFirstFrom, IsFirstUntil, merged_list}
 use Rattle.sync_survey.specs.declared.merge.Entry.{Entry, TheVariants.{First, Second}}
 use Rattle.sync_survey.specs.declared.merge.Merge.{Merge}
 
@@ -35,7 +35,7 @@ module _ {A B : Type 0} (first_at : A → ℕ) (second_at : B → ℕ) where
   -- of it is left, or the next of the first is at or before it
   abbrev pub IsNoSecondNext : List A → List B → Type 0
   IsNoSecondNext firsts [] = Unit {0}
-  IsNoSecondNext firsts (b ∷ seconds) = IsUntil first_at (second_at b) firsts
+  IsNoSecondNext firsts (b ∷ seconds) = IsFirstUntil first_at (second_at b) firsts
 
   -- so it is in this walk
   abbrev pub HasNoSecondNext : Merge A B → Type 0
@@ -46,10 +46,11 @@ module _ {A B : Type 0} (first_at : A → ℕ) (second_at : B → ℕ) where
   abbrev pub Meets : Merge A B → Option (Entry A B) → Merge A B → Type 0
   Meets old None new = (firsts_left old ≡ []) × (seconds_left old ≡ []) × (new ≡ old)
   Meets old (Some (First a)) new =
-      PassesFirst a old new × IsFrom second_at (first_at a) (seconds_left old)
+      PassesFirst a old new × IsFirstFrom second_at (first_at a) (seconds_left old)
   Meets old (Some (Second b)) new =
-      PassesSecond b old new × IsAfter first_at (second_at b) (firsts_left old)
+      PassesSecond b old new × IsFirstAfter first_at (second_at b) (firsts_left old)
 
   -- what the walk hasn't met yet, in order
-  unfoldable pub left : Merge A B → List (Entry A B)
-  left m = merged_by entry_offset (map First (firsts_left m)) (map Second (seconds_left m))
+  unfoldable pub entries_left : Merge A B → List (Entry A B)
+  entries_left m =
+      merged_list entry_offset (map First (firsts_left m)) (map Second (seconds_left m))

@@ -4,10 +4,11 @@ use Rattle.std.specs.Prelude.{Bool, Err, false, filter_map, if◌then◌else◌,
 use Rattle.std.specs.Prelude.{Option, Result, slice_get, Some, true, ℕ, ◌&&◌, ◌+◌, ◌<◌, ◌≡◌, ◌≤◌}
 use Rattle.std.specs.Prelude.{◌⊎◌}
 use Rattle.frame_header.specs.{Fields.{ClassFields, HeaderFields}, Tables.{class_of, length_of}}
-use Rattle.sync_survey.specs.{Items.{fits, item_at, same_class}, Runs.run, declared.items.Item.Item}
+use Rattle.sync_survey.specs.{Items.{item_at, item_fits, same_class}, Runs.item_run}
+use Rattle.sync_survey.specs.declared.items.Item.{Item}
 use Rattle.sync_survey.specs.declared.items.Item.TheVariants.{Block, End, Frame, Free, Nothing}
 use Rattle.sync_survey.specs.declared.{items.Item.TheVariants.Zero, places.PlacedFrame.PlacedFrame}
-use Rattle.sync_survey.specs.declared.{places.Start.Start, runs.Part.TheVariants.Front}
+use Rattle.sync_survey.specs.declared.{places.Start.Start, runs.Region.TheVariants.Front}
 use Rattle.sync_survey.specs.declared.survey_fault.SurveyFault.{SurveyFault}
 use Rattle.sync_survey.specs.declared.survey_fault.SurveyFault.TheVariants.{FreeFormat, NoFrame}
 use Rattle.sync_survey.specs.declared.survey_fault.SurveyFault.TheVariants.{Truncated}
@@ -26,22 +27,22 @@ is_anchor c Nothing = false
 
 -- the frame with this header is whole, and an anchor is at its end
 abbrev pub has_anchor : List ℕ → ℕ → HeaderFields → Bool
-has_anchor file at h = fits file at (Frame h)
+has_anchor file at h = item_fits file at (Frame h)
     && is_anchor (class_of h) (item_at file (at + length_of (class_of h) h.slot))
 
 -- the anchored frame that an item at an offset is
-abbrev pub anchored : List ℕ → ℕ → Item → Option PlacedFrame
-anchored file at (Frame h) =
+abbrev pub anchored_item : List ℕ → ℕ → Item → Option PlacedFrame
+anchored_item file at (Frame h) =
     if has_anchor file at h then Some (record { offset = at; header = h }) else None
-anchored file at Free = None
-anchored file at (Block b) = None
-anchored file at Zero = None
-anchored file at End = None
-anchored file at Nothing = None
+anchored_item file at Free = None
+anchored_item file at (Block b) = None
+anchored_item file at Zero = None
+anchored_item file at End = None
+anchored_item file at Nothing = None
 
 -- the anchored frame at the offset
 unfoldable pub anchored_frame : List ℕ → ℕ → Option PlacedFrame
-anchored_frame file at = anchored file at (item_at file at)
+anchored_frame file at = anchored_item file at (item_at file at)
 
 -- an anchored frame is at the offset
 abbrev pub is_anchored : List ℕ → ℕ → Bool
@@ -59,23 +60,23 @@ first_anchored count file from =
     slice_get (filter_map (anchored_frame file) (range_with_len from count)) 0
 
 -- the bytes from here on are junk up to the first frame, where there is one
-abbrev pub start_behind : ℕ → Option PlacedFrame → Result Start SurveyFault
-start_behind front_end (Some frame) = Ok (record { front_end = front_end; first = frame })
-start_behind front_end None = Err (NoFrame front_end)
+abbrev pub start_after_junk : ℕ → Option PlacedFrame → Result Start SurveyFault
+start_after_junk front_end (Some frame) = Ok (record { front_end = front_end; first = frame })
+start_after_junk front_end None = Err (NoFrame front_end)
 
 -- the start by the item at which the front ends; a header there needs no anchor
 abbrev pub start_at : List ℕ → ℕ → Item → Result Start SurveyFault
-start_at file at (Frame h) = if fits file at (Frame h) then Ok
+start_at file at (Frame h) = if item_fits file at (Frame h) then Ok
     (record { front_end = at; first = record { offset = at; header = h } }) else Err (Truncated at)
 start_at file at Free = Err (FreeFormat at)
 start_at file at (Block b) = Err (Truncated at)
-start_at file at Zero = start_behind at (first_anchored longest_junk file (at + 1))
-start_at file at End = start_behind at (first_anchored longest_junk file (at + 1))
-start_at file at Nothing = start_behind at (first_anchored longest_junk file (at + 1))
+start_at file at Zero = start_after_junk at (first_anchored longest_junk file (at + 1))
+start_at file at End = start_after_junk at (first_anchored longest_junk file (at + 1))
+start_at file at Nothing = start_after_junk at (first_anchored longest_junk file (at + 1))
 
 -- the offset that is reached from 0 past whole blocks and zero bytes, at which neither begins
 unfoldable pub front_end_of : List ℕ → ℕ
-front_end_of file = (run Front file 0).stop
+front_end_of file = (item_run Front file 0).stop
 
 -- the start of the stream, or why there is none
 unfoldable pub start_of : List ℕ → Result Start SurveyFault
@@ -84,12 +85,13 @@ start_of file = start_at file (front_end_of file) (item_at file (front_end_of fi
 -- ---- what a start says, without the list of offsets
 
 -- the smallest offset of a range at which a test holds
-abbrev pub IsLeast : (ℕ → Bool) → ℕ → ℕ → ℕ → Type 0
-IsLeast test from to at = (from ≤ at) × (at < to) × (test at ≡ true)
+abbrev pub IsLeastOffset : (ℕ → Bool) → ℕ → ℕ → ℕ → Type 0
+IsLeastOffset test from to at = (from ≤ at) × (at < to) × (test at ≡ true)
     × ((earlier : ℕ) → from ≤ earlier → earlier < at → test earlier ≡ false)
 
 -- no junk is before the first frame, or it is at the smallest offset
 -- after the first byte of junk at which there is an anchored frame
 abbrev pub IsLeastStart : List ℕ → Start → Type 0
 IsLeastStart file s = (s.first.offset ≡ s.front_end)
-    ⊎ IsLeast (is_anchored file) (s.front_end + 1) ((s.front_end + 1) + longest_junk) s.first.offset
+    ⊎ IsLeastOffset (is_anchored file) (s.front_end + 1)
+    ((s.front_end + 1) + longest_junk) s.first.offset

@@ -4,23 +4,24 @@ use Rattle.std.specs.Prelude.{Option, Result, slice_get, Some, ℕ, [], ◌+◌,
 use Rattle.bit_fields.specs.Bits.{AreBytes}
 use Rattle.frame_header.specs.{Fields.{ClassFields, IsHeader}, Tables.{class_of, length_of}}
 use Rattle.outside.specs.Counts.{Counts, EndedAt, HappenedTo, NothingFailed, OnlyReads}
-use Rattle.outside.specs.{Feed.{Fed, IsFedFrom}, Files.{Files, Holds, is_told, IsMissing, IsThere}}
-use Rattle.outside.specs.Seen.{Seen}
+use Rattle.outside.specs.Feed.{Fed, IsFedFrom}
+use Rattle.outside.specs.{Files.{Files, Holds, is_told, IsFileMissing, IsFileThere}, Seen.Seen}
 use Rattle.side_info.specs.Side.{SideFits}
-use Rattle.sync_survey.specs.Faults.{data_faults, fault_place, faults_from, longest_file}
-use Rattle.sync_survey.specs.{Faults.{NoneBefore, surveyed, SurveyFields}, Items.size_of}
-use Rattle.sync_survey.specs.Kinds.{by_kind, end_of, HasRightNumbers, InputKind, IsRefused, kind_of}
-use Rattle.sync_survey.specs.{MainData.{end_before, is_lost, place}, Row.Row, Start.start_of}
-use Rattle.sync_survey.specs.{Walk.head_of, declared.items.Item.TheVariants.Frame}
-use Rattle.sync_survey.specs.declared.places.{Head.Head, Piece.Piece, PlacedFrame.PlacedFrame}
-use Rattle.sync_survey.specs.declared.{places.Start.Start, survey_fault.SurveyFault.SurveyFault}
-use Rattle.sync_survey.specs.declared.survey_fault.SurveyFault.TheVariants.{TooLong}
+use Rattle.sync_survey.specs.Faults.{data_faults, fault_offset, faults_from, longest_file}
+use Rattle.sync_survey.specs.{Faults.{NoneBefore, survey_fields, SurveyFields}, Items.size_of}
+use Rattle.sync_survey.specs.{MainData.{data_end_before, is_lost, place}, Row.Row, Start.start_of}
+use Rattle.sync_survey.specs.SurveyFaultKinds.{by_kind, HasRightNumbers, InputKind, IsRefused}
+use Rattle.sync_survey.specs.{SurveyFaultKinds.{kind_of, shrunk_end}, Walk.head_of}
+use Rattle.sync_survey.specs.declared.{items.Item.TheVariants.Frame, places.Head.Head}
+use Rattle.sync_survey.specs.declared.places.{Piece.Piece, PlacedFrame.PlacedFrame, Start.Start}
+use Rattle.sync_survey.specs.declared.survey_fault.SurveyFault.{SurveyFault, TheVariants.TooLong}
 
 -- the survey of a file with these bytes, or why there
 -- is none: it is too long, or else its first fault
 unfoldable pub survey_of : List ℕ → ℕ → Result SurveyFields SurveyFault
 survey_of file allowed =
-    if nat_lt longest_file (length file) then Err (TooLong (length file)) else surveyed file allowed
+    if nat_lt longest_file (length file) then Err (TooLong (length file))
+    else survey_fields file allowed
 
 -- where the name's file is told, this is its survey
 abbrev pub IsSurveyOf : List ℕ → Files → ℕ → SurveyFields → Type 0
@@ -35,14 +36,14 @@ HoldsOctets name files = (bytes : List ℕ) → Holds files name bytes → AreBy
 abbrev pub IsFirstFault : List ℕ → Files → ℕ → SurveyFault → Type 0
 IsFirstFault name files allowed fault =
     (bytes : List ℕ) → Holds files name bytes → (start : Start) → start_of bytes ≡ Ok start
-    → NoneBefore (fault_place fault) (faults_from bytes allowed start)
+    → NoneBefore (fault_offset fault) (faults_from bytes allowed start)
 
 -- ---- refusals
 
 -- the file is there, its bytes are refused so, and nothing is counted
 pub record RefusesBytes (name : List ℕ) (files : Files) (allowed : ℕ) (before after : Counts)
     (fault : SurveyFault) : Type 0 where
-  pub there : IsThere files name
+  pub there : IsFileThere files name
   pub bytes : (bytes : List ℕ) → Holds files name bytes → survey_of bytes allowed ≡ Err fault
   pub counts : after ≡ before
 
@@ -55,7 +56,7 @@ pub record HasShrunk (name : List ℕ) (place : ℕ) (files : Files)
 
 -- the file is there and isn't too long, so that memory is taken, and nothing is counted
 pub record AsksForMemory (name : List ℕ) (files : Files) (before after : Counts) : Type 0 where
-  pub there : IsThere files name
+  pub there : IsFileThere files name
   pub few : (bytes : List ℕ) → Holds files name bytes → length bytes ≤ longest_file
   pub counts : after ≡ before
 
@@ -64,7 +65,7 @@ pub record AsksForMemory (name : List ℕ) (files : Files) (before after : Count
 abbrev pub IsUnreadBy : List ℕ → Files → Counts → Counts → ℕ → Type 0 → InputKind → Type 0
 IsUnreadBy name files before after place refused kind = by_kind
     (record {
-      absent = IsMissing files name × HappenedTo name before.misses after.misses;
+      absent = IsFileMissing files name × HappenedTo name before.misses after.misses;
       unread = HappenedTo name before.read_faults after.read_faults;
       shorter = HasShrunk name place files before after;
       too_much = AsksForMemory name files before after;
@@ -75,7 +76,7 @@ IsUnreadBy name files before after place refused kind = by_kind
 -- why there is no survey
 abbrev pub IsSurveyFaultBy : List ℕ → Files → ℕ → Counts → Counts → SurveyFault → InputKind → Type 0
 IsSurveyFaultBy name files allowed before after fault kind = IsUnreadBy name files before after
-    (end_of fault) (RefusesBytes name files allowed before after fault) kind
+    (shrunk_end fault) (RefusesBytes name files allowed before after fault) kind
 
 -- why there is no survey, by the fault
 abbrev pub IsSurveyFault : List ℕ → Files → ℕ → Counts → Counts → SurveyFault → Type 0
@@ -83,7 +84,7 @@ IsSurveyFault name files allowed before after fault =
     IsSurveyFaultBy name files allowed before after fault (kind_of fault)
 
 -- with the right numbers
-pub record IsRefusal (name : List ℕ) (files : Files) (allowed : ℕ) (before after : Counts)
+pub record IsSurveyRefusal (name : List ℕ) (files : Files) (allowed : ℕ) (before after : Counts)
     (fault : SurveyFault) : Type 0 where
   pub cause : IsSurveyFault name files allowed before after fault
   pub numbers : HasRightNumbers fault
@@ -91,12 +92,12 @@ pub record IsRefusal (name : List ℕ) (files : Files) (allowed : ℕ) (before a
 -- refused so, whatever number of frames is allowed
 abbrev pub IsEarlyRefusal : List ℕ → Seen → Seen → SurveyFault → Type 0
 IsEarlyRefusal name old new fault =
-    (allowed : ℕ) → IsRefusal name old.files allowed old.counts new.counts fault
+    (allowed : ℕ) → IsSurveyRefusal name old.files allowed old.counts new.counts fault
 
 -- where the fault refuses the name's file, it is that of its length
-abbrev pub IsOfLength : List ℕ → Files → SurveyFault → Type 0
-IsOfLength name files fault = kind_of fault ≡ IsRefused → (bytes : List ℕ) → Holds files name bytes
-    → fault ≡ TooLong (length bytes)
+abbrev pub IsLengthFault : List ℕ → Files → SurveyFault → Type 0
+IsLengthFault name files fault = kind_of fault ≡ IsRefused → (bytes : List ℕ)
+    → Holds files name bytes → fault ≡ TooLong (length bytes)
 
 -- ---- what is known of the file while it is read
 
@@ -106,7 +107,7 @@ IsHeadOf name files p o = (bytes : List ℕ) → Holds files name bytes → o �
 
 -- the name is there, with this length where it is told, and that isn't too long
 pub record HasLength (files : Files) (name : List ℕ) (size : ℕ) : Type 0 where
-  pub there : IsThere files name
+  pub there : IsFileThere files name
   pub long : (bytes : List ℕ) → Holds files name bytes → size ≡ length bytes
   pub few : size ≤ longest_file
 
@@ -128,10 +129,10 @@ pub record ReadsBy {T : Type 0} (feed : Fed) (name : List ℕ) (result : Result 
 
 -- these frames follow one after the other from one offset
 -- to another, and their side fields are within their bits
-abbrev pub AreLaid : ℕ → List Row → ℕ → Type 0
-AreLaid from [] to = from ≤ to
-AreLaid from (r ∷ rows) to = (from ≤ r.offset) × SideFits (class_of r.header) r.side
-    × AreLaid (r.offset + length_of (class_of r.header) r.header.slot) rows to
+abbrev pub FramesAreLaid : ℕ → List Row → ℕ → Type 0
+FramesAreLaid from [] to = from ≤ to
+FramesAreLaid from (r ∷ rows) to = (from ≤ r.offset) × SideFits (class_of r.header) r.side
+    × FramesAreLaid (r.offset + length_of (class_of r.header) r.header.slot) rows to
 
 -- so do these blocks
 abbrev pub BlocksAreLaid : ℕ → List Piece → ℕ → Type 0
@@ -147,7 +148,7 @@ pub record IsWellPlaced (head : Option Head) (class : ClassFields) (rows : List 
   pub class_is : class_of r.header ≡ class
   pub fits : SideFits class r.side
   pub mark : r.lost ≡ is_lost head rows i r
-  pub sound : data_faults (place head rows i) (end_before head rows i) r ≡ []
+  pub sound : data_faults (place head rows i) (data_end_before head rows i) r ≡ []
 
 -- so is each frame
 abbrev pub AreWellPlaced : Option Head → ClassFields → List Row → Type 0
@@ -162,12 +163,12 @@ pub record IsWholeHead (first : ℕ) (class : ClassFields) (length : ℕ) (head 
 
 -- the junk ends where the first frame begins, there is a frame
 -- besides the head, and head, frames and blocks are within the length
-pub record IsLaidOut (s : SurveyFields) : Type 0 where
+pub record IsSurveyLaidOut (s : SurveyFields) : Type 0 where
   pub junk : s.junk ≤ s.first
   pub first : s.first ≤ s.length
   pub head : IfSome s.head (IsWholeHead s.first s.class s.length)
   pub some : 0 < length s.frames
-  pub frames : AreLaid s.first s.frames s.length
+  pub frames : FramesAreLaid s.first s.frames s.length
   pub blocks : BlocksAreLaid 0 s.blocks s.length
   pub few : s.length ≤ longest_file
   pub placed : AreWellPlaced s.head s.class s.frames
@@ -177,5 +178,5 @@ pub record IsLaidOut (s : SurveyFields) : Type 0 where
 pub record IsWholeSurvey (name : List ℕ) (files : Files) (allowed : ℕ)
     (s : SurveyFields) : Type 0 where
   pub exact : IsSurveyOf name files allowed s
-  pub laid : IsLaidOut s
+  pub laid : IsSurveyLaidOut s
   pub few : length s.frames ≤ allowed

@@ -3,19 +3,19 @@ use Rattle.std.specs.Prelude.{drop, length, List, None, Option, option_map, Some
 use Rattle.std.specs.Prelude.{◌+◌, ◌∷◌, ◌≡◌}
 use Rattle.frame_header.specs.Tables.{class_of, length_of}
 use Rattle.info_header.specs.HeadText.{head_text_of}
-use Rattle.sync_survey.specs.{Items.item_at, Runs.{blocks_of, frames_of, Run, run}}
+use Rattle.sync_survey.specs.{Items.item_at, Runs.{blocks_of, frames_of, item_run, ItemRun}}
 use Rattle.sync_survey.specs.declared.items.Item.{Item}
 use Rattle.sync_survey.specs.declared.items.Item.TheVariants.{Block, End, Frame, Free, Nothing}
 use Rattle.sync_survey.specs.declared.{items.Item.TheVariants.Zero, places.{Head.Head, Piece.Piece}}
 use Rattle.sync_survey.specs.declared.places.{PlacedFrame.PlacedFrame, Start.Start}
-use Rattle.sync_survey.specs.declared.runs.Part.TheVariants.{Front, Stream}
+use Rattle.sync_survey.specs.declared.runs.Region.TheVariants.{Front, Stream}
 use Rattle.sync_survey.specs.declared.survey_fault.SurveyFault.{SurveyFault}
 use Rattle.sync_survey.specs.declared.survey_fault.SurveyFault.TheVariants.{FreeFormat, LostSync}
 use Rattle.sync_survey.specs.declared.survey_fault.SurveyFault.TheVariants.{NoFrame, Truncated}
 
 -- the items from the first frame on
-abbrev pub stream_run : List ℕ → Start → Run
-stream_run file start = run Stream file start.first.offset
+abbrev pub stream_run : List ℕ → Start → ItemRun
+stream_run file start = item_run Stream file start.first.offset
 
 -- ---- the head
 
@@ -28,13 +28,14 @@ abbrev pub frame_bytes : List ℕ → PlacedFrame → List ℕ
 frame_bytes file p = own_bytes p (drop p.offset file)
 
 -- a frame with these bytes is a head exactly if `Xing` or `Info` is in it; no standard has heads
-abbrev pub head_by : PlacedFrame → List ℕ → Option Head
-head_by p own = option_map (λ at. record { offset = p.offset; header = p.header; text_at = at })
+abbrev pub head_in_bytes : PlacedFrame → List ℕ → Option Head
+head_in_bytes p own =
+    option_map (λ at. record { offset = p.offset; header = p.header; text_at = at })
     (head_text_of p.header own)
 
 -- the head that a frame of the file is
 unfoldable pub head_of : List ℕ → PlacedFrame → Option Head
-head_of file p = head_by p (frame_bytes file p)
+head_of file p = head_in_bytes p (frame_bytes file p)
 
 -- a head is this frame
 abbrev pub IsFrameOf : PlacedFrame → Head → Type 0
@@ -42,19 +43,20 @@ IsFrameOf p head = (head.offset ≡ p.offset) × (head.header ≡ p.header)
 
 -- only the first frame can be a head, and it isn't
 -- counted: all others are numbered from 0, in their order
-abbrev pub numbered : Option Head → List PlacedFrame → List PlacedFrame
-numbered None frames = frames
-numbered (Some head) frames = drop 1 frames
+abbrev pub numbered_frames : Option Head → List PlacedFrame → List PlacedFrame
+numbered_frames None frames = frames
+numbered_frames (Some head) frames = drop 1 frames
 
 -- where the numbered frames begin: at the first frame, or after the head
-abbrev pub numbered_at : PlacedFrame → Option Head → ℕ
-numbered_at first None = first.offset
-numbered_at first (Some head) = first.offset + length_of (class_of first.header) first.header.slot
+abbrev pub numbered_offset : PlacedFrame → Option Head → ℕ
+numbered_offset first None = first.offset
+numbered_offset first (Some head) =
+    first.offset + length_of (class_of first.header) first.header.slot
 
 -- the blocks of the front, and those from the first frame on
 abbrev pub all_blocks : List ℕ → Start → List Piece
 all_blocks file start =
-    blocks_of (run Front file 0).items ++ blocks_of (stream_run file start).items
+    blocks_of (item_run Front file 0).items ++ blocks_of (stream_run file start).items
 
 -- ---- where the walk ends
 
@@ -90,7 +92,7 @@ unfoldable pub walk_from : List ℕ → Start → WalkFields
 walk_from file start =
     let stream = stream_run file start in
     let head = head_of file start.first in
-    let frames = numbered head (frames_of stream.items) in record {
+    let frames = numbered_frames head (frames_of stream.items) in record {
       start = start;
       head = head;
       frames = frames;

@@ -1,9 +1,9 @@
 //! Frames that are lost when the head is set apart, and lost frames as they are written.
 ghost use Rattle.std.specs.Prelude.{◌≡◌, ◌≤◌, ◌||◌, false, map};
 ghost use Rattle.side_info.specs.Side.{no_side};
-ghost use Rattle.sync_survey.specs.Faults.{tells};
+ghost use Rattle.sync_survey.specs.Faults.{survey_view};
 ghost use Rattle.sync_survey.specs.MainData.{is_silent, points_too_far};
-ghost use Rattle.sync_survey.specs.HeadApart.{apart_rows, head_apart as head_apart_lem, emptied_row, emptied};
+ghost use Rattle.sync_survey.specs.HeadApart.{apart_rows, head_apart, emptied_row, emptied_survey};
 
 use crate::rows::Row;
 use crate::surveys::Survey;
@@ -71,7 +71,7 @@ impl Survey {
     /// before it, the head's left out, where each of these is silent or lost in this sense. Without a head no frame is
     /// marked. All else stays, and it takes no memory.
     pub fn head_apart(&mut self)
-        ensures { tells self.new ≡ head_apart_lem (tells self.old) }
+        ensures { survey_view self.new ≡ head_apart (survey_view self.old) }
     {
         if self.head.is_some() {
             mark_rows(self.frames.as_mut_slice());
@@ -81,7 +81,7 @@ impl Survey {
     /// Makes each lost frame one without main data, whose side information is all 0 and which isn't lost, so that the frames
     /// can be laid with the head before them (`heads_apart_are_laid`). All else stays, and it takes no memory.
     pub fn empty_lost(&mut self)
-        ensures { tells self.new ≡ emptied (tells self.old) }
+        ensures { survey_view self.new ≡ emptied_survey (survey_view self.old) }
     {
         empty_rows(self.frames.as_mut_slice());
     }

@@ -1,22 +1,22 @@
 //! The survey of a file of a folder.
 ghost use Rattle.std.specs.Prelude.{◌≡◌, Some, ◌≤◌, ◌<◌, length, IfOk, IfErr, OnOk};
-ghost use Rattle.outside.specs.Files.{IsThere};
+ghost use Rattle.outside.specs.Files.{IsFileThere};
 ghost use Rattle.outside.specs.Counts.{OnlyReads};
 ghost use Rattle.outside.specs.Feed.{IsFedFrom};
-ghost use Rattle.sync_survey.specs.Items.{item_front as item_front_lem};
+ghost use Rattle.sync_survey.specs.Items.{item_front};
 ghost use Rattle.sync_survey.specs.Walk.{fault_at};
-ghost use Rattle.sync_survey.specs.Faults.{tells};
-ghost use Rattle.sync_survey.specs.Kinds.{HasRightNumbers, RefusesRightly};
-ghost use Rattle.sync_survey.specs.Survey.{HoldsOctets, IsSurveyOf, IsWholeSurvey, IsFirstFault, IsRefusal, IsSurveyFault, IsLaidOut};
-ghost use Rattle.sync_survey.specs.Begun.{IsWalk};
+ghost use Rattle.sync_survey.specs.Faults.{survey_view};
+ghost use Rattle.sync_survey.specs.SurveyFaultKinds.{HasRightNumbers, RefusesRightly};
+ghost use Rattle.sync_survey.specs.Survey.{HoldsOctets, IsSurveyOf, IsWholeSurvey, IsFirstFault, IsSurveyRefusal, IsSurveyFault, IsSurveyLaidOut};
+ghost use Rattle.sync_survey.specs.WalkBeginning.{IsWalk};
 ghost use Rattle.sync_survey.specs.Answers.{FramesAnswer, FileAnswer, SurveyAnswer};
 
-use crate::found::Found;
+use crate::found::SurveySoFar;
 use crate::fronts::pass_front;
 use crate::heads::{find_head, head_area, numbered_from};
 use crate::looks::{find_length, look};
 use crate::places::{Head, Piece, Start};
-use crate::rows::Before;
+use crate::rows::ReservoirState;
 use crate::starts::find_start;
 use crate::survey_fault::SurveyFault;
 use crate::surveys::Survey;
@@ -57,10 +57,10 @@ fn judge_frames<D: Folder>(
     } = walk;
     let class = start.first.header.class();
     let mut at = numbered_from(&start.first, &head);
-    let mut found = Found {
+    let mut found = SurveySoFar {
         rows: Vec::new(alloc),
         pieces,
-        before: Before {
+        before: ReservoirState {
             place: head_area(&head),
             ended: 0,
         },

@@ -3,24 +3,24 @@ ghost use Rattle.std.specs.Prelude.{◌≡◌, ◌⊎◌, ◌^◌, ◌<◌, ◌�
 ghost use Rattle.frame_header.specs.Fields.{HeaderFields};
 ghost use Rattle.sync_survey.specs.Faults.{longest_file};
 ghost use Rattle.sync_survey.specs.Items.{header_front, item_front};
-ghost use Rattle.sync_survey.specs.Looks.{look_size, ReachArea, Keeps, IsFrameFault, PassesItem, IsNotPassed};
+ghost use Rattle.sync_survey.specs.Looks.{look_size, ReachArea, KeepsItem, IsFrameFault, PassesItem, IsNotPassed};
 
 use crate::items::{Item, header_of_class, is_same_class, stop_fault};
 use crate::places::Piece;
-use crate::rows::{Before, Limit, Row};
-use crate::runs::{Part, step_at};
+use crate::rows::{Limit, ReservoirState, Row};
+use crate::runs::{Region, step_at};
 use crate::survey_fault::SurveyFault;
 use frame_header::{Class, Header};
 
 /// The frames that were judged and have no fault, the blocks that were met, and the areas so far.
 #[derive(Drop)]
-pub(crate) struct Found {
+pub(crate) struct SurveySoFar {
     pub(crate) rows: Vec<Row>,
     pub(crate) pieces: Vec<Piece>,
-    pub(crate) before: Before,
+    pub(crate) before: ReservoirState,
 }
 
-impl Found {
+impl SurveySoFar {
     /// Judges the frame at the offset, and keeps it if it has no fault, marked if it is lost. The bytes
     /// begin with the frame's own.
     ///
@@ -41,7 +41,7 @@ impl Found {
         requires early { offset ≤ longest_file }
         requires bound { self.old.before.place ≤ 2 ^ 62 }
         ensures { MatchResult result
-            (λ _. Keeps class allowed offset (Item.Frame header) bytes.now self.old self.new)
+            (λ _. KeepsItem class allowed offset (Item.Frame header) bytes.now self.old self.new)
             (λ fault. (fault ≡ SurveyFault.Memory)
             ⊎ IsFrameFault class allowed offset (Item.Frame header) bytes.now self.old fault) }
     {
@@ -87,7 +87,7 @@ impl Found {
         requires early { offset ≤ longest_file }
         requires bound { self.old.before.place ≤ 2 ^ 62 }
         ensures { MatchResult result
-            (λ _. Keeps class allowed offset item.now bytes.now self.old self.new)
+            (λ _. KeepsItem class allowed offset item.now bytes.now self.old self.new)
             (λ fault. (fault ≡ SurveyFault.Memory)
             ⊎ IsFrameFault class allowed offset item.now bytes.now self.old fault) }
     {
@@ -121,7 +121,7 @@ impl Found {
             (λ size. PassesItem class allowed offset bytes.now left self.old self.new size)
             (λ fault. IsNotPassed class allowed offset bytes.now left self.old fault) }
     {
-        let Some(step) = step_at(Part::Stream, bytes, left) else {
+        let Some(step) = step_at(Region::Stream, bytes, left) else {
             return Err(stop_fault(bytes, offset));
         };
         self.keep(offset, &step.item, bytes, class, allowed)?;

@@ -2,15 +2,15 @@
 ghost use Rattle.std.specs.Prelude.{◌≡◌, ℕ, List, ◌+◌, ◌++◌, [], ◌≤◌, IfOk, IfErr, OnOk, option_to_list};
 ghost use Rattle.outside.specs.Seen.{OnFile};
 ghost use Rattle.outside.specs.Feed.{IsFedFrom};
-ghost use Rattle.sync_survey.specs.Runs.{run, block_as, blocks_of};
+ghost use Rattle.sync_survey.specs.Runs.{item_run, block_of_item, blocks_of};
 ghost use Rattle.sync_survey.specs.Start.{front_end_of};
-ghost use Rattle.sync_survey.specs.Kinds.{IsFromOutside};
+ghost use Rattle.sync_survey.specs.SurveyFaultKinds.{IsFromOutside};
 ghost use Rattle.sync_survey.specs.Survey.{HasLength, ReadsBy, IsEarlyRefusal, BlocksAreLaid};
 
 use crate::items::Item;
 use crate::looks::look;
 use crate::places::Piece;
-use crate::runs::{Part, step_at};
+use crate::runs::{Region, step_at};
 use crate::survey_fault::SurveyFault;
 use outside::{Feed, Folder};
 use std::alloc::AllocError;
@@ -25,7 +25,7 @@ pub(crate) fn keep_block(
     item: &Item,
 ) -> Result<(), AllocError>
     ensures { OnOk result (pieces.new.items ≡ pieces.old.items ++ option_to_list
-        (block_as offset item.now)) }
+        (block_of_item offset item.now)) }
 {
     if let Item::Block(block) = *item {
         pieces.push(Piece { offset, block })?;
@@ -51,7 +51,7 @@ pub fn pass_front<D: Folder>(
     ensures front_end { IfOk result (λ at. OnFile (D.seen folder.old) name.now
         (λ bytes. at ≡ front_end_of bytes)) }
     ensures blocks { OnOk result (OnFile (D.seen folder.old) name.now
-        (λ bytes. pieces.new.items ≡ blocks_of (run Part.Front bytes 0).items)) }
+        (λ bytes. pieces.new.items ≡ blocks_of (item_run Region.Front bytes 0).items)) }
     ensures laid { IfOk result (λ at. BlocksAreLaid 0 pieces.new.items at) }
     ensures within { IfOk result (λ at. at ≤ size) }
     ensures reads { ReadsBy feed.new name.now result (D.seen folder.old) (D.seen folder.new) }
@@ -62,7 +62,7 @@ pub fn pass_front<D: Folder>(
     let mut at = 0;
     while at < size {
         let left = look(feed, folder, name, size, at)?;
-        let Some(step) = step_at(Part::Front, feed.bytes(), left) else {
+        let Some(step) = step_at(Region::Front, feed.bytes(), left) else {
             return Ok(at);
         };
         keep_block(pieces, at, &step.item)?;

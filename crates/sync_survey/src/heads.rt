@@ -4,9 +4,9 @@ ghost use Rattle.frame_header.specs.Tables.{class_of, length_of};
 ghost use Rattle.outside.specs.Feed.{IsFedFrom};
 ghost use Rattle.sync_survey.specs.declared.items.Item.TheVariants.{Frame};
 ghost use Rattle.sync_survey.specs.Items.{size_of};
-ghost use Rattle.sync_survey.specs.Walk.{head_by, own_bytes, numbered_at, IsFrameOf};
-ghost use Rattle.sync_survey.specs.MainData.{head_area as head_area_lem};
-ghost use Rattle.sync_survey.specs.Kinds.{IsFromOutside};
+ghost use Rattle.sync_survey.specs.Walk.{head_in_bytes, own_bytes, numbered_offset, IsFrameOf};
+ghost use Rattle.sync_survey.specs.MainData.{head_area};
+ghost use Rattle.sync_survey.specs.SurveyFaultKinds.{IsFromOutside};
 ghost use Rattle.sync_survey.specs.Survey.{HasLength, IsHeadOf, ReadsBy, IsEarlyRefusal};
 ghost use Rattle.frame_header.specs.Limits.{most_frame_length};
 
@@ -20,7 +20,7 @@ use outside::{Feed, Folder};
 pub fn head_in(frame: &PlacedFrame, bytes: &[u8]) -> Option<Head>
     // Said here, where the header is known to be one of the standard's.
     ensures most { length_of (class_of frame.now.header) frame.now.header.slot ≤ most_frame_length }
-    ensures head { result ≡ head_by frame.now (own_bytes frame.now bytes.now) }
+    ensures head { result ≡ head_in_bytes frame.now (own_bytes frame.now bytes.now) }
     ensures same { IfSome result (IsFrameOf frame.now) }
 {
     let length = frame.header.length() as usize;
@@ -62,7 +62,7 @@ pub fn find_head<D: Folder>(
 
 /// The length of the head's area in bytes, 0 without a head. Main data may begin in it.
 pub fn head_area(head: &Option<Head>) -> u64
-    ensures area { result ≡ head_area_lem head.now }
+    ensures area { result ≡ head_area head.now }
     ensures most { result ≤ most_frame_length }
 {
     match head {
@@ -75,7 +75,7 @@ pub fn head_area(head: &Option<Head>) -> u64
 /// head.
 pub fn numbered_from(first: &PlacedFrame, head: &Option<Head>) -> u64
     requires { first.now.offset + size_of (Frame first.now.header) ≤ 2 ^ 62 }
-    ensures at { result ≡ numbered_at first.now head.now }
+    ensures at { result ≡ numbered_offset first.now head.now }
     ensures within { result ≤ first.now.offset + size_of (Frame first.now.header) }
     ensures behind { first.now.offset ≤ result }
 {

@@ -1,10 +1,10 @@
 //! What begins at an offset.
 ghost use Rattle.std.specs.Prelude.{◌≡◌, ◌<◌, ◌≤◌, Some, length};
 ghost use Rattle.frame_header.specs.Fields.{HeaderFields};
-ghost use Rattle.frame_header.specs.Reading.{header_of_class as header_of_class_lem};
-ghost use Rattle.sync_survey.specs.Items.{header_front as header_front_lem, item_front as item_front_lem, size_of, same_class};
-ghost use Rattle.sync_survey.specs.Walk.{fault_at as fault_at_lem};
-ghost use Rattle.sync_survey.specs.Kinds.{RefusesRightly};
+ghost use Rattle.frame_header.specs.Reading.{header_of_class};
+ghost use Rattle.sync_survey.specs.Items.{header_front, item_front, size_of, same_class};
+ghost use Rattle.sync_survey.specs.Walk.{fault_at};
+ghost use Rattle.sync_survey.specs.SurveyFaultKinds.{RefusesRightly};
 ghost use Rattle.frame_header.specs.Limits.{most_frame_length};
 
 use crate::survey_fault::SurveyFault;
@@ -34,7 +34,7 @@ pub enum Item {
 /// `Free` where it has bit rate index 0, `No` where there is none, as where the bytes are fewer than four.
 #[tactic(auto, unfolding(crate::specs::Items::header_front))]
 pub fn header_front(bytes: &[u8]) -> Result<Header, NotHeader>
-    ensures { result ≡ header_front_lem bytes.now }
+    ensures { result ≡ header_front bytes.now }
 {
     let [a, b, c, d, ..] = bytes else {
         return Err(NotHeader::No);
@@ -46,7 +46,7 @@ pub fn header_front(bytes: &[u8]) -> Result<Header, NotHeader>
 #[inline(always)]
 #[tactic(auto, unfolding(crate::specs::Items::header_front))]
 pub fn header_of_class(class: Class, bytes: &[u8]) -> Option<Header>
-    ensures { result ≡ header_of_class_lem class (header_front_lem bytes.now) }
+    ensures { result ≡ header_of_class class (header_front bytes.now) }
 {
     let [a, b, c, d, ..] = bytes else {
         return None;
@@ -58,7 +58,7 @@ pub fn header_of_class(class: Class, bytes: &[u8]) -> Option<Header>
 #[inline(always)]
 #[tactic(auto, unfolding(crate::specs::Items::item_front))]
 pub fn item_front(bytes: &[u8]) -> Item
-    ensures { result ≡ item_front_lem bytes.now }
+    ensures { result ≡ item_front bytes.now }
 {
     match header_front(bytes) {
         Ok(header) => return Item::Frame(header),
@@ -92,7 +92,7 @@ impl Item {
     /// Why a walk stops at this offset, if this item begins there and isn't passed; `None` at the end of
     /// the file.
     pub(crate) fn fault(&self, at: u64) -> Option<SurveyFault>
-        ensures { result ≡ fault_at_lem at self.now }
+        ensures { result ≡ fault_at at self.now }
     {
         match self {
             Item::Frame(_) | Item::Block(_) => Some(SurveyFault::Truncated(at)),
@@ -114,7 +114,7 @@ pub fn is_same_class(a: Class, b: Class) -> bool
 /// there on, at least one.
 pub(crate) fn stop_fault(bytes: &[u8], at: u64) -> SurveyFault
     requires { 0 < length bytes.now }
-    ensures fault { fault_at_lem at (item_front_lem bytes.now) ≡ Some result }
+    ensures fault { fault_at at (item_front bytes.now) ≡ Some result }
     ensures refused { RefusesRightly result }
 {
     item_front(bytes)

@@ -30,8 +30,8 @@ pub use laws::{
 pub use looks::{LONGEST_FILE, find_length, look};
 pub use merge::{Entry, HasOffset, Merge};
 pub use places::{Head, Piece, PlacedFrame, Start};
-pub use rows::{Before, Behind, Row};
-pub use runs::{Part, Step, step_at};
-pub use starts::{anchored_frame, bytes_behind, is_anchor};
+pub use rows::{JudgedFrame, ReservoirState, Row};
+pub use runs::{Region, Step, step_at};
+pub use starts::{anchored_frame, bytes_from, is_anchor};
 pub use survey_fault::SurveyFault;
 pub use surveys::Survey;

@@ -4,8 +4,8 @@ ghost use Rattle.outside.specs.Counts.{OnlyReads};
 ghost use Rattle.outside.specs.Seen.{OnFile};
 ghost use Rattle.outside.specs.Feed.{IsFedFrom};
 ghost use Rattle.sync_survey.specs.Looks.{look_size, Shows};
-ghost use Rattle.sync_survey.specs.Kinds.{IsFromOutside};
-ghost use Rattle.sync_survey.specs.Survey.{HasLength, HoldsOctets, ReadsBy, IsEarlyRefusal, IsOfLength};
+ghost use Rattle.sync_survey.specs.SurveyFaultKinds.{IsFromOutside};
+ghost use Rattle.sync_survey.specs.Survey.{HasLength, HoldsOctets, ReadsBy, IsEarlyRefusal, IsLengthFault};
 
 use crate::survey_fault::SurveyFault;
 use outside::{Feed, FindFault, Folder};
@@ -27,7 +27,7 @@ pub fn find_length<D: Folder>(folder: &mut D, name: &str) -> Result<u64, SurveyF
     ensures done { OnOk result ((D.seen folder.new).counts ≡ (D.seen folder.old).counts) }
     ensures refused { IfErr result (IsEarlyRefusal name.now (D.seen folder.old)
         (D.seen folder.new)) }
-    ensures length { IfErr result (IsOfLength name.now (D.seen folder.old).files) }
+    ensures length { IfErr result (IsLengthFault name.now (D.seen folder.old).files) }
     ensures files { (D.seen folder.new).files ≡ (D.seen folder.old).files }
     ensures counts { OnlyReads (D.seen folder.old).counts (D.seen folder.new).counts }
 {

@@ -1,6 +1,6 @@
 //! Two lists in order of offset as one.
 ghost use Rattle.std.specs.Prelude.{◌≡◌, ◌≤◌, ℕ, true, false, IfSome, IfNone};
-ghost use Rattle.sync_survey.specs.Order.{IsAfter, IsUntil};
+ghost use Rattle.sync_survey.specs.Order.{IsFirstAfter, IsFirstUntil};
 ghost use Rattle.sync_survey.specs.Merge.{firsts_left, seconds_left, HasNoSecondNext, Meets, PassesFirst, PassesSecond};
 
 /// What has an offset in a file.
@@ -55,8 +55,8 @@ impl<'a, A: HasOffset + Copy, B: HasOffset + Copy> Merge<'a, A, B> {
     /// Whether an entry of the first list that is left is at or before this offset.
     #[inline]
     fn has_first_until(&self, offset: u64) -> bool
-        ensures after { result ≡ false → IsAfter A.offset_of offset (firsts_left self.now) }
-        ensures until { result ≡ true → IsUntil A.offset_of offset (firsts_left self.now) }
+        ensures after { result ≡ false → IsFirstAfter A.offset_of offset (firsts_left self.now) }
+        ensures until { result ≡ true → IsFirstUntil A.offset_of offset (firsts_left self.now) }
     {
         match self.firsts.get(self.next_first) {
             Some(first) => first.offset_in_file() <= offset,
@@ -69,7 +69,7 @@ impl<'a, A: HasOffset + Copy, B: HasOffset + Copy> Merge<'a, A, B> {
     pub fn next_first_until(&mut self, offset: u64) -> Option<&'a A>
         ensures met { IfSome result (λ a. PassesFirst a.now self.old self.new) }
         ensures until { IfSome result (λ a. A.offset_of a.now ≤ offset) }
-        ensures none { IfNone result (IsAfter A.offset_of offset (firsts_left self.old)) }
+        ensures none { IfNone result (IsFirstAfter A.offset_of offset (firsts_left self.old)) }
         ensures stays { IfNone result (self.new ≡ self.old) }
     {
         let first = self.firsts.get(self.next_first)?;
@@ -84,7 +84,7 @@ impl<'a, A: HasOffset + Copy, B: HasOffset + Copy> Merge<'a, A, B> {
     #[inline]
     pub fn next_second(&mut self) -> Option<&'a B>
         ensures met { IfSome result (λ b. PassesSecond b.now self.old self.new) }
-        ensures order { IfSome result (λ b. IsAfter A.offset_of (B.offset_of b.now)
+        ensures order { IfSome result (λ b. IsFirstAfter A.offset_of (B.offset_of b.now)
             (firsts_left self.old)) }
         ensures none { IfNone result (HasNoSecondNext A.offset_of B.offset_of self.old) }
         ensures stays { IfNone result (self.new ≡ self.old) }

@@ -2,17 +2,17 @@
 ghost use Rattle.std.specs.Prelude.{◌≡◌, ◌+◌, ◌^◌, ◌≤◌, Some, None, Ok, IfOk, IfErr, OnOk};
 ghost use Rattle.frame_header.specs.Tables.{class_of};
 ghost use Rattle.side_info.specs.Side.{payload_bits, payload_bytes, SideFits};
-ghost use Rattle.side_info.specs.Frame.{word_said as word_said_lem};
+ghost use Rattle.side_info.specs.Frame.{stored_crc};
 ghost use Rattle.sync_survey.specs.MainData.{row_in, own_area, lacks_data};
-ghost use Rattle.sync_survey.specs.Faults.{word_faults, count_faults, first_of};
+ghost use Rattle.sync_survey.specs.Faults.{crc_faults, count_faults, first_of};
 ghost use Rattle.sync_survey.specs.Items.{header_front};
-ghost use Rattle.sync_survey.specs.Looks.{ReachArea, data_fault, frame_fault, IsBehind};
+ghost use Rattle.sync_survey.specs.Looks.{ReachArea, data_fault, frame_fault, IsJudgedFrame};
 ghost use Rattle.frame_header.specs.Limits.{most_frame_length};
 
 use crate::HasOffset;
 use crate::survey_fault::SurveyFault;
 use frame_header::{Class, Header};
-use side_info::{Extent, FrameFront, Side, word_said};
+use side_info::{Extent, FrameFront, Side, stored_crc};
 use std::marker::Model;
 
 /// A frame of the stream: the offset of its header in bytes, its header and its side information as the bytes that stand
@@ -146,7 +146,7 @@ impl Row {
 
 /// The areas before a frame, the head's among them, and the main data in them.
 #[derive(Clone, Copy)]
-pub struct Before {
+pub struct ReservoirState {
     /// How many bytes they are: the place among all areas at which the frame's own begins.
     pub place: u64,
     /// The place among all areas at which the main data end of the last frame that is neither silent nor
@@ -156,22 +156,22 @@ pub struct Before {
 
 /// What is known after a frame without fault: whether it is lost, and the areas before the next frame.
 #[derive(Clone, Copy)]
-pub struct Behind {
+pub struct JudgedFrame {
     pub lost: bool,
-    pub before: Before,
+    pub before: ReservoirState,
 }
 
 /// The fault of a protected frame's check word, if it isn't the right one.
-fn word_fault(header: &Header, row: &Row, bytes: &[u8]) -> Option<SurveyFault>
+fn crc_fault(header: &Header, row: &Row, bytes: &[u8]) -> Option<SurveyFault>
     requires same { header.now ≡ row.now.header }
     requires room { ReachArea row.now.header bytes.now }
-    ensures { result ≡ first_of (word_faults (word_said_lem bytes.now) row.now) }
+    ensures { result ≡ first_of (crc_faults (stored_crc bytes.now) row.now) }
 {
     if !header.protected {
         return None;
     }
-    let said = word_said(bytes);
-    let right = row.front.right_word();
+    let said = stored_crc(bytes);
+    let right = row.front.right_crc();
     if said == right {
         return None;
     }
@@ -196,7 +196,7 @@ pub(crate) struct Limit {
     pub(crate) allowed: u64,
 }
 
-impl Before {
+impl ReservoirState {
     /// Whether the frame is lost: its main data begin before the stream, and every frame before it is
     /// silent or lost.
     fn is_lost(&self, row: &Row, begin: u16) -> bool
@@ -213,44 +213,49 @@ impl Before {
     /// # Errors
     /// The first fault of its main data: `BackPointer`, `Overlap` or `Overrun`. A lost frame has none.
     #[inline(always)]
-    pub fn behind(&self, header: &Header, row: &Row) -> Result<Behind, SurveyFault>
+    pub fn judge_frame(&self, header: &Header, row: &Row) -> Result<JudgedFrame, SurveyFault>
         requires same { header.now ≡ row.now.header }
         requires bound { self.now.place ≤ 2 ^ 62 }
         ensures fault { IfErr result (λ f. data_fault self.now row.now ≡ Some f) }
         ensures sound { OnOk result (data_fault self.now row.now ≡ None) }
-        ensures behind { IfOk result (IsBehind self.now.place self.now.ended row.now) }
+        ensures behind { IfOk result (IsJudgedFrame self.now.place self.now.ended row.now) }
     {
-        self.behind_in(header.class(), header, row)
+        self.judge_frame_in(header.class(), header, row)
     }
 
     /// The same, where the class of the header is known.
     ///
     /// # Errors
-    /// As those of `behind`.
+    /// As those of `judge_frame`.
     #[inline(always)]
     #[tactic(auto, unfolding(side_info::specs::Side::payload_bytes))]
-    pub fn behind_in(&self, class: Class, header: &Header, row: &Row) -> Result<Behind, SurveyFault>
+    pub fn judge_frame_in(
+        &self,
+        class: Class,
+        header: &Header,
+        row: &Row,
+    ) -> Result<JudgedFrame, SurveyFault>
         requires class { class ≡ class_of header.now }
         requires same { header.now ≡ row.now.header }
         requires bound { self.now.place ≤ 2 ^ 62 }
         ensures fault { IfErr result (λ f. data_fault self.now row.now ≡ Some f) }
         ensures sound { OnOk result (data_fault self.now row.now ≡ None) }
-        ensures behind { IfOk result (IsBehind self.now.place self.now.ended row.now) }
+        ensures behind { IfOk result (IsJudgedFrame self.now.place self.now.ended row.now) }
     {
         let extent = row.front.extent_in(class);
         let area = class.area_of(header.slot, header.protected);
-        self.behind_extent(row, area, &extent, extent.bytes())
+        self.judge_extent(row, area, &extent, extent.bytes())
     }
 
     /// The same, by the length of the frame's own area in bytes, the extent of its main data and their length in bytes.
     #[inline(always)]
-    fn behind_extent(
+    fn judge_extent(
         &self,
         row: &Row,
         area: u32,
         extent: &Extent,
         bytes: u32,
-    ) -> Result<Behind, SurveyFault>
+    ) -> Result<JudgedFrame, SurveyFault>
         requires bound { self.now.place ≤ 2 ^ 62 }
         requires area { area ≡ own_area row.now.header }
         requires few { area ≤ most_frame_length }
@@ -259,15 +264,15 @@ impl Before {
         requires bytes { bytes ≡ payload_bytes row.now.side }
         ensures fault { IfErr result (λ f. data_fault self.now row.now ≡ Some f) }
         ensures sound { OnOk result (data_fault self.now row.now ≡ None) }
-        ensures behind { IfOk result (IsBehind self.now.place self.now.ended row.now) }
+        ensures behind { IfOk result (IsJudgedFrame self.now.place self.now.ended row.now) }
     {
         let place = self.place + u64::from(area);
         let Extent { begin, bits } = *extent;
         if self.is_lost(row, begin) {
             let ended = self.ended;
-            return Ok(Behind {
+            return Ok(JudgedFrame {
                 lost: true,
-                before: Before { place, ended },
+                before: ReservoirState { place, ended },
             });
         }
         let offset = u64::from(row.offset);
@@ -284,9 +289,9 @@ impl Before {
             return Err(SurveyFault::Overrun(offset, bits, room));
         }
         let ended = if bits == 0 { self.ended } else { end };
-        Ok(Behind {
+        Ok(JudgedFrame {
             lost: false,
-            before: Before { place, ended },
+            before: ReservoirState { place, ended },
         })
     }
 
@@ -303,7 +308,7 @@ impl Before {
         row: &Row,
         bytes: &[u8],
         limit: &Limit,
-    ) -> Result<Behind, SurveyFault>
+    ) -> Result<JudgedFrame, SurveyFault>
         requires class { class ≡ class_of header.now }
         requires same { header.now ≡ row.now.header }
         requires room { ReachArea row.now.header bytes.now }
@@ -312,12 +317,12 @@ impl Before {
             limit.now.count row.now ≡ Some f) }
         ensures sound { OnOk result (frame_fault bytes.now limit.now.allowed self.now
             limit.now.count row.now ≡ None) }
-        ensures behind { IfOk result (IsBehind self.now.place self.now.ended row.now) }
+        ensures behind { IfOk result (IsJudgedFrame self.now.place self.now.ended row.now) }
     {
-        if let Some(fault) = word_fault(header, row, bytes) {
+        if let Some(fault) = crc_fault(header, row, bytes) {
             return Err(fault);
         }
-        let behind = self.behind_in(class, header, row)?;
+        let behind = self.judge_frame_in(class, header, row)?;
         match count_fault(row, limit.count, limit.allowed) {
             Some(fault) => Err(fault),
             None => Ok(behind),

@@ -1,15 +1,15 @@
 //! Items that follow end to end.
 ghost use Rattle.std.specs.Prelude.{◌≡◌, ℕ, List, ◌≤◌, ◌==◌, length, IfSome};
 ghost use Rattle.std.specs.List.{prefix_len};
-ghost use Rattle.sync_survey.specs.Items.{size_of, item_front as item_front_lem};
-ghost use Rattle.sync_survey.specs.Runs.{belongs as belongs_lem};
+ghost use Rattle.sync_survey.specs.Items.{size_of, item_front};
+ghost use Rattle.sync_survey.specs.Runs.{belongs};
 ghost use Rattle.sync_survey.specs.Looks.{Shows, IsStep, PassesFront};
 
 use crate::items::{Item, item_front};
 
 /// A part of a file, by the items of which it consists.
 #[derive(Clone, Copy, Debug, PartialEq, Eq)]
-pub enum Part {
+pub enum Region {
     /// The front, which is before the first frame: blocks and zero bytes.
     Front,
     /// What is from the first frame on: frames, blocks and zero bytes.
@@ -17,12 +17,12 @@ pub enum Part {
 }
 
 /// Whether the part may have such an item.
-fn belongs(part: Part, item: &Item) -> bool
-    ensures { result ≡ belongs_lem part item.now }
+fn belongs(part: Region, item: &Item) -> bool
+    ensures { result ≡ belongs part item.now }
 {
     match item {
         Item::Block(_) | Item::Zero => true,
-        Item::Frame(_) => part == Part::Stream,
+        Item::Frame(_) => part == Region::Stream,
         Item::Free | Item::End | Item::Nothing => false,
     }
 }
@@ -58,7 +58,7 @@ fn passed(item: &Item, size: u64, front: &[u8]) -> u64
 /// The item of the part with which the bytes of a look begin, if it is whole. `left` is how many bytes the
 /// file has from there on.
 #[inline(always)]
-pub fn step_at(part: Part, front: &[u8], left: u64) -> Option<Step>
+pub fn step_at(part: Region, front: &[u8], left: u64) -> Option<Step>
     requires { length front.now ≤ left }
     ensures step { (file : List ℕ) (at : ℕ) → Shows file at front.now left
         → IsStep part file at result }

@@ -2,10 +2,10 @@
 ghost use Rattle.std.specs.Prelude.{◌≡◌, ℕ, List, ◌+◌, ◌-◌, ◌≤◌, length, drop, Ok, IfOk, IfErr, IfSome, MatchOption};
 ghost use Rattle.outside.specs.Seen.{OnFile};
 ghost use Rattle.outside.specs.Feed.{IsFedFrom};
-ghost use Rattle.sync_survey.specs.Items.{size_of, item_front as item_front_lem};
-ghost use Rattle.sync_survey.specs.Start.{is_anchor as is_anchor_lem, anchored_frame as anchored_frame_lem, first_anchored as first_anchored_lem, longest_junk, start_behind as start_behind_lem, start_at, front_end_of, start_of};
+ghost use Rattle.sync_survey.specs.Items.{size_of, item_front};
+ghost use Rattle.sync_survey.specs.Start.{is_anchor, anchored_frame, first_anchored, longest_junk, start_after_junk, start_at, front_end_of, start_of};
 ghost use Rattle.sync_survey.specs.Looks.{Shows};
-ghost use Rattle.sync_survey.specs.Kinds.{RefusesRightly};
+ghost use Rattle.sync_survey.specs.SurveyFaultKinds.{RefusesRightly};
 ghost use Rattle.sync_survey.specs.Survey.{HasLength, IsWholeFrom, ReadsBy, IsEarlyRefusal};
 
 use crate::items::{Item, is_same_class, item_front};
@@ -21,7 +21,7 @@ const LONGEST_JUNK: u64 = 65_536;
 /// Whether the item may be at the end of an anchored frame of the class: a header of the class, a block, or
 /// the end of the file.
 pub fn is_anchor(class: Class, item: &Item) -> bool
-    ensures { result ≡ is_anchor_lem class item.now }
+    ensures { result ≡ is_anchor class item.now }
 {
     match item {
         Item::Frame(header) => is_same_class(header.class(), class),
@@ -31,7 +31,7 @@ pub fn is_anchor(class: Class, item: &Item) -> bool
 }
 
 /// The bytes from a place on; none if it is past their end.
-pub fn bytes_behind(bytes: &[u8], place: usize) -> &[u8]
+pub fn bytes_from(bytes: &[u8], place: usize) -> &[u8]
     ensures { result.now ≡ drop place bytes.now }
 {
     bytes.get(place..).unwrap_or(&[])
@@ -43,9 +43,9 @@ pub fn bytes_behind(bytes: &[u8], place: usize) -> &[u8]
 #[tactic(auto, unfolding(crate::specs::Start::anchored_frame))]
 pub fn anchored_frame(front: &[u8], offset: u64, left: u64) -> Option<PlacedFrame>
     ensures frame { (file : List ℕ) → Shows file offset front.now left
-        → result ≡ anchored_frame_lem file offset }
+        → result ≡ anchored_frame file offset }
     ensures offset { IfSome result (λ p. p.offset ≡ offset) }
-    ensures header { IfSome result (λ p. item_front_lem front.now ≡ Item.Frame p.header) }
+    ensures header { IfSome result (λ p. item_front front.now ≡ Item.Frame p.header) }
     ensures within { IfSome result (λ p. size_of (Item.Frame p.header) ≤ left) }
 {
     let Item::Frame(header) = item_front(front) else {
@@ -55,7 +55,7 @@ pub fn anchored_frame(front: &[u8], offset: u64, left: u64) -> Option<PlacedFram
     if u64::from(length) > left {
         return None;
     }
-    let behind = item_front(bytes_behind(front, length as usize));
+    let behind = item_front(bytes_from(front, length as usize));
     if !is_anchor(header.class(), &behind) {
         return None;
     }
@@ -66,8 +66,8 @@ pub fn anchored_frame(front: &[u8], offset: u64, left: u64) -> Option<PlacedFram
 /// junk begins there.
 fn start_here(item: &Item, offset: u64, left: u64) -> Option<Result<Start, SurveyFault>>
     ensures start { (file : List ℕ) → left ≡ length file - offset
-        → MatchOption result (start_at file offset item.now ≡ start_behind_lem offset
-        (first_anchored_lem longest_junk file (offset + 1)))
+        → MatchOption result (start_at file offset item.now ≡ start_after_junk offset
+        (first_anchored longest_junk file (offset + 1)))
         (λ r. start_at file offset item.now ≡ r) }
     ensures refused { IfSome result (λ r. IfErr r RefusesRightly) }
     ensures first { IfSome result (λ r. IfOk r
@@ -100,7 +100,7 @@ fn first_anchored<D: Folder>(
     requires fed { IsFedFrom feed.old (D.seen folder.old).files name.now }
     requires early { from ≤ size + 1 }
     ensures first { IfOk result (λ o. OnFile (D.seen folder.old) name.now (λ bytes. o
-        ≡ first_anchored_lem longest_junk bytes from)) }
+        ≡ first_anchored longest_junk bytes from)) }
     ensures placed { IfOk result (λ o. IfSome o (IsWholeFrom from size)) }
     ensures reads { ReadsBy feed.new name.now result (D.seen folder.old) (D.seen folder.new) }
     ensures refused { IfErr result (IsEarlyRefusal name.now (D.seen folder.old)

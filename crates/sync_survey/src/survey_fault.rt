@@ -45,9 +45,9 @@ pub enum SurveyFault {
 }
 
 impl From<ReadFault> for SurveyFault {
-    ghost use Rattle.sync_survey.specs.Kinds.{of_read};
+    ghost use Rattle.sync_survey.specs.SurveyFaultKinds.{survey_fault_of};
 
-    ghost from_gives = { λ fault e. e ≡ of_read fault };
+    ghost from_gives = { λ fault e. e ≡ survey_fault_of fault };
 
     fn from(fault: ReadFault) -> SurveyFault {
         match fault {

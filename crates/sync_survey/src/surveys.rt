@@ -1,6 +1,6 @@
 //! What a survey tells of a file.
 ghost use Rattle.std.specs.Prelude.{◌≡◌, ◌-◌};
-ghost use Rattle.sync_survey.specs.Faults.{tells};
+ghost use Rattle.sync_survey.specs.Faults.{survey_view};
 
 use crate::places::{Head, Piece, Start};
 use crate::rows::Row;
@@ -19,21 +19,21 @@ pub struct Survey {
 impl Survey {
     /// The frames of the stream in their order, without the head.
     pub fn frames(&self) -> &[Row]
-        ensures { result.now ≡ (tells self.now).frames }
+        ensures { result.now ≡ (survey_view self.now).frames }
     {
         &self.frames
     }
 
     /// The blocks by their offsets.
     pub fn blocks(&self) -> &[Piece]
-        ensures { result.now ≡ (tells self.now).blocks }
+        ensures { result.now ≡ (survey_view self.now).blocks }
     {
         &self.blocks
     }
 
     /// The head, where the first frame is one.
     pub fn head(&self) -> Option<Head>
-        ensures { result ≡ (tells self.now).head }
+        ensures { result ≡ (survey_view self.now).head }
     {
         self.head
     }
@@ -41,7 +41,7 @@ impl Survey {
     /// The offset and the length of the junk before the first frame. Without junk the offset is that of
     /// the first frame or head, and the length 0.
     pub fn junk(&self) -> (u64, u64)
-        ensures { result ≡ ((tells self.now).junk, (tells self.now).first - (tells self.now).junk) }
+        ensures { result ≡ ((survey_view self.now).junk, (survey_view self.now).first - (survey_view self.now).junk) }
     {
         let at = self.start.front_end;
         (at, self.start.first.offset.saturating_sub(at))
@@ -49,21 +49,21 @@ impl Survey {
 
     /// The offset of the first frame, which may be the head.
     pub fn first(&self) -> u64
-        ensures { result ≡ (tells self.now).first }
+        ensures { result ≡ (survey_view self.now).first }
     {
         self.start.first.offset
     }
 
     /// The class of all frames and of the head.
     pub fn class(&self) -> Class
-        ensures { result ≡ (tells self.now).class }
+        ensures { result ≡ (survey_view self.now).class }
     {
         self.start.first.header.class()
     }
 
     /// The length of the file.
     pub fn length(&self) -> u64
-        ensures { result ≡ (tells self.now).length }
+        ensures { result ≡ (survey_view self.now).length }
     {
         self.length
     }

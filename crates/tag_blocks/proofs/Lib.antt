@@ -1,6 +1,6 @@
-pub mod BlocksLaws
-pub mod NumbersLaws
-pub mod UndoTextLaws
-pub mod ItemsLaws
-pub mod UndoItemsLaws
-pub mod TagsLaws
+pub mod BlocksLemmas
+pub mod NumbersLemmas
+pub mod UndoTextLemmas
+pub mod ItemsLemmas
+pub mod UndoItemsLemmas
+pub mod TagsLemmas

@@ -85,18 +85,20 @@ begins Id3v1 bytes = is_id3v1 bytes
 begins Ape bytes = is_ape bytes
 
 -- the length in bytes of the block of this kind that begins there
-abbrev pub length_as : Kind → List ℕ → ℕ
-length_as Id3v2 bytes = id3v2_length bytes
-length_as Id3v1 bytes = 128
-length_as Ape bytes = ape_length bytes
+abbrev pub length_of_kind : Kind → List ℕ → ℕ
+length_of_kind Id3v2 bytes = id3v2_length bytes
+length_of_kind Id3v1 bytes = 128
+length_of_kind Ape bytes = ape_length bytes
 
 -- the block of this kind with which the bytes begin
-abbrev pub front_as : Kind → List ℕ → Option Block
-front_as kind bytes =
-    if begins kind bytes then Some (record { kind = kind; length = length_as kind bytes }) else None
+abbrev pub block_of_kind : Kind → List ℕ → Option Block
+block_of_kind kind bytes =
+    if begins kind bytes then Some (record { kind = kind; length = length_of_kind kind bytes })
+    else None
 
 -- the block with which the bytes begin, with its whole length; the bytes begin with one kind at
 -- most
 unfoldable pub block_front : List ℕ → Option Block
 block_front bytes =
-    option_or (option_or (front_as Id3v2 bytes) (front_as Id3v1 bytes)) (front_as Ape bytes)
+    option_or (option_or (block_of_kind Id3v2 bytes) (block_of_kind Id3v1 bytes))
+    (block_of_kind Ape bytes)

@@ -64,22 +64,22 @@ abbrev pub value_place : List ℕ → ℕ
 value_place bytes = 9 + key_length bytes
 
 -- a key of 2 to 255 characters, a zero byte, and a value that is whole
-unfoldable pub stands : List ℕ → Bool
-stands bytes =
+unfoldable pub has_whole_item : List ℕ → Bool
+has_whole_item bytes =
     nat_le 2 (key_length bytes) && nat_le (key_length bytes) 255
     && nat_le (value_place bytes + ape_number 0 bytes) (length bytes)
     && (slice_index bytes (8 + key_length bytes) == 0)
 
 -- where the key ends, and where the value begins and ends; all of it is there
-pub record IsLayout (bytes : List ℕ) (key_end value_at end : ℕ) : Type 0 where
+pub record IsItemLayout (bytes : List ℕ) (key_end value_at end : ℕ) : Type 0 where
   pub key : key_end ≡ 8 + key_length bytes
   pub value : value_at ≡ value_place bytes
   pub end_is : end ≡ value_place bytes + ape_number 0 bytes
   pub within : end ≤ length bytes
 
 -- the item that is there
-unfoldable pub item_front : List ℕ → TagItem
-item_front bytes = record {
+unfoldable pub tag_item_front : List ℕ → TagItem
+tag_item_front bytes = record {
   key = take (key_length bytes) (drop 8 bytes);
   flags = ape_number 4 bytes;
   value =
@@ -87,32 +87,33 @@ item_front bytes = record {
 }
 
 -- the item with which the bytes begin, if one does
-abbrev pub item_at : List ℕ → Option TagItem
-item_at bytes = if stands bytes then Some (item_front bytes) else None
+abbrev pub tag_item_of : List ℕ → Option TagItem
+tag_item_of bytes = if has_whole_item bytes then Some (tag_item_front bytes) else None
 
 -- ---- items end to end
 
 -- an item, unless it is an undo item and one was met before
-abbrev pub admitted : Bool → TagItem → Option TagItem
-admitted met item = if met && is_undo item then None else Some item
+abbrev pub admitted_item : Bool → TagItem → Option TagItem
+admitted_item met item = if met && is_undo item then None else Some item
 
 -- the item that is there, if it is admitted
-abbrev pub next_of : Bool → Option TagItem → Option TagItem
-next_of met None = None
-next_of met (Some item) = admitted met item
+abbrev pub next_if_admitted : Bool → Option TagItem → Option TagItem
+next_if_admitted met None = None
+next_if_admitted met (Some item) = admitted_item met item
 
 -- the item with which the bytes begin, if it may be there
 abbrev pub next_item : Bool → List ℕ → Option TagItem
-next_item met bytes = next_of met (item_at bytes)
+next_item met bytes = next_if_admitted met (tag_item_of bytes)
 
 -- an item and those behind it, or none where there is no item
-abbrev pub and_behind : (TagItem → List TagItem) → Option TagItem → List TagItem
-and_behind behind None = []
-and_behind behind (Some item) = item ∷ behind item
+abbrev pub item_and_more : (TagItem → List TagItem) → Option TagItem → List TagItem
+item_and_more behind None = []
+item_and_more behind (Some item) = item ∷ behind item
 
 -- the items with which the bytes begin, one right after the other:
 -- so many at most, and only those before a second undo item
-unfoldable pub items_from : ℕ → Bool → List ℕ → List TagItem
-items_from zero met bytes = []
-items_from (suc most) met bytes = and_behind (λ item. items_from most (met || is_undo item)
+unfoldable pub tag_items_from : ℕ → Bool → List ℕ → List TagItem
+tag_items_from zero met bytes = []
+tag_items_from (suc most) met bytes =
+    item_and_more (λ item. tag_items_from most (met || is_undo item)
     (drop (item_length item) bytes)) (next_item met bytes)

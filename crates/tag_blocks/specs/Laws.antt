@@ -3,22 +3,22 @@ use Rattle.std.specs.List.{list_all, list_any}
 use Rattle.std.specs.Prelude.{Bool, drop, false, length, List, None, Ok, slice_index, Some, take}
 use Rattle.std.specs.Prelude.{true, ℕ, ◌&&◌, ◌++◌, ◌<◌, ◌==◌, ◌↔◌, ◌≡◌, ◌≤◌}
 use Rattle.tag_blocks.specs.Blocks.{block_front}
-use Rattle.tag_blocks.specs.Items.{is_item, is_undo, items_bytes, items_from, items_length}
-use Rattle.tag_blocks.specs.Items.{next_item, TagItem}
+use Rattle.tag_blocks.specs.Items.{is_item, is_undo, items_bytes, items_length, next_item}
+use Rattle.tag_blocks.specs.Items.{tag_items_from, TagItem}
 use Rattle.tag_blocks.specs.Tags.{IsTag, other_items, tag_bytes, tag_of, TagFields, undo_items}
 use Rattle.tag_blocks.specs.UndoItems.{undo_from, with_undo, without_undo}
-use Rattle.tag_blocks.specs.UndoText.{digits_number, FitsText, undo_of, undo_text}
+use Rattle.tag_blocks.specs.UndoText.{digits_number, undo_of, undo_text, UndoFitsText}
 use Rattle.tag_blocks.specs.declared.{block.Kind.TheVariants.Ape, undo.Undo.Undo}
 use Rattle.tag_blocks.specs.declared.undo.UndoItem.TheVariants.{Found, Missing}
 
 -- every member of the list is a byte
-abbrev pub AreOctets : List ℕ → Type 0
-AreOctets bytes = (i : ℕ) → slice_index bytes i < 256
+abbrev pub AreByteValues : List ℕ → Type 0
+AreByteValues bytes = (i : ℕ) → slice_index bytes i < 256
 
 -- a block is a tag exactly where its bytes are those of the tag
 abbrev pub TagsAreTheirBytes : Type 0
 TagsAreTheirBytes =
-    (block : List ℕ) (tag : TagFields) → AreOctets block
+    (block : List ℕ) (tag : TagFields) → AreByteValues block
     → block_front block ≡ Some (record { kind = Ape; length = length block })
     → length block ≤ 1048576 → (tag_of block ≡ Ok tag) ↔ (IsTag tag × (tag_bytes tag ≡ block))
 
@@ -35,8 +35,8 @@ pub record AreItemsOf (most : ℕ) (bytes : List ℕ) (items : List TagItem) : T
 
 -- what the items are without recursion: those of the definition, and no other list
 abbrev pub ItemsAreAll : Type 0
-ItemsAreAll = (most : ℕ) (bytes : List ℕ) (items : List TagItem) → AreOctets bytes
-    → AreItemsOf most bytes items ↔ (items_from most false bytes ≡ items)
+ItemsAreAll = (most : ℕ) (bytes : List ℕ) (items : List TagItem) → AreByteValues bytes
+    → AreItemsOf most bytes items ↔ (tag_items_from most false bytes ≡ items)
 
 -- With another undo put in, the undo item says it; with the
 -- undo item taken out, there is none; and all others stay.
@@ -49,7 +49,7 @@ pub record ChangesUndoAlone (undo : Undo) (items : List TagItem) : Type 0 where
 
 -- another undo, and none, change the undo item alone
 abbrev pub UndoItemsAloneChange : Type 0
-UndoItemsAloneChange = (undo : Undo) (items : List TagItem) → FitsText undo
+UndoItemsAloneChange = (undo : Undo) (items : List TagItem) → UndoFitsText undo
     → length (undo_items items) ≤ 1 → ChangesUndoAlone undo items
 
 -- a minus and three zeros, which is never written

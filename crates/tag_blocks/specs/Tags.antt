@@ -6,8 +6,9 @@ use Rattle.std.specs.Prelude.{nat_lt, not, Ok, replicate, Result, take, true, �
 use Rattle.std.specs.Prelude.{◌-◌, ◌<◌, ◌==◌, ◌^◌, ◌≡◌, ◌≤◌}
 use Rattle.byteorder.specs.Endian.{little_bytes}
 use Rattle.tag_blocks.specs.Blocks.{ape_flags, ape_number, ape_size, ape_version, begins_with}
-use Rattle.tag_blocks.specs.Items.{is_item, is_undo, items_bytes, items_from, items_length, TagItem}
-use Rattle.tag_blocks.specs.declared.tag_fault.TagFault.{TagFault, TheVariants.{BadTag, Memory}}
+use Rattle.tag_blocks.specs.Items.{is_item, is_undo, items_bytes, items_length, tag_items_from}
+use Rattle.tag_blocks.specs.{Items.TagItem, declared.tag_fault.TagFault.TagFault}
+use Rattle.tag_blocks.specs.declared.tag_fault.TagFault.TheVariants.{BadTag, Memory}
 
 -- ---- a tag
 
@@ -54,14 +55,14 @@ end_bytes size count flags = codes "APETAGEX" ++ (little_bytes 4 2000
     ++ (little_bytes 4 size ++ (little_bytes 4 count ++ (little_bytes 4 flags ++ replicate 8 0))))
 
 -- the size that header and footer say: that of the items and the footer
-abbrev pub size_of : TagFields → ℕ
-size_of tag = items_length tag.items + 32
+abbrev pub tag_size : TagFields → ℕ
+tag_size tag = items_length tag.items + 32
 
 -- the header, the items and the footer
 unfoldable pub tag_bytes : TagFields → List ℕ
 tag_bytes tag =
-    end_bytes (size_of tag) (length tag.items) tag.header_flags
-    ++ (items_bytes tag.items ++ end_bytes (size_of tag) (length tag.items) tag.footer_flags)
+    end_bytes (tag_size tag) (length tag.items) tag.header_flags
+    ++ (items_bytes tag.items ++ end_bytes (tag_size tag) (length tag.items) tag.footer_flags)
 
 -- ---- the tag of a block
 
@@ -82,8 +83,8 @@ abbrev pub item_part : List ℕ → List ℕ
 item_part block = take (footer_place block - 32) (drop 32 block)
 
 -- the items that are there, of those that the header counts
-abbrev pub items_of : List ℕ → List TagItem
-items_of block = items_from (ape_count block) false (item_part block)
+abbrev pub tag_items_of : List ℕ → List TagItem
+tag_items_of block = tag_items_from (ape_count block) false (item_part block)
 
 -- the text, version 2000, size and count of the header, flag bit 29 clear, and 8 zero bytes
 unfoldable pub is_footer : ℕ → ℕ → List ℕ → Bool
@@ -99,16 +100,16 @@ is_footer size count footer =
 unfoldable pub tag_of : List ℕ → Result TagFields TagFault
 tag_of block =
     if not (is_reserved block) then Err (BadTag 24) else
-    if not (length (items_of block) == ape_count block)
-    then Err (BadTag (32 + items_length (items_of block))) else
-    if not (32 + items_length (items_of block) == footer_place block)
-    then Err (BadTag (32 + items_length (items_of block))) else
+    if not (length (tag_items_of block) == ape_count block)
+    then Err (BadTag (32 + items_length (tag_items_of block))) else
+    if not (32 + items_length (tag_items_of block) == footer_place block)
+    then Err (BadTag (32 + items_length (tag_items_of block))) else
     if not (is_footer (ape_size block) (ape_count block) (drop (footer_place block) block))
     then Err (BadTag (footer_place block)) else
     Ok (record {
       header_flags = ape_flags block;
       footer_flags = ape_flags (drop (footer_place block) block);
-      items = items_of block;
+      items = tag_items_of block;
     })
 
 -- the place of a fault is one of the block's bytes

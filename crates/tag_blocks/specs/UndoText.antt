@@ -25,7 +25,7 @@ undo_text undo =
     steps_text undo.left ++ (44 ∷ (steps_text undo.right ++ (44 ∷ wrap_letter undo.wrap ∷ [])))
 
 -- both numbers are from -999 to 999
-pub record FitsText (undo : Undo) : Type 0 where
+pub record UndoFitsText (undo : Undo) : Type 0 where
   pub left : unsigned_abs undo.left ≤ 999
   pub right : unsigned_abs undo.right ≤ 999
 
@@ -43,8 +43,8 @@ digits_number four =
     (slice_index four 1 - 48) * 100 + (slice_index four 2 - 48) * 10 + (slice_index four 3 - 48)
 
 -- the number that they spell with the sign
-abbrev pub steps_of : List ℕ → ℤ
-steps_of four =
+abbrev pub spelled_steps : List ℕ → ℤ
+spelled_steps four =
     if slice_index four 0 == 45 then neg_ℤ (pos (digits_number four)) else pos (digits_number four)
 
 -- a sign, three digits, a comma, a sign, three digits, a comma, and `N` or `W`
@@ -57,7 +57,7 @@ is_undo_text value =
 -- what a value of this form says
 unfoldable pub undo_of : List ℕ → Option Undo
 undo_of value = if is_undo_text value then Some (record {
-  left = steps_of (take 4 value);
-  right = steps_of (take 4 (drop 5 value));
+  left = spelled_steps (take 4 value);
+  right = spelled_steps (take 4 (drop 5 value));
   wrap = slice_index value 10 == 87;
 }) else None

@@ -2,7 +2,7 @@
 ghost use Rattle.std.specs.Prelude.{◌≡◌, ◌+◌, ◌^◌, ◌==◌, ◌&&◌, ◌<◌, ◌≤◌, nat_le, nat_lt, IsTrue, length, IfSome};
 ghost use Rattle.std.specs.List.{list_all};
 ghost use Rattle.std.specs.Int.{bit_at};
-ghost use Rattle.tag_blocks.specs.Blocks.{begins_with, seven_bit_number as seven_bit_number_lem, is_id3v2 as is_id3v2_lem, id3v2_length as id3v2_length_lem, ape_number as ape_number_lem, is_ape as is_ape_lem, block_front};
+ghost use Rattle.tag_blocks.specs.Blocks.{begins_with, seven_bit_number, is_id3v2, id3v2_length, ape_number, is_ape, block_front};
 
 use byteorder::{ByteOrder, LittleEndian};
 
@@ -77,7 +77,7 @@ fn have_seven_bits(bytes: &[u8]) -> bool
 /// The number of four bytes of 7 bits, the first the most significant.
 fn seven_bit_number(four: &[u8]) -> u64
     requires { length four.now ≡ 4 }
-    ensures number { result ≡ seven_bit_number_lem four.now }
+    ensures number { result ≡ seven_bit_number four.now }
     ensures below { result < 2 ^ 30 }
 {
     u64::from(four[0]) * (1 << 21)
@@ -97,7 +97,7 @@ fn has_front(bytes: &[u8], least: usize, text: &[u8]) -> bool
 /// Whether the bytes begin with an ID3v2 block.
 #[tactic(auto, unfolding(crate::specs::Blocks::is_id3v2))]
 fn is_id3v2(front: &[u8]) -> bool
-    ensures begins { result ≡ is_id3v2_lem front.now }
+    ensures begins { result ≡ is_id3v2 front.now }
     ensures header { IsTrue result → 10 ≤ length front.now }
 {
     has_front(front, ID3V2_HEADER, b"ID3")
@@ -110,7 +110,7 @@ fn is_id3v2(front: &[u8]) -> bool
 #[tactic(auto, unfolding(crate::specs::Blocks::id3v2_length))]
 fn id3v2_length(front: &[u8]) -> u64
     requires { 10 ≤ length front.now }
-    ensures length { result ≡ id3v2_length_lem front.now }
+    ensures length { result ≡ id3v2_length front.now }
     ensures least { 10 ≤ result }
     ensures most { result ≤ 4294967327 }
 {
@@ -122,7 +122,7 @@ fn id3v2_length(front: &[u8]) -> u64
 /// The little-endian number of 32 bits at byte `at` of an APEv2 header.
 pub(crate) fn ape_number(front: &[u8], at: usize) -> u32
     requires { at + 4 ≤ length front.now }
-    ensures { result ≡ ape_number_lem at front.now }
+    ensures { result ≡ ape_number at front.now }
 {
     LittleEndian::read_u32(&front[at..at + 4])
 }
@@ -130,7 +130,7 @@ pub(crate) fn ape_number(front: &[u8], at: usize) -> u32
 /// Whether the bytes begin with an APEv2 block.
 #[tactic(auto, unfolding(crate::specs::Blocks::is_ape))]
 fn is_ape(front: &[u8]) -> bool
-    ensures begins { result ≡ is_ape_lem front.now }
+    ensures begins { result ≡ is_ape front.now }
     ensures header { IsTrue result → 32 ≤ length front.now }
 {
     has_front(front, APE_HEADER, b"APETAGEX")

@@ -1,7 +1,7 @@
 //! The header and the footer of an APEv2 tag.
 ghost use Rattle.std.specs.Prelude.{◌≡◌, ◌≤◌, ◌==◌, ◌++◌, length, take, drop, IfOk};
 ghost use Rattle.std.specs.List.{list_all};
-ghost use Rattle.tag_blocks.specs.Tags.{is_reserved as is_reserved_lem, is_footer as is_footer_lem, end_bytes};
+ghost use Rattle.tag_blocks.specs.Tags.{is_reserved, is_footer, end_bytes};
 
 use crate::block::{
     APE_FLAGS_AT, APE_HEADER, APE_IS_HEADER, APE_SIZE_AT, APE_VERSION_AT, ape_number, is_set,
@@ -24,7 +24,7 @@ pub(crate) const RESERVED_AT: usize = 24;
 /// Whether the last 8 bytes of a header or a footer are zero.
 pub(crate) fn is_reserved(bytes: &[u8]) -> bool
     requires { 32 ≤ length bytes.now }
-    ensures { result ≡ is_reserved_lem bytes.now }
+    ensures { result ≡ is_reserved bytes.now }
 {
     bytes[RESERVED_AT..APE_HEADER].iter().all(|byte| *byte == 0)
 }
@@ -33,7 +33,7 @@ pub(crate) fn is_reserved(bytes: &[u8]) -> bool
 #[tactic(auto, unfolding(crate::specs::Tags::is_footer))]
 pub(crate) fn is_footer(footer: &[u8], size: u32, count: u32) -> bool
     requires { 32 ≤ length footer.now }
-    ensures { result ≡ is_footer_lem size count footer.now }
+    ensures { result ≡ is_footer size count footer.now }
 {
     footer.starts_with(TEXT)
         && ape_number(footer, APE_VERSION_AT) == VERSION

@@ -1,7 +1,7 @@
 //! Items of an APEv2 tag.
 ghost use Rattle.std.specs.Prelude.{◌≡◌, ℕ, ◌+◌, ◌*◌, ◌^◌, ◌<◌, ◌≤◌, true, length, take, drop, ◌++◌, IfOk, IfSome, is_some};
 ghost use Rattle.std.specs.List.{prefix_len};
-ghost use Rattle.tag_blocks.specs.Items.{is_key_char as is_key_char_lem, is_item, is_undo as is_undo_lem, item_bytes, item_length, stands as stands_lem, IsLayout, item_at};
+ghost use Rattle.tag_blocks.specs.Items.{is_key_char, is_item, is_undo, item_bytes, item_length, has_whole_item, IsItemLayout, tag_item_of};
 
 use crate::block::ape_number;
 use byteorder::{ByteOrder, LittleEndian};
@@ -16,13 +16,13 @@ const KEY_AT: usize = 8;
 
 /// An item: flags, a key of 2 to 255 characters from 20 to 7e (hexadecimal), and a value.
 #[derive(Drop)]
-pub(crate) struct Item {
+pub(crate) struct ApeItem {
     pub(crate) key: Vec<u8>,
     pub(crate) flags: u32,
     pub(crate) value: Vec<u8>,
 }
 
-impl Model for Item {
+impl Model for ApeItem {
     ghost use Rattle.tag_blocks.specs.Items.{TagItem};
 
     ghost Value = { TagItem };
@@ -32,14 +32,14 @@ impl Model for Item {
 
 /// Whether a byte is a character of a key.
 fn is_key_char(byte: u8) -> bool
-    ensures { result ≡ is_key_char_lem byte }
+    ensures { result ≡ is_key_char byte }
 {
     (0x20..=0x7e).contains(&byte)
 }
 
 /// With how many characters of a key the bytes begin.
 fn key_length(bytes: &[u8]) -> usize
-    ensures length { result ≡ prefix_len is_key_char_lem bytes.now }
+    ensures length { result ≡ prefix_len is_key_char bytes.now }
     ensures within { result ≤ length bytes.now }
 {
     for (at, byte) in bytes.iter().enumerate() {
@@ -60,10 +60,10 @@ struct Layout {
 
 /// The layout of the item with which the bytes begin. `None` exactly where they begin with none: eight
 /// bytes, a key of 2 to 255 characters, a zero byte after it, and a value that is whole.
-#[tactic(auto, unfolding(crate::specs::Items::stands))]
+#[tactic(auto, unfolding(crate::specs::Items::has_whole_item))]
 fn layout_at(bytes: &[u8]) -> Option<Layout>
-    ensures stands { is_some result ≡ stands_lem bytes.now }
-    ensures places { IfSome result (λ layout. IsLayout bytes.now layout.key_end layout.value_at
+    ensures stands { is_some result ≡ has_whole_item bytes.now }
+    ensures places { IfSome result (λ layout. IsItemLayout bytes.now layout.key_end layout.value_at
         layout.end) }
 {
     if bytes.len() < KEY_AT {
@@ -86,7 +86,7 @@ fn layout_at(bytes: &[u8]) -> Option<Layout>
 ///
 /// # Errors
 /// Where there is no memory.
-pub(crate) fn copied(alloc: Global, bytes: &[u8]) -> Result<Vec<u8>, AllocError>
+pub(crate) fn copy_of(alloc: Global, bytes: &[u8]) -> Result<Vec<u8>, AllocError>
     ensures { IfOk result (λ copy. copy.items ≡ bytes.now) }
 {
     let mut copy = Vec::with_capacity(alloc, bytes.len())?;
@@ -94,28 +94,28 @@ pub(crate) fn copied(alloc: Global, bytes: &[u8]) -> Result<Vec<u8>, AllocError>
     Ok(copy)
 }
 
-impl Item {
+impl ApeItem {
     /// The item with which the bytes begin, and `None` where they begin with none.
     ///
     /// # Errors
     /// Where there is no memory.
-    #[tactic(auto, unfolding(crate::specs::Items::item_front))]
-    pub(crate) fn read(alloc: Global, bytes: &[u8]) -> Result<Option<Item>, AllocError>
-        ensures { IfOk result (λ item. item ≡ item_at bytes.now) }
+    #[tactic(auto, unfolding(crate::specs::Items::tag_item_front))]
+    pub(crate) fn read(alloc: Global, bytes: &[u8]) -> Result<Option<ApeItem>, AllocError>
+        ensures { IfOk result (λ item. item ≡ tag_item_of bytes.now) }
     {
         let Some(layout) = layout_at(bytes) else {
             return Ok(None);
         };
-        Ok(Some(Item {
-            key: copied(alloc, &bytes[KEY_AT..layout.key_end])?,
+        Ok(Some(ApeItem {
+            key: copy_of(alloc, &bytes[KEY_AT..layout.key_end])?,
             flags: ape_number(bytes, 4),
-            value: copied(alloc, &bytes[layout.value_at..layout.end])?,
+            value: copy_of(alloc, &bytes[layout.value_at..layout.end])?,
         }))
     }
 
     /// Whether this is the undo item: its key is `MP3GAIN_UNDO`, compared without ASCII case.
     pub(crate) fn is_undo(&self) -> bool
-        ensures { result ≡ is_undo_lem self.now }
+        ensures { result ≡ is_undo self.now }
     {
         self.key.eq_ignore_ascii_case(UNDO_KEY)
     }

@@ -1,11 +1,11 @@
 //! The items of an APEv2 tag, one after the other.
 ghost use Rattle.std.specs.Prelude.{◌≡◌, ◌^◌, ◌<◌, ◌≤◌, ◌++◌, true, false, length, IfOk, OnOk, OnErr, position};
 ghost use Rattle.std.specs.List.{list_all};
-ghost use Rattle.tag_blocks.specs.UndoText.{FitsText};
+ghost use Rattle.tag_blocks.specs.UndoText.{UndoFitsText};
 ghost use Rattle.tag_blocks.specs.UndoItems.{with_undo};
-ghost use Rattle.tag_blocks.specs.Items.{is_item, is_undo, items_length as items_length_lem, items_bytes, items_from, next_item as next_item_lem};
+ghost use Rattle.tag_blocks.specs.Items.{is_item, is_undo, items_length, items_bytes, tag_items_from, next_item};
 
-use crate::item::{Item, UNDO_KEY, copied};
+use crate::item::{ApeItem, UNDO_KEY, copy_of};
 use crate::undo::Undo;
 use std::alloc::{AllocError, Global};
 
@@ -13,10 +13,10 @@ use std::alloc::{AllocError, Global};
 ///
 /// # Errors
 /// Where there is no memory.
-fn next_item(alloc: Global, bytes: &[u8], met: bool) -> Result<Option<Item>, AllocError>
-    ensures { IfOk result (λ item. item ≡ next_item_lem met bytes.now) }
+fn next_item(alloc: Global, bytes: &[u8], met: bool) -> Result<Option<ApeItem>, AllocError>
+    ensures { IfOk result (λ item. item ≡ next_item met bytes.now) }
 {
-    let Some(item) = Item::read(alloc, bytes)? else {
+    let Some(item) = ApeItem::read(alloc, bytes)? else {
         return Ok(None);
     };
     if met && item.is_undo() {
@@ -30,9 +30,13 @@ fn next_item(alloc: Global, bytes: &[u8], met: bool) -> Result<Option<Item>, All
 ///
 /// # Errors
 /// Where there is no memory.
-pub(crate) fn read_items(alloc: Global, bytes: &[u8], count: u32) -> Result<Vec<Item>, AllocError>
+pub(crate) fn read_items(
+    alloc: Global,
+    bytes: &[u8],
+    count: u32,
+) -> Result<Vec<ApeItem>, AllocError>
     requires { length bytes.now < 2 ^ 32 }
-    ensures { IfOk result (λ items. items.items ≡ items_from count false bytes.now) }
+    ensures { IfOk result (λ items. items.items ≡ tag_items_from count false bytes.now) }
 {
     let mut items = Vec::new(alloc);
     let mut passed = 0;
@@ -49,9 +53,9 @@ pub(crate) fn read_items(alloc: Global, bytes: &[u8], count: u32) -> Result<Vec<
 }
 
 /// The length of the bytes of all items, which is less than 2^32.
-pub(crate) fn items_length(items: &[Item]) -> usize
-    requires { items_length_lem items.now < 2 ^ 32 }
-    ensures { result ≡ items_length_lem items.now }
+pub(crate) fn items_length(items: &[ApeItem]) -> usize
+    requires { items_length items.now < 2 ^ 32 }
+    ensures { result ≡ items_length items.now }
 {
     let mut length = 0;
     for item in items {
@@ -61,7 +65,7 @@ pub(crate) fn items_length(items: &[Item]) -> usize
 }
 
 /// The place of the undo item among the items.
-pub(crate) fn undo_place(items: &[Item]) -> Option<usize>
+pub(crate) fn undo_place(items: &[ApeItem]) -> Option<usize>
     ensures { result ≡ position is_undo items.now }
 {
     items.iter().position(|item| item.is_undo())
@@ -71,20 +75,24 @@ pub(crate) fn undo_place(items: &[Item]) -> Option<usize>
 ///
 /// # Errors
 /// Where there is no memory. Then the items stay as they were.
-pub(crate) fn put_undo(alloc: Global, items: &mut Vec<Item>, undo: &Undo) -> Result<(), AllocError>
-    requires { FitsText undo.now }
+pub(crate) fn put_undo(
+    alloc: Global,
+    items: &mut Vec<ApeItem>,
+    undo: &Undo,
+) -> Result<(), AllocError>
+    requires { UndoFitsText undo.now }
     ensures put { OnOk result (items.new.items ≡ with_undo undo.now items.old.items) }
     ensures stays { OnErr result (items.new.items ≡ items.old.items) }
 {
-    let value = copied(alloc, &undo.text())?;
+    let value = copy_of(alloc, &undo.text())?;
     match undo_place(items) {
         Some(at) => {
             let item = &mut items[at];
             item.value = value;
         }
         None => {
-            let key = copied(alloc, UNDO_KEY)?;
-            items.push(Item {
+            let key = copy_of(alloc, UNDO_KEY)?;
+            items.push(ApeItem {
                 key,
                 flags: 0,
                 value,
@@ -98,7 +106,7 @@ pub(crate) fn put_undo(alloc: Global, items: &mut Vec<Item>, undo: &Undo) -> Res
 ///
 /// # Errors
 /// Where there is no memory.
-pub(crate) fn append_items(bytes: &mut Vec<u8>, items: &[Item]) -> Result<(), AllocError>
+pub(crate) fn append_items(bytes: &mut Vec<u8>, items: &[ApeItem]) -> Result<(), AllocError>
     requires { list_all is_item items.now ≡ true }
     ensures { IfOk result (λ _. bytes.new.items ≡ bytes.old.items ++ items_bytes items.now) }
 {

@@ -3,14 +3,14 @@ ghost use Rattle.std.specs.Prelude.{◌≡◌, ℕ, ◌+◌, ◌<◌, ◌≤◌,
 ghost use Rattle.tag_blocks.specs.declared.block.Kind.TheVariants.{Ape};
 ghost use Rattle.tag_blocks.specs.declared.tag_fault.TagFault.TheVariants.{Memory};
 ghost use Rattle.tag_blocks.specs.Blocks.{block_front};
-ghost use Rattle.tag_blocks.specs.UndoText.{FitsText, undo_of};
-ghost use Rattle.tag_blocks.specs.Items.{items_length as items_length_lem};
+ghost use Rattle.tag_blocks.specs.UndoText.{UndoFitsText, undo_of};
+ghost use Rattle.tag_blocks.specs.Items.{items_length};
 ghost use Rattle.tag_blocks.specs.Tags.{tag_of, tag_bytes, IsPlaceIn};
 ghost use Rattle.tag_blocks.specs.UndoItems.{undo_at, undo_from, with_undo, without_undo};
 
 use crate::block::{APE_FLAGS_AT, APE_HEADER, APE_SIZE_AT, ape_number};
 use crate::ends::{COUNT_AT, RESERVED_AT, append_end, is_footer, is_reserved};
-use crate::item::Item;
+use crate::item::ApeItem;
 use crate::items::{append_items, items_length, put_undo, read_items, undo_place};
 use crate::tag_fault::TagFault;
 use crate::undo::{Undo, UndoItem};
@@ -24,7 +24,7 @@ pub struct Tag {
     alloc: Global,
     header_flags: u32,
     footer_flags: u32,
-    items: Vec<Item>,
+    items: Vec<ApeItem>,
 }
 
 impl Model for Tag {
@@ -76,7 +76,7 @@ fn read_block(alloc: Global, block: &[u8]) -> Result<Tag, TagFault>
 }
 
 /// What an undo item at this place says by its value. The place is in bytes from the block's first byte.
-fn said(place: u64, item: &Item) -> UndoItem
+fn undo_item_of(place: u64, item: &ApeItem) -> UndoItem
     ensures { result ≡ undo_at place (undo_of item.now.value) }
 {
     match Undo::read(&item.value) {
@@ -140,7 +140,7 @@ impl Tag {
 
     /// The length of the block that `write` gives, in bytes: header, items and footer. It is at most 2,097,088.
     pub fn length(&self) -> u64
-        ensures length { result ≡ 64 + items_length_lem self.now.items }
+        ensures length { result ≡ 64 + items_length self.now.items }
         ensures bytes { result ≡ length (tag_bytes self.now) }
         ensures most { result ≤ 2097088 }
     {
@@ -154,7 +154,7 @@ impl Tag {
         let mut place = APE_HEADER as u64;
         for item in &self.items {
             if item.is_undo() {
-                return said(place, item);
+                return undo_item_of(place, item);
             }
             place += item.length() as u64;
         }
@@ -167,7 +167,7 @@ impl Tag {
     /// # Errors
     /// Where there is no memory. Then the tag stays as it was.
     pub fn set_undo(&mut self, undo: &Undo) -> Result<(), AllocError>
-        requires { FitsText undo.now }
+        requires { UndoFitsText undo.now }
         ensures set { OnOk result (self.new
             ≡ record self.old { items = with_undo undo.now self.old.items }) }
         ensures stays { OnErr result (self.new ≡ self.old) }

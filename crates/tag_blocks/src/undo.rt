@@ -1,6 +1,6 @@
 //! What the undo item of a tag says, and its value.
 ghost use Rattle.std.specs.Prelude.{◌≡◌, ◌≤◌, true, length, IsTrue, IfSome, Some, unsigned_abs};
-ghost use Rattle.tag_blocks.specs.UndoText.{steps_text as steps_text_lem, wrap_letter as wrap_letter_lem, undo_text, FitsText, is_steps as is_steps_lem, steps_of as steps_of_lem, is_undo_text as is_undo_text_lem, undo_of};
+ghost use Rattle.tag_blocks.specs.UndoText.{steps_text, wrap_letter, undo_text, UndoFitsText, is_steps, spelled_steps, is_undo_text, undo_of};
 
 /// The length of the value of an undo item in bytes.
 pub(crate) const UNDO_LENGTH: usize = 11;
@@ -31,7 +31,7 @@ pub enum UndoItem {
 /// Whether the bytes are a sign and three digits.
 fn is_steps(four: &[u8]) -> bool
     requires { length four.now ≡ 4 }
-    ensures { result ≡ is_steps_lem four.now }
+    ensures { result ≡ is_steps four.now }
 {
     (four[0] == b'+' || four[0] == b'-')
         && four[1].is_ascii_digit()
@@ -42,8 +42,8 @@ fn is_steps(four: &[u8]) -> bool
 /// The number that a sign and three digits spell.
 fn steps_of(four: &[u8]) -> i16
     requires four { length four.now ≡ 4 }
-    requires steps { is_steps_lem four.now ≡ true }
-    ensures steps { result ≡ steps_of_lem four.now }
+    requires steps { is_steps four.now ≡ true }
+    ensures steps { result ≡ spelled_steps four.now }
     ensures most { unsigned_abs result ≤ 999 }
 {
     let number = u16::from(four[1] - b'0') * 100
@@ -56,7 +56,7 @@ fn steps_of(four: &[u8]) -> i16
 /// A sign and the three digits of a number.
 fn steps_text(steps: i16) -> [u8; 4]
     requires { unsigned_abs steps ≤ 999 }
-    ensures { result ≡ steps_text_lem steps }
+    ensures { result ≡ steps_text steps }
 {
     let number = steps.unsigned_abs();
     [
@@ -68,7 +68,7 @@ fn steps_text(steps: i16) -> [u8; 4]
 }
 
 fn wrap_letter(wrap: bool) -> u8
-    ensures { result ≡ wrap_letter_lem wrap }
+    ensures { result ≡ wrap_letter wrap }
 {
     if wrap { b'W' } else { b'N' }
 }
@@ -76,7 +76,7 @@ fn wrap_letter(wrap: bool) -> u8
 /// Whether the bytes have the form of an undo item's value.
 #[tactic(auto, unfolding(crate::specs::UndoText::is_undo_text))]
 fn is_undo_text(value: &[u8]) -> bool
-    ensures { result ≡ is_undo_text_lem value.now }
+    ensures { result ≡ is_undo_text value.now }
 {
     value.len() == UNDO_LENGTH
         && is_steps(&value[..4])
@@ -88,7 +88,7 @@ fn is_undo_text(value: &[u8]) -> bool
 
 /// The value of the undo item that says this.
 fn text_of(undo: &Undo) -> [u8; 11]
-    requires { FitsText undo.now }
+    requires { UndoFitsText undo.now }
     ensures { result ≡ undo_text undo.now }
 {
     let left = steps_text(undo.left);
@@ -115,7 +115,7 @@ impl Undo {
     #[tactic(auto, unfolding(crate::specs::UndoText::undo_of, crate::specs::UndoText::is_undo_text))]
     pub fn read(value: &[u8]) -> Option<Undo>
         ensures undo { result ≡ undo_of value.now }
-        ensures fits { IfSome result FitsText }
+        ensures fits { IfSome result UndoFitsText }
     {
         if !is_undo_text(value) {
             return None;
@@ -130,7 +130,7 @@ impl Undo {
     /// The value of the undo item that says this. A number that isn't negative has `+`. Both numbers have
     /// to be from -999 to 999.
     pub fn text(&self) -> [u8; 11]
-        requires { FitsText self.now }
+        requires { UndoFitsText self.now }
         ensures text { result ≡ undo_text self.now }
         ensures back { undo_of result ≡ Some self.now }
     {

@@ -7,45 +7,50 @@ use Rattle.std.proofs.{Common.◌≤◌, lemmas.{Bool.{and_from, both_ways, case
 use Rattle.std.proofs.lemmas.{Option.slice_get-map, Slice.Eq.bytes_eq-Decides}
 use Rattle.std.specs.List.{concat, list_all}
 use Rattle.std.specs.Prelude.{bytes_eq, is_some, option_map, slice_get, slice_range}
-use Rattle.commands.specs.One.{most_frames}
-use Rattle.cut_edits.proofs.ChosenLaws.{the-plan}
-use Rattle.cut_edits.proofs.PieceLaws.{head_long, plain-long, span_apart, span_chosen}
-use Rattle.cut_edits.{proofs.SpanLaws.led-is as led-plan-is, specs.Chosen.first_plan}
-use Rattle.cut_edits.specs.Exact.{IsSpanIn, leads_in, needs_in, piece_of, plan_with, quality_of}
-use Rattle.exact_span.specs.{Extensions.{extension_of, kept}, Spans.{delay_of, padding_of}}
-use Rattle.exact_span.specs.{TagWord.sealed_info, declared.exact_place.ExactPlace.ExactPlace}
-use Rattle.exact_span.specs.declared.span.Span.{Span}
-use Rattle.frame_header.proofs.HeaderLaws.{IsClass-class_of}
+use Rattle.commands.specs.SingleOutput.{most_frames}
+use Rattle.cut_edits.proofs.ChosenLemmas.{the-plan}
+use Rattle.cut_edits.proofs.PieceLemmas.{head_long, plain-long, span_apart, span_chosen}
+use Rattle.cut_edits.{proofs.SpanLemmas.led-is, specs.Chosen.first_plan}
+use Rattle.cut_edits.specs.Exact.{IsSpanIn, quality_of, span_lead_ins, span_needs, span_piece}
+use Rattle.cut_edits.specs.Exact.{span_plan}
+use Rattle.exact_span.specs.Extensions.{extension_of, kept_extension}
+use Rattle.exact_span.specs.{Spans.{delay_of, padding_of}, TagWord.sealed_info}
+use Rattle.exact_span.specs.declared.{exact_place.ExactPlace.ExactPlace, span.Span.Span}
+use Rattle.frame_header.proofs.HeaderLemmas.{IsClass-class_of}
 use Rattle.frame_header.specs.Fields.{ClassFields, HeaderFields, IsClass, SlotFields}
 use Rattle.frame_header.specs.{Slots.all_slots, Tables.{area_of, class_of, window_of}}
-use Rattle.frame_writer.specs.Frames.{Frame, frame_bytes}
+use Rattle.frame_writer.specs.Frames.{bytes_of_frames, Frame}
 use Rattle.info_header.specs.{Info.number_or_zero, InfoFrame.{info_frame, info_header_of}}
 use Rattle.info_header.specs.declared.fields.Info.{Info}
-use Rattle.join_edits.proofs.RunPlans.{front-within}
-use Rattle.join_edits.specs.Seamless.{brought_by, delay_of_run, gain_of, head_of, info_with}
-use Rattle.join_edits.specs.Seamless.{joined_by, joined_frames, padding_by, part_from, parts_by}
-use Rattle.join_edits.specs.Seamless.{replay_gain, run_extension, run_parts, run_plan, says_gain}
-use Rattle.join_edits.specs.Seamless.{seamless_file, seamless_from}
-use Rattle.laying.proofs.{HoldLaws.{part-entries, part-stream}, LaidLaws.{first-there, laid-slots}}
-use Rattle.laying.proofs.PlannedFrames.{one, one-entry, one-stream, relaid-cons, slot_among}
-use Rattle.laying.proofs.RelayLaws.{range-next}
-use Rattle.laying.specs.Laid.{frames_laid, info_laid, Laid, part_laid}
-use Rattle.laying.specs.{LaidFiles.{AreEntries, entry_of, laid_file}, Needs.need_of}
+use Rattle.join_edits.proofs.RunPartLemmas.{front-within}
+use Rattle.join_edits.specs.Seamless.{delay_of_run, gain_of, join_of_parts, later_parts}
+use Rattle.join_edits.specs.Seamless.{part_brought, part_from, part_head, part_says_gain}
+use Rattle.join_edits.specs.Seamless.{replay_gain, run_extension, run_parts, run_plan}
+use Rattle.join_edits.specs.Seamless.{seamless_file, seamless_frames, seamless_info}
+use Rattle.join_edits.specs.Seamless.{seamless_padding, seamless_row_file}
+use Rattle.laying.proofs.HoldLemmas.{part-entries, part-stream}
+use Rattle.laying.proofs.LaidLemmas.{first-there, laid-slots}
+use Rattle.laying.proofs.PlannedFrameLemmas.{one, one-entry, one-stream, relaid-cons, slot_among}
+use Rattle.laying.proofs.RelayLemmas.{range-next}
+use Rattle.laying.specs.Laid.{frames_laid, info_laid, LaidPart, source_part}
+use Rattle.laying.specs.{LaidFiles.{AreStreamEntries, laid_file, stream_entry}, Needs.need_of}
 use Rattle.laying.specs.NeedsFit.{own_choice}
-use Rattle.laying.specs.Relaid.{frames_in, IsPart, lead_in_to, left_behind, Part, relaid}
-use Rattle.laying.specs.{Relaid.{silent_before, stream_in}, Surveys.HasSurvey}
+use Rattle.laying.specs.Relaid.{FilePart, IsPart, lead_in_with_place, part_frames, part_stream}
+use Rattle.laying.specs.{Relaid.{relaid_frames, rest_behind, silent_lead_in}, Surveys.CanBeRelaid}
 use Rattle.laying.specs.Written.{front_blocks, info_for, slot_in}
-use Rattle.seam_plan.proofs.{FitLaws.fits-tested, LeadInLaws.lead-in-is, PieceRuns.front-fits}
-use Rattle.seam_plan.specs.Frames.{Frame as RunFrame, needs_of as run_needs}
+use Rattle.seam_plan.proofs.{FitLemmas.fits-tested, LeadInLemmas.lead-in-is}
+use Rattle.seam_plan.{proofs.PieceRunLemmas.front-fits, specs.Frames.{needs_of, RunFrame}}
 use Rattle.seam_plan.specs.Joins.{fits_behind, has_lead_in, lead_in_header, lead_in_slot}
-use Rattle.slot_plan.proofs.{BehindLaws.more-behind, LedLaws.led-needed}
-use Rattle.slot_plan.proofs.OwnLeadIn.{lead-where-wanted, own-none}
-use Rattle.slot_plan.specs.{Behind.{FitsBehind, IsLeadInHeader}, Laws.{AreLed, AreOwn}}
-use Rattle.slot_plan.specs.{Layouts.begins_of, LeastPlan.{least_plan, led_plan}, Lists.CanBeLaid}
-use Rattle.slot_plan.specs.{Parts.{items_of, open_of, own_frame}, Plans.{AreFor, IsLedPlan, IsPlan}}
-use Rattle.slot_plan.specs.declared.needs.{Need.Need, Placed.Placed}
-use Rattle.sync_survey.specs.{Faults.{surveyed, SurveyFields}, MainData.StreamFrame, Row.Row}
-use Rattle.theorems.proofs.BareFrames.{bare-same, relaid-same}
+use Rattle.slot_plan.proofs.{FreeByteLemmas.more-behind, LedLemmas.led-needed}
+use Rattle.slot_plan.proofs.OwnLeadInLemmas.{lead-where-wanted, own-none}
+use Rattle.slot_plan.specs.FreeBytes.{FitsBehind, IsLeadInHeader}
+use Rattle.slot_plan.specs.{Laws.{AreInOwnSlots, AreLedInOwnSlots}, Layouts.begins_of}
+use Rattle.slot_plan.specs.{LeastPlan.{least_plan, led_plan}, Lists.CanBeLaid}
+use Rattle.slot_plan.specs.Parts.{open_frame, own_frame, part_items}
+use Rattle.slot_plan.specs.{Plans.{AreItemSlots, IsLedPlan, IsPlan}, declared.needs.Need.Need}
+use Rattle.slot_plan.specs.declared.needs.Placed.{Placed}
+use Rattle.sync_survey.specs.{Faults.{survey_fields, SurveyFields}, MainData.StreamFrame, Row.Row}
+use Rattle.theorems.proofs.BareFrameLemmas.{bare-same, relaid-same}
 use Rattle.theorems.proofs.ExactFileLemmas.{has-own, head, IsFound, IsLaidLed, IsLaidOwn, laid_by}
 use Rattle.theorems.proofs.ExactFileLemmas.{leads, own, own-leads, piece-by, plain, span-fitting}
 use Rattle.theorems.proofs.ExactFileLemmas.{span-long, span-ways}
@@ -62,11 +67,12 @@ use Rattle.theorems.proofs.InfoFieldLemmas.{gain-same, Keeps, keeps-by, made-aga
 use Rattle.theorems.proofs.InfoFieldLemmas.{quality-again, quality_bytes, sealed-front, sealed-same}
 use Rattle.theorems.proofs.LaidInputLemmas.{BringsLed, front-same}
 use Rattle.theorems.proofs.LedPlanLemmas.{IsLedAs, lead_need, led-as, own-same, OwnBegins}
-use Rattle.theorems.proofs.{LedPlanLemmas.plan-begins, SeamlessInputs.{AreInputs, IsInput}}
-use Rattle.theorems.proofs.SeamlessRun.{front-few, front-parts, run, run-planned, stream}
-use Rattle.theorems.proofs.SplitFile.{AreRead, part-read, parts-read, read-append}
-use Rattle.theorems.proofs.SplitJoin.{between-append, between-needs, range-append, run_between}
-use Rattle.theorems.specs.SeamlessLaws.{bare_file, bare_from, last_place}
+use Rattle.theorems.proofs.{LedPlanLemmas.plan-begins, SeamlessInputLemmas.{AreInputs, IsInput}}
+use Rattle.theorems.proofs.SeamlessRunLemmas.{front-few, front-parts, run, run-planned, stream}
+use Rattle.theorems.proofs.SplitFileLemmas.{AreRead, part-read, parts-read, read-append}
+use Rattle.theorems.proofs.SplitJoinLemmas.{between-append, between-needs, range-append}
+use Rattle.theorems.proofs.SplitJoinLemmas.{run_between}
+use Rattle.theorems.specs.SeamlessLaws.{bare_file, bare_row_file, last_place}
 
 -- ---- lists
 
@@ -125,14 +131,14 @@ record IsLedRun (window : ℕ) (first : Need) (needs : List Need) (led run : Lis
 
 led-run : (window : ℕ) (first : Need) (needs : List Need) (led run : List Placed)
     (is : IsLedAs window first needs led)
-    → AreOwn (lead_need first.header is.lead.slot ∷ first ∷ needs) run
+    → AreInOwnSlots (lead_need first.header is.lead.slot ∷ first ∷ needs) run
     → OwnBegins window (lead_need first.header is.lead.slot ∷ first ∷ needs) run
     → IsLedRun window first needs led run
-unfolding AreFor AreLed
+unfolding AreItemSlots AreLedInOwnSlots
 led-run window first needs led run is own begins =
     let lead : Placed = record is.lead { lead_in = false } in
     let all : List Need = lead_need first.header is.lead.slot ∷ first ∷ needs in
-    let is_led = subst (AreLed window (first ∷ needs)) is.are is.led in
+    let is_led = subst (AreLedInOwnSlots window (first ∷ needs)) is.are is.led in
     record {
       lead = is.lead;
       rest = is.rest;
@@ -146,12 +152,12 @@ led-run window first needs led run is own begins =
 -- frames with a lead-in in front, in the slots of that plan, are the frames after a lead-in
 led-relaid : (lead : Placed) (rest : List Placed) (f : Frame) (fs : List Frame)
     → lead.lead_in ≡ true
-    → relaid (lead_in_to lead f ∷ f ∷ fs) (record lead { lead_in = false } ∷ rest)
-    ≡ relaid (f ∷ fs) (lead ∷ rest)
+    → relaid_frames (lead_in_with_place lead f ∷ f ∷ fs) (record lead { lead_in = false } ∷ rest)
+    ≡ relaid_frames (f ∷ fs) (lead ∷ rest)
 led-relaid lead rest f fs leads =
-    relaid-cons (record lead { lead_in = false }) rest (lead_in_to lead f) (f ∷ fs)
+    relaid-cons (record lead { lead_in = false }) rest (lead_in_with_place lead f) (f ∷ fs)
     ∙ sym (relaid-cons lead rest f fs
-    ∙ ap (λ b. one b lead f ∷ relaid (left_behind b f fs) rest) leads)
+    ∙ ap (λ b. one b lead f ∷ relaid_frames (rest_behind b f fs) rest) leads)
 
 -- ---- the first frame of the run
 
@@ -165,14 +171,14 @@ row-need rows i r n found is =
 
 -- ---- what the heads of pieces keep
 
-module _ (file : List ℕ) (s : SurveyFields) (has : HasSurvey file s)
+module _ (file : List ℕ) (s : SurveyFields) (has : CanBeRelaid file s)
     (few : length s.frames ≤ most_frames) where
-  abbrev read_of : (c : ClassFields) (from to : ExactPlace) (p : Part) → IsInput c p
+  abbrev read_of : (c : ClassFields) (from to : ExactPlace) (p : FilePart) → IsInput c p
       → IsPiece file s has few from to p → Info
   read_of c from to p is piece = read file s has few from to piece.0 piece.1 c p is piece.2
 
   -- each keeps what a piece keeps of the head of the recording
-  piece-keeps : (c : ClassFields) (from to : ExactPlace) (p : Part) (is : IsInput c p)
+  piece-keeps : (c : ClassFields) (from to : ExactPlace) (p : FilePart) (is : IsInput c p)
       (piece : IsPiece file s has few from to p)
       → Keeps (head file s has) (read_of c from to p is piece).extension
   piece-keeps c from to p is piece =
@@ -190,10 +196,10 @@ module _ (file : List ℕ) (s : SurveyFields) (has : HasSurvey file s)
       (read-head file s has few from to span piece.1 c p is piece.2).numbers.encoder
 
   -- so all say the same of peak and gains
-  gains-are : (gain : List ℕ) → gain ≡ replay_gain (kept (head file s has))
-      → (c : ClassFields) (from : ExactPlace) (tos : List ExactPlace) (parts : List Part)
+  gains-are : (gain : List ℕ) → gain ≡ replay_gain (kept_extension (head file s has))
+      → (c : ClassFields) (from : ExactPlace) (tos : List ExactPlace) (parts : List FilePart)
       → AreInputs c parts → AreExactFiles file s has few from tos parts
-      → list_all (says_gain gain) parts ≡ true
+      → list_all (part_says_gain gain) parts ≡ true
   gains-are gain is c from [] [] inputs files = refl
   gains-are gain is c from [] (p ∷ parts) inputs files = absurd files
   gains-are gain is c from (to ∷ tos) [] inputs files = refl
@@ -201,22 +207,22 @@ module _ (file : List ℕ) (s : SurveyFields) (has : HasSurvey file s)
       let piece = files.0 in
       let sp = has-span file s has few from to piece.0 piece.1 c p inputs.0 piece.2 in
       let keeps = piece-keeps c from to p inputs.0 piece in
-      let own_gain : gain_of (head_of p) ≡ gain =
+      let own_gain : gain_of (part_head p) ≡ gain =
       ap gain_of (read-is file s has few from to piece.0 piece.1 c p inputs.0 piece.2)
-      ∙ gain-same (read_of c from to p inputs.0 piece).extension (kept (head file s has))
+      ∙ gain-same (read_of c from to p inputs.0 piece).extension (kept_extension (head file s has))
       keeps.front
       ∙ sym is in
-      and_from (says_gain gain p) (list_all (says_gain gain) parts)
-      (and_from (is_some (brought_by p).played) (bytes_eq (gain_of (head_of p)) gain)
+      and_from (part_says_gain gain p) (list_all (part_says_gain gain) parts)
+      (and_from (is_some (part_brought p).played) (bytes_eq (gain_of (part_head p)) gain)
       (ap is_some sp.spans.counted)
-      ((bytes_eq-Decides (gain_of (head_of p)) gain).1 own_gain))
+      ((bytes_eq-Decides (gain_of (part_head p)) gain).1 own_gain))
       (gains-are gain is c to tos parts inputs.1 files.1)
 
 -- ---- the join
 
-module _ (file : List ℕ) (s : SurveyFields) (has : HasSurvey file s)
+module _ (file : List ℕ) (s : SurveyFields) (has : CanBeRelaid file s)
     (few : length s.frames ≤ most_frames) (known : IsClass s.class)
-    (place next : ExactPlace) (places : List ExactPlace) (first : Part) (parts : List Part)
+    (place next : ExactPlace) (places : List ExactPlace) (first : FilePart) (parts : List FilePart)
     (inputs : AreInputs first.survey.class (first ∷ parts))
     (files : AreExactFiles file s has few place (next ∷ places) (first ∷ parts)) where
   abbrev t : SurveyFields
@@ -252,17 +258,17 @@ module _ (file : List ℕ) (s : SurveyFields) (has : HasSurvey file s)
   row-is : slice_get t.frames span.first ≡ Some row
   row-is = ap (slice_get t.frames) (sym first-same) ∙ piece.2.row_is
 
-  abbrev whole : Laid
+  abbrev whole : LaidPart
   whole = laid_by file s has span row
 
-  abbrev part : Part
-  part = part_laid whole file t
+  abbrev part : FilePart
+  part = source_part whole file t
 
   abbrev needs : List Need
-  needs = needs_in span t
+  needs = span_needs span t
 
   abbrev front : ℕ
-  front = (joined_by first parts).front
+  front = (join_of_parts first parts).front
 
   abbrev run_all : List RunFrame
   run_all =
@@ -274,9 +280,9 @@ module _ (file : List ℕ) (s : SurveyFields) (has : HasSurvey file s)
       slice_range (st file s has few) piece.0.first
       (high file s has few known place next places first parts inputs files)
 
-  run-needs : run_needs run_all ≡ needs
+  run-needs : needs_of run_all ≡ needs
   run-needs =
-      ap₂ (λ i j. run_needs (run_between file t i j)) first-same last-same
+      ap₂ (λ i j. needs_of (run_between file t i j)) first-same last-same
       ∙ between-needs file t (has-own file s has) span.first span.last
 
   part-is : IsPart s.class part
@@ -287,7 +293,7 @@ module _ (file : List ℕ) (s : SurveyFields) (has : HasSurvey file s)
     within = inside.within;
   }
 
-  part-streams : map entry_of (frames_in part) ≡ stream_all
+  part-streams : map stream_entry (part_frames part) ≡ stream_all
   part-streams =
       part-stream s.class part part-is
       ∙ ap₂ (λ i j. slice_range (st file s has few) i j) (sym first-same) (sym last-same)
@@ -296,23 +302,23 @@ module _ (file : List ℕ) (s : SurveyFields) (has : HasSurvey file s)
   own_inputs = subst (λ d. AreInputs d (first ∷ parts)) class-same inputs
 
   abbrev run_frames_in : List Frame
-  run_frames_in = flat_map frames_in (run_parts first parts)
+  run_frames_in = flat_map part_frames (run_parts first parts)
 
   run-read : AreRead s.class run_frames_in (stream first parts inputs)
   run-read =
-      read-append s.class (frames_in (part_from front first))
-      (flat_map frames_in (parts_by (joined_by first parts).joints parts))
-      (stream_in (part_from front first))
-      (flat_map stream_in (parts_by (joined_by first parts).joints parts))
+      read-append s.class (part_frames (part_from front first))
+      (flat_map part_frames (later_parts (join_of_parts first parts).joints parts))
+      (part_stream (part_from front first))
+      (flat_map part_stream (later_parts (join_of_parts first parts).joints parts))
       (part-read s.class first own_inputs.0 front)
-      (parts-read s.class (joined_by first parts).joints parts own_inputs.1)
+      (parts-read s.class (join_of_parts first parts).joints parts own_inputs.1)
 
   abbrev placed : List Placed
   placed = (plain file s has span).placed
 
   -- the frames of the join are those that are cut, and so is the header of its Info frame
   pub record IsSame : Type 0 where
-    pub frames : joined_frames first parts ≡ relaid (frames_in part) placed
+    pub frames : seamless_frames first parts ≡ relaid_frames (part_frames part) placed
     pub header : (r : Row) → slice_get first.survey.frames front ≡ Some r
         → info_header_of r.header ≡ info_header_of row.header
 
@@ -322,40 +328,40 @@ module _ (file : List ℕ) (s : SurveyFields) (has : HasSurvey file s)
   least = first_plan own_choice s.class needs
 
   never-laid : fits_behind window 0 needs ≡ false
-      → CanBeLaid window (map open_of (items_of own_choice needs None)) → ⊥
-  unfolding items_of
+      → CanBeLaid window (map open_frame (part_items own_choice needs None)) → ⊥
+  unfolding part_items
   never-laid lacks can =
       both_ways (fits_behind window 0 needs) lacks
       ((fits-tested window 0 needs).1 (own-none window needs can))
 
   plan-by : (led : Bool) → (led ≡ true → fits_behind window 0 needs ≡ false)
-      → plan_with led s.class needs ≡ least
+      → span_plan led s.class needs ≡ least
   plan-by false lacks = refl
   plan-by true lacks =
       let chosen = span_chosen (head file s has) span in
       let plan =
       the-plan chosen t (has-own file s has).placed inside.some inside.within own_choice
       (inl refl) in
-      sym ((led-plan-is chosen t (has-own file s has).placed inside.some inside.within least).0
+      sym ((led-is chosen t (has-own file s has).placed inside.some inside.within least).0
       (led-needed window own_choice needs least (never-laid (lacks refl)) plan))
 
-  run-least : run_needs (run first parts inputs) ≡ needs → run_plan first parts ≡ least
+  run-least : needs_of (run first parts inputs) ≡ needs → run_plan first parts ≡ least
   run-least same =
       ap₂ (λ (d : ClassFields) (ns : List Need).
       least_plan (window_of d.version) own_choice (ns ∷ [])) class-same same
 
   -- frames that are read as those that are cut are these
   bare-frames : stream first parts inputs ≡ stream_all → run_plan first parts ≡ placed
-      → joined_frames first parts ≡ relaid (frames_in part) placed
+      → seamless_frames first parts ≡ relaid_frames (part_frames part) placed
   bare-frames streams plans =
-      relaid-same run_frames_in (frames_in part) (run_plan first parts)
-      (bare-same s.class known run_frames_in (frames_in part) run-read.entries
+      relaid-same run_frames_in (part_frames part) (run_plan first parts)
+      (bare-same s.class known run_frames_in (part_frames part) run-read.entries
       (part-entries s.class part part-is)
       (run-read.is ∙ streams ∙ sym part-streams))
-      ∙ ap (relaid (frames_in part)) plans
+      ∙ ap (relaid_frames (part_frames part)) plans
 
   -- what the frames of the first piece need begins with the first of these
-  first-needs : slice_get (run_needs (run_between file t piece.0.first piece.0.last)) 0
+  first-needs : slice_get (needs_of (run_between file t piece.0.first piece.0.last)) 0
       ≡ Some (need_of row)
   first-needs =
       ap (λ (l : List Need). slice_get l 0)
@@ -377,8 +383,8 @@ module _ (file : List ℕ) (s : SurveyFields) (has : HasSurvey file s)
 
     same-own : IsSame
     same-own =
-        let run_is : run_needs (run first parts inputs) ≡ needs =
-        ap run_needs
+        let run_is : needs_of (run first parts inputs) ≡ needs =
+        ap needs_of
         (run-frames file s has few known place next places first parts inputs files own-span
         ∙ ap (λ n. drop n run_all) stays)
         ∙ run-needs in
@@ -388,8 +394,8 @@ module _ (file : List ℕ) (s : SurveyFields) (has : HasSurvey file s)
         let brings =
         brought-own file s has few place next piece.0 piece.1 first.survey.class first inputs.0
         piece.2 ways in
-        let plans : plan_with span.led s.class needs ≡ least =
-        ap (λ b. plan_with b s.class needs) (sym led-same ∙ ways.1) in
+        let plans : span_plan span.led s.class needs ≡ least =
+        ap (λ b. span_plan b s.class needs) (sym led-same ∙ ways.1) in
         record {
           frames = bare-frames streams (run-least run_is ∙ sym plans);
           header = λ r there.
@@ -413,14 +419,14 @@ module _ (file : List ℕ) (s : SurveyFields) (has : HasSurvey file s)
     -- that leaves the run
     same-again : front ≡ 1 → IsSame
     same-again out =
-        let run_is : run_needs (run first parts inputs) ≡ needs =
-        ap run_needs
+        let run_is : needs_of (run first parts inputs) ≡ needs =
+        ap needs_of
         (run-frames file s has few known place next places first parts inputs files with_lead
         ∙ ap (λ n. drop n (brought.lead_in ∷ run_all)) out)
         ∙ run-needs in
         let streams : stream first parts inputs ≡ stream_all =
         run-stream file s has few known place next places first parts inputs files with_lead
-        ∙ ap (λ n. drop n (silent_before brought.first ∷ stream_all)) out in
+        ∙ ap (λ n. drop n (silent_lead_in brought.first ∷ stream_all)) out in
         let lacks : fits_behind window 0 needs ≡ false =
         ap₂ (λ (d : ClassFields) (ns : List Need). fits_behind (window_of d.version) 0 ns)
         (sym class-same) (sym run_is)
@@ -459,7 +465,7 @@ module _ (file : List ℕ) (s : SurveyFields) (has : HasSurvey file s)
       needs-cons =
           ap (map need_of) (range-next t.frames span.first span.last row row-is inside.some)
 
-      own-cons : run_needs own_run ≡ need_of row ∷ own_more
+      own-cons : needs_of own_run ≡ need_of row ∷ own_more
       own-cons =
           between-needs file t (has-own file s has) begin_at mid
           ∙ ap (map need_of)
@@ -479,10 +485,10 @@ module _ (file : List ℕ) (s : SurveyFields) (has : HasSurvey file s)
           (sym class-same) (sym run-needs)
           ∙ stays-fit file s has few known place next places first parts inputs files ways stays
 
-      own-fit : fits_behind window 0 (run_needs own_run) ≡ true
+      own-fit : fits_behind window 0 (needs_of own_run) ≡ true
       own-fit =
           front-fits window 0 own_run (run_between file t mid high_end)
-          (ap (λ (l : List RunFrame). fits_behind window 0 (run_needs l))
+          (ap (λ (l : List RunFrame). fits_behind window 0 (needs_of l))
           (between-append file t (has-own file s has) begin_at mid high_end
           (omega (arith, piece.1.there.some)) ends)
           ∙ ap (fits_behind window 0) run-needs ∙ all-fit)
@@ -493,7 +499,7 @@ module _ (file : List ℕ) (s : SurveyFields) (has : HasSurvey file s)
           ∙ elim ways.1 as (λ _. piece.0.led ≡ true) [
             | inl led ↦ led
             | inr lacks ↦
-                absurd (both_ways (fits_behind window 0 (run_needs own_run))
+                absurd (both_ways (fits_behind window 0 (needs_of own_run))
                 (ap (fits_behind window 0)
                 (between-needs file t (has-own file s has) begin_at mid) ∙ lacks.1) own-fit)
           ]
@@ -502,13 +508,13 @@ module _ (file : List ℕ) (s : SurveyFields) (has : HasSurvey file s)
       led_places = led_plan window own_choice needs
 
       placed-led : placed ≡ led_places
-      placed-led = ap (λ b. plan_with b s.class needs) is-led
+      placed-led = ap (λ b. span_plan b s.class needs) is-led
 
       as-led : IsLedAs window (need_of row) more led_places
       as-led =
           let chosen = span_chosen (head file s has) span in
           let plan =
-          (led-plan-is chosen t (has-own file s has).placed inside.some inside.within led_places).1
+          (led-is chosen t (has-own file s has).placed inside.some inside.within led_places).1
           refl in
           led-as window (need_of row) more led_places
           (subst (λ (ns : List Need). IsLedPlan window own_choice ns led_places) needs-cons plan)
@@ -542,9 +548,9 @@ module _ (file : List ℕ) (s : SurveyFields) (has : HasSurvey file s)
           let header : brought.lead_in.need.header ≡ lead.header = cc in
           ap₂ (λ (h : HeaderFields) (n : ℕ). record { header = h; bytes = n }) header brought.empty
 
-      run-all : run_needs (run first parts inputs) ≡ lead ∷ need_of row ∷ more
+      run-all : needs_of (run first parts inputs) ≡ lead ∷ need_of row ∷ more
       run-all =
-          ap run_needs
+          ap needs_of
           (run-frames file s has few known place next places first parts inputs files with_lead
           ∙ ap (λ n. drop n (brought.lead_in ∷ run_all)) stays)
           ∙ ap₂ (λ (n : Need) (ns : List Need). n ∷ ns) lead-is (run-needs ∙ needs-cons)
@@ -583,10 +589,10 @@ module _ (file : List ℕ) (s : SurveyFields) (has : HasSurvey file s)
           let first : as-led.lead.begin ≡ 0 - max 0 (0 - window) = cc in
           omega (arith, first)
 
-      streams : stream first parts inputs ≡ silent_before brought.first ∷ stream_all
+      streams : stream first parts inputs ≡ silent_lead_in brought.first ∷ stream_all
       streams =
           run-stream file s has few known place next places first parts inputs files with_lead
-          ∙ ap (λ n. drop n (silent_before brought.first ∷ stream_all)) stays
+          ∙ ap (λ n. drop n (silent_lead_in brought.first ∷ stream_all)) stays
 
       stream-first : stream_all
           ≡ brought.first ∷ (brought.rest ++ slice_range (st file s has few) mid high_end)
@@ -596,42 +602,42 @@ module _ (file : List ℕ) (s : SurveyFields) (has : HasSurvey file s)
           ∙ ap (λ (l : List StreamFrame). l ++ slice_range (st file s has few) mid high_end)
           brought.own_is
 
-      frames-by : (all : List Frame) → frames_in part ≡ all
-          → joined_frames first parts ≡ relaid (frames_in part) placed
+      frames-by : (all : List Frame) → part_frames part ≡ all
+          → seamless_frames first parts ≡ relaid_frames (part_frames part) placed
       unfolding as-run as-led led-run
       frames-by [] are =
           let none : [] ≡ brought.first
           ∷ (brought.rest ++ slice_range (st file s has few) mid high_end) =
-          sym (ap (map entry_of) are) ∙ part-streams ∙ stream-first in
+          sym (ap (map stream_entry) are) ∙ part-streams ∙ stream-first in
           absurd cc
       frames-by (f ∷ fs) are =
-          let entries = subst (AreEntries s.class) are (part-entries s.class part part-is) in
-          let all : entry_of f ∷ map entry_of fs ≡ stream_all =
-          sym (ap (map entry_of) are) ∙ part-streams in
-          let begins : entry_of f ∷ map entry_of fs
+          let entries = subst (AreStreamEntries s.class) are (part-entries s.class part part-is) in
+          let all : stream_entry f ∷ map stream_entry fs ≡ stream_all =
+          sym (ap (map stream_entry) are) ∙ part-streams in
+          let begins : stream_entry f ∷ map stream_entry fs
           ≡ brought.first ∷ (brought.rest ++ slice_range (st file s has few) mid high_end) =
           all ∙ stream-first in
-          let entry : entry_of f ≡ brought.first = cc in
-          let led_frame : Frame = lead_in_to as-run.lead f in
+          let entry : stream_entry f ≡ brought.first = cc in
+          let led_frame : Frame = lead_in_with_place as-run.lead f in
           let near : as-led.lead.begin ≤ window = omega (arith, lead-begins) in
           let own_entry =
           one-entry s.class as-led.lead f (slot_among as-led.lead.slot as-led.slot.chosen) near
           entries.0 true in
-          let heard : map entry_of (led_frame ∷ f ∷ fs)
-          ≡ silent_before brought.first ∷ stream_all =
+          let heard : map stream_entry (led_frame ∷ f ∷ fs)
+          ≡ silent_lead_in brought.first ∷ stream_all =
           ap₂ (λ (x : StreamFrame) (xs : List StreamFrame). x ∷ xs)
-          (one-stream true as-run.lead f ∙ ap silent_before entry) all in
+          (one-stream true as-run.lead f ∙ ap silent_lead_in entry) all in
           relaid-same run_frames_in (led_frame ∷ f ∷ fs) (run_plan first parts)
           (bare-same s.class known run_frames_in (led_frame ∷ f ∷ fs) run-read.entries
           (own_entry, entries) (run-read.is ∙ streams ∙ sym heard))
-          ∙ ap (relaid (led_frame ∷ f ∷ fs)) as-run.run_is
+          ∙ ap (relaid_frames (led_frame ∷ f ∷ fs)) as-run.run_is
           ∙ led-relaid as-run.lead as-run.rest f fs as-run.leads
-          ∙ ap₂ (λ (xs : List Frame) (ps : List Placed). relaid xs ps) (sym are)
+          ∙ ap₂ (λ (xs : List Frame) (ps : List Placed). relaid_frames xs ps) (sym are)
           (sym (placed-led ∙ as-run.led_is))
 
       same-led : IsSame
       same-led = record {
-        frames = frames-by (frames_in part) refl;
+        frames = frames-by (part_frames part) refl;
         header = λ r there.
             ap (λ (n : Need). info_header_of n.header)
             (row-need first.survey.frames front r brought.lead_in.need there
@@ -641,7 +647,7 @@ module _ (file : List ℕ) (s : SurveyFields) (has : HasSurvey file s)
 
   -- the frames are those that are cut, unless the first piece begins with a look-alike
   pub is-same : (leads file s has piece.0 ≡ 0
-      → has_lead_in (window_of first.survey.class.version) (brought_by first) ≡ false) → IsSame
+      → has_lead_in (window_of first.survey.class.version) (part_brought first) ≡ false) → IsSame
   is-same none =
       elim (span-ways file s has piece.0 piece.1.there piece.2.row piece.2.row_is)
       as (λ _. IsSame) [
@@ -649,7 +655,7 @@ module _ (file : List ℕ) (s : SurveyFields) (has : HasSurvey file s)
             elim (cases_lt 0 front) as (λ _. IsSame) [
               | inl out ↦
                   absurd (both_ways
-                  (has_lead_in (window_of first.survey.class.version) (brought_by first))
+                  (has_lead_in (window_of first.survey.class.version) (part_brought first))
                   (none
                   (own-leads file s has piece.0 piece.1.there piece.2.row piece.2.row_is ways))
                   (front-parts first parts inputs out).0)
@@ -678,12 +684,12 @@ module _ (file : List ℕ) (s : SurveyFields) (has : HasSurvey file s)
   first_read =
       read file s has few place next piece.0 piece.1 first.survey.class first inputs.0 piece.2
 
-  first-read : head_of first ≡ Some first_read
+  first-read : part_head first ≡ Some first_read
   first-read =
       read-is file s has few place next piece.0 piece.1 first.survey.class first inputs.0 piece.2
 
   abbrev made : List ℕ
-  made = extension_of (head_of first) pieces_delay (padding_by first parts)
+  made = extension_of (part_head first) pieces_delay (seamless_padding first parts)
 
   made-is : made ≡ extension_of head_here pieces_delay (padding_of span)
   made-is =
@@ -695,16 +701,16 @@ module _ (file : List ℕ) (s : SurveyFields) (has : HasSurvey file s)
   -- peak and gains stay
   run-made : run_extension pieces_delay first parts ≡ made
   run-made =
-      let gain : replay_gain made ≡ replay_gain (kept head_here) =
-      gain-same made (kept head_here)
+      let gain : replay_gain made ≡ replay_gain (kept_extension head_here) =
+      gain-same made (kept_extension head_here)
       (ap (take 21) made-is
       ∙ made-front head_here (head_long file s.head) pieces_delay (padding_of span)) in
       ap (λ b. cond b made (take 11 made ++ (replicate 8 0 ++ drop 19 made)))
       (gains-are file s has few (replay_gain made) gain first.survey.class next places parts
       inputs.1 files.1)
 
-  leads-many : length (joined_frames first parts) ≡ length placed
-      → leads_in span placed ≡ many file s has few known place next places first parts inputs files
+  leads-many : length (seamless_frames first parts) ≡ length placed → span_lead_ins span placed
+      ≡ many file s has few known place next places first parts inputs files
   leads-many same =
       omega (
         arith,
@@ -721,7 +727,7 @@ module _ (file : List ℕ) (s : SurveyFields) (has : HasSurvey file s)
       (span-fitting file s has span found.there row row-is))
       ∙ length-map placed (λ (p : Placed). p.slot)
 
-  quality-same : quality_bytes (quality_of (head_of first)) ≡ quality_bytes (quality_of head_here)
+  quality-same : quality_bytes (quality_of (part_head first)) ≡ quality_bytes (quality_of head_here)
   quality-same =
       ap (λ o. quality_bytes (quality_of o)) first-read
       ∙ ap quality_bytes
@@ -730,7 +736,7 @@ module _ (file : List ℕ) (s : SurveyFields) (has : HasSurvey file s)
       ∙ quality-again (number_or_zero (quality_of head_here))
 
   module _ (is : IsSame) where
-    frames-are : joined_frames first parts ≡ cut_frames
+    frames-are : seamless_frames first parts ≡ cut_frames
     frames-are = is.frames
 
     extension-is : run_extension pieces_delay first parts ≡ (plain file s has span).extension
@@ -742,14 +748,14 @@ module _ (file : List ℕ) (s : SurveyFields) (has : HasSurvey file s)
         (sym many_is)
 
     info-is : (r : Row) → slice_get first.survey.frames front ≡ Some r
-        → info_frame r.header (info_with (delay_of_run first parts) r first parts)
+        → info_frame r.header (seamless_info (delay_of_run first parts) r first parts)
         ≡ info_frame row.header (info_laid whole file t)
     info-is r there =
-        let quality : Option ℕ = quality_of (head_of first) in
-        ap (λ o. info_frame r.header (info_with o r first parts))
+        let quality : Option ℕ = quality_of (part_head first) in
+        ap (λ o. info_frame r.header (seamless_info o r first parts))
         (delay-is file s has few known place next places first parts inputs files)
         ∙ ap (λ (e : List ℕ). info_frame r.header (sealed_info r.header
-        (info_for first.survey.class (joined_frames first parts) quality e))) extension-is
+        (info_for first.survey.class (seamless_frames first parts) quality e))) extension-is
         ∙ ap₂ (λ (d : ClassFields) (fs : List Frame). info_frame r.header (sealed_info r.header
         (info_for d fs quality (plain file s has span).extension))) class-same frames-are
         ∙ sealed-same s.class cut_frames quality (quality_of head_here) quality-same r.header
@@ -757,7 +763,7 @@ module _ (file : List ℕ) (s : SurveyFields) (has : HasSurvey file s)
 
     -- ---- the file
 
-    module _ (most : ℕ) (e : surveyed file most ≡ Ok s) where
+    module _ (most : ℕ) (e : survey_fields file most ≡ Ok s) where
       blocks-are : front_blocks first.file first.survey ≡ front_blocks file t
       blocks-are =
           let there = span_apart s piece.0 piece.1.there in
@@ -769,7 +775,7 @@ module _ (file : List ℕ) (s : SurveyFields) (has : HasSurvey file s)
 
       -- the join is what is cut, without the blocks behind
       pub cut-file : seamless_file (first ∷ parts)
-          ≡ bare_file (piece_of head_here span file t) file t
+          ≡ bare_file (span_piece head_here span file t) file t
       unfolding seamless_file laid_file
       cut-file =
           let front_row =
@@ -777,12 +783,13 @@ module _ (file : List ℕ) (s : SurveyFields) (has : HasSurvey file s)
           (front-within first parts (whole-file first.survey.class first inputs.0)
           (whole-files first.survey.class parts inputs.1)) in
           let r : Row = front_row.0 in
-          ap (λ o. seamless_from o first parts) front_row.1
+          ap (λ o. seamless_row_file o first parts) front_row.1
           ∙ ap₂ (λ (blocks : List (List ℕ)) (i : List ℕ).
-          concat blocks ++ (i ++ (frame_bytes (joined_frames first parts) ++ [])))
+          concat blocks ++ (i ++ (bytes_of_frames (seamless_frames first parts) ++ [])))
           blocks-are (info-is r front_row.1)
           ∙ ap (λ (fs : List Frame).
           concat (front_blocks file t)
-          ++ (info_frame row.header (info_laid whole file t) ++ (frame_bytes fs ++ []))) frames-are
-          ∙ sym (ap (λ (l : Laid). bare_file l file t) (piece-by file s has span row row-is)
-          ∙ ap (λ o. bare_from o whole file t) row-is)
+          ++ (info_frame row.header (info_laid whole file t) ++ (bytes_of_frames fs ++ [])))
+          frames-are
+          ∙ sym (ap (λ (l : LaidPart). bare_file l file t) (piece-by file s has span row row-is)
+          ∙ ap (λ o. bare_row_file o whole file t) row-is)

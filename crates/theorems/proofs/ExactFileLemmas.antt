@@ -6,53 +6,56 @@ use Rattle.std.proofs.{Common.{◌<◌, ◌∙◌, ◌∷◌, ◌≡◌, ◌≤�
 use Rattle.std.proofs.lemmas.List.{drop-map, length-drop, length-map, length-take-le, take-map}
 use Rattle.std.specs.List.{concat}
 use Rattle.std.specs.Prelude.{if◌then◌else◌, nat_le, nat_lt, option_map, slice_get, slice_range}
-use Rattle.commands.proofs.RefusingLaws.{unless_ok}
-use Rattle.cut_edits.proofs.{ChosenLaws.the-plan, HeadLaws.{apart-had, apart-placed}}
-use Rattle.cut_edits.proofs.PieceLaws.{head_long, plain-long, samples_there, span-there, span_apart}
-use Rattle.cut_edits.proofs.{PieceLaws.span_chosen, SealedLaws.for-whole}
-use Rattle.cut_edits.{proofs.SpanLaws.{led-is, with-fitting}, specs.Chosen.Chosen}
-use Rattle.cut_edits.specs.Exact.{apart, IsSpanIn, laid_span, leads_in, needs_in, piece_of}
-use Rattle.cut_edits.specs.Exact.{plan_with, samples_fault, sealed_from, span_in}
-use Rattle.exact_span.proofs.SealLaws.{sealed-whole}
-use Rattle.exact_span.specs.Extensions.{counts_of, counts_with, delay_in, has_encoder, padding_in}
-use Rattle.exact_span.specs.Laws.{IsHeadOf}
-use Rattle.exact_span.specs.PlayedPositions.{counted_by, counted_of, length_of_played, played_by}
-use Rattle.exact_span.specs.{PlayedPositions.{played_of, samples_in}, Spans.span_of}
+use Rattle.commands.proofs.RefusingLemmas.{unless_ok}
+use Rattle.cut_edits.proofs.{ChosenLemmas.the-plan, HeadLemmas.{apart-had, apart-placed}}
+use Rattle.cut_edits.proofs.PieceLemmas.{head_long, plain-long, samples_there, span-there}
+use Rattle.cut_edits.proofs.{PieceLemmas.{span_apart, span_chosen}, SealedLemmas.for-whole}
+use Rattle.cut_edits.{proofs.SpanLemmas.{led-is, with-fitting}, specs.Chosen.Chosen}
+use Rattle.cut_edits.specs.Exact.{file_span, IsSpanIn, row_sealed_part, samples_fault}
+use Rattle.cut_edits.specs.Exact.{span_lead_ins, span_needs, span_part, span_piece, span_plan}
+use Rattle.cut_edits.specs.Exact.{survey_without_head}
+use Rattle.exact_span.proofs.SealLemmas.{sealed-whole}
+use Rattle.exact_span.specs.Extensions.{counts_of, counts_with_frames, delay_in, has_encoder}
+use Rattle.exact_span.specs.{Extensions.padding_in, Laws.IsPieceHead}
+use Rattle.exact_span.specs.PlayedPositions.{counted_played, counted_positions, length_of_played}
+use Rattle.exact_span.specs.{PlayedPositions.{played_of, played_or_all, samples_in}, Spans.span_of}
 use Rattle.exact_span.specs.{TagWord.sealed_info, declared.exact_place.ExactPlace.ExactPlace}
-use Rattle.exact_span.specs.declared.{extensions.Counts.Counts, span.Span.Span}
+use Rattle.exact_span.specs.declared.{extensions.HeadCounts.HeadCounts, span.Span.Span}
 use Rattle.frame_header.specs.{Fields.ClassFields, Tables.window_of}
 use Rattle.info_header.specs.declared.fields.Info.{Info}
-use Rattle.join_edits.specs.Seamless.{head_of, sound_of}
-use Rattle.laying.proofs.{HoldLaws.blocks-kept, LaidLaws.first-there, PlacesLaws.range-whole}
-use Rattle.laying.specs.{Fits.IsFitting, KeptFields.fields_of_head}
-use Rattle.laying.specs.Laid.{file_from, file_laid, frames_laid, info_laid, Laid}
-use Rattle.laying.specs.{LaidFiles.{head_at, IsBlocks, laid_file}, Needs.need_of}
-use Rattle.laying.specs.{NeedsFit.own_choice, Relaid.Part, Surveys.HasSurvey}
+use Rattle.join_edits.specs.Seamless.{part_head, sound_of}
+use Rattle.laying.proofs.{HoldLemmas.blocks-kept, LaidLemmas.first-there, PlacesLemmas.range-whole}
+use Rattle.laying.specs.{Fits.IsFittingPlan, KeptFields.fields_of_head}
+use Rattle.laying.specs.Laid.{file_laid, file_with_first, frames_laid, info_laid, LaidPart}
+use Rattle.laying.specs.{LaidFiles.{AreBlocks, head_at, laid_file}, Needs.need_of}
+use Rattle.laying.specs.{NeedsFit.own_choice, Relaid.FilePart, Surveys.CanBeRelaid}
 use Rattle.laying.specs.Written.{back_blocks, front_blocks, head_info}
-use Rattle.pack_edits.proofs.LimitLaws.{few-rows}
-use Rattle.seam_plan.proofs.{FitLaws.fits-tested, FollowLaws.sounds}
-use Rattle.seam_plan.specs.{Frames.{Frame as RunFrame, needs_of as run_needs}, Joins.fits_behind}
-use Rattle.slot_plan.{proofs.OwnLeadIn.lead-where-wanted, specs.Laws.{AreLed, AreOwn}}
-use Rattle.slot_plan.specs.{Plans.IsLedPlan, declared.needs.{Need.Need, Placed.Placed}}
+use Rattle.pack_edits.proofs.LimitLemmas.{few-rows}
+use Rattle.seam_plan.proofs.{FitLemmas.fits-tested, FollowLemmas.sounds}
+use Rattle.seam_plan.specs.{Frames.{needs_of, RunFrame}, Joins.fits_behind}
+use Rattle.slot_plan.proofs.OwnLeadInLemmas.{lead-where-wanted}
+use Rattle.slot_plan.specs.{Laws.{AreInOwnSlots, AreLedInOwnSlots}, Plans.IsLedPlan}
+use Rattle.slot_plan.specs.declared.needs.{Need.Need, Placed.Placed}
 use Rattle.split_edits.specs.Recording.{input_played, sample_named}
-use Rattle.sync_survey.proofs.FaultsLaws.{marked-length}
-use Rattle.sync_survey.proofs.SurveyParts.{all_faults-none_sound, frames_from, surveyed-parts}
-use Rattle.sync_survey.specs.Faults.{class_from, surveyed, SurveyFields}
-use Rattle.sync_survey.specs.{MainData.{rows_of, StreamFrame}, Row.Row, Walk.head_of as head_found}
+use Rattle.sync_survey.proofs.FaultsLemmas.{marked-length}
+use Rattle.sync_survey.proofs.SurveyPartsLemmas.{all_faults-none_sound, frames_from, surveyed-parts}
+use Rattle.sync_survey.specs.Faults.{class_from, survey_fields, SurveyFields}
+use Rattle.sync_survey.specs.{MainData.{rows_of, StreamFrame}, Row.Row, Walk.head_of}
 use Rattle.theorems.proofs.LaidInputLemmas.{brings-led, brings-own, BringsLed, BringsOwn}
 use Rattle.theorems.proofs.LaidInputLemmas.{class-same, frames-same, head-is}
-use Rattle.theorems.proofs.{LedPlanLemmas.led-as, SeamlessInputs.IsInput, SeamlessRun.own-many}
-use Rattle.theorems.proofs.SplitJoin.{all_stream, between-needs, between-sounds, run_between}
-use Rattle.theorems.proofs.SplitJoin.{stream-many}
+use Rattle.theorems.proofs.{LedPlanLemmas.led-as, SeamlessInputLemmas.IsInput}
+use Rattle.theorems.proofs.SeamlessRunLemmas.{own-many}
+use Rattle.theorems.proofs.SplitJoinLemmas.{all_stream, between-needs, between-sounds, run_between}
+use Rattle.theorems.proofs.SplitJoinLemmas.{stream-many}
 
 -- ---- how many frames there are
 
 -- a survey has no more frames than are allowed
-pub frames-few : (file : List ℕ) (allowed : ℕ) (s : SurveyFields) → surveyed file allowed ≡ Ok s
-    → length s.frames ≤ allowed
+pub frames-few : (file : List ℕ) (allowed : ℕ) (s : SurveyFields)
+    → survey_fields file allowed ≡ Ok s → length s.frames ≤ allowed
 frames-few file allowed s e =
     let parts = surveyed-parts file allowed s e in
-    let head = head_found file parts.0.first in
+    let head = head_of file parts.0.first in
     let rows = rows_of file (frames_from file parts.0) in
     omega (
       arith,
@@ -66,16 +69,16 @@ frames-few file allowed s e =
 
 counts-there : (fields : Info) (many : ℕ) → fields.frames ≡ Some many → 1 ≤ many
     → IsTrue (has_encoder fields.extension)
-    → (counts : Counts) × (counts_of (Some fields) ≡ Some counts)
+    → (counts : HeadCounts) × (counts_of (Some fields) ≡ Some counts)
 counts-there fields many is some encoder =
-    let counts : Counts =
+    let counts : HeadCounts =
     record {
       frames = many;
       delay = delay_in fields.extension;
       padding = padding_in fields.extension;
     } in (
       counts,
-      ap (counts_with fields) is
+      ap (counts_with_frames fields) is
           ∙ ap (λ b. if b && has_encoder fields.extension then Some counts else None)
           (le-leb 1 many some)
           ∙ ap (λ b. if true && b then Some counts else None) encoder,
@@ -83,28 +86,28 @@ counts-there fields many is some encoder =
 
 -- a head of a span counts what is played by it
 pub counted-is : (class : ClassFields) (leads : ℕ) (span : Span) (fields : Info) (frames : ℕ)
-    → span.first < span.last → IsHeadOf class leads span fields
-    → counted_of (Some fields) class frames ≡ Some (played_of (Some fields) class frames)
-unfolding counted_of played_of
+    → span.first < span.last → IsPieceHead class leads span fields
+    → counted_positions (Some fields) class frames ≡ Some (played_of (Some fields) class frames)
+unfolding counted_positions played_of
 counted-is class leads span fields frames some is =
     let counts =
     counts-there fields (leads + (span.last - span.first)) is.frames (omega (arith, some))
     is.numbers.encoder in
-    ap (option_map (counted_by (samples_in class) frames)) counts.1
-    ∙ ap (λ o. Some (played_by (samples_in class) frames o)) (sym counts.1)
+    ap (option_map (counted_played (samples_in class) frames)) counts.1
+    ∙ ap (λ o. Some (played_or_all (samples_in class) frames o)) (sym counts.1)
 
 -- ---- a span of the recording
 
-module _ (file : List ℕ) (s : SurveyFields) (has : HasSurvey file s) where
+module _ (file : List ℕ) (s : SurveyFields) (has : CanBeRelaid file s) where
   abbrev pub head : Option Info
   head = fields_of_head file s.head
 
   -- the survey whose head is set apart
   abbrev pub own : SurveyFields
-  own = apart s
+  own = survey_without_head s
 
   -- frames can be laid by it
-  pub has-own : HasSurvey file own
+  pub has-own : CanBeRelaid file own
   has-own = apart-had file s has (apart-placed s has.placed)
 
   -- the first position that is played
@@ -116,11 +119,11 @@ module _ (file : List ℕ) (s : SurveyFields) (has : HasSurvey file s) where
   sample place = sample_named file s place
 
   -- what is laid of a span, but for music length and tag CRC
-  abbrev pub plain : Span → Laid
-  plain span = laid_span head span own
+  abbrev pub plain : Span → LaidPart
+  plain span = span_part head span own
 
   -- the same with them, by the row of its first frame
-  abbrev pub laid_by : Span → Row → Laid
+  abbrev pub laid_by : Span → Row → LaidPart
   laid_by span row =
       record (plain span) {
         extension = (sealed_info row.header (info_laid (plain span) file own)).extension;
@@ -128,7 +131,7 @@ module _ (file : List ℕ) (s : SurveyFields) (has : HasSurvey file s) where
 
   -- how many lead-ins it has
   abbrev pub leads : Span → ℕ
-  leads span = leads_in span (plain span).placed
+  leads span = span_lead_ins span (plain span).placed
 
   -- the span between two places: there is a sample, all are played, and its frames are there
   pub record IsFound (from to : ExactPlace) (span : Span) : Type 0 where
@@ -136,12 +139,12 @@ module _ (file : List ℕ) (s : SurveyFields) (has : HasSurvey file s) where
     pub within : sample to ≤ length_of_played (input_played file s)
     pub is : span_of s.class (begin + sample from) (begin + sample to) ≡ span
     pub there : IsSpanIn s span
-    pub found : span_in from to head s ≡ Ok span
+    pub found : file_span from to head s ≡ Ok span
 
   -- a span that is found
-  pub span-found : (from to : ExactPlace) (span : Span) → span_in from to head s ≡ Ok span
+  pub span-found : (from to : ExactPlace) (span : Span) → file_span from to head s ≡ Ok span
       → IsFound from to span
-  unfolding span_in
+  unfolding file_span
   span-found from to span e =
       let samples = length_of_played (input_played file s) in
       let ok = unless_ok (samples_fault (sample from) (sample to) samples)
@@ -162,20 +165,20 @@ module _ (file : List ℕ) (s : SurveyFields) (has : HasSurvey file s) where
     pub row : Row
     pub row_is : slice_get own.frames span.first ≡ Some row
     pub back : List (List ℕ)
-    pub blocks : IsBlocks back
+    pub blocks : AreBlocks back
     pub file_is : bytes
         ≡ laid_file (front_blocks file own) row.header (info_laid (laid_by span row) file own)
         (frames_laid (laid_by span row) file own) back
 
   -- the piece by the row of its first frame
   pub piece-by : (span : Span) (row : Row) → slice_get own.frames span.first ≡ Some row
-      → piece_of head span file own ≡ laid_by span row
-  unfolding piece_of
-  piece-by span row found = ap (λ o. sealed_from o (plain span) file own) found
+      → span_piece head span file own ≡ laid_by span row
+  unfolding span_piece
+  piece-by span row found = ap (λ o. row_sealed_part o (plain span) file own) found
 
   -- a file that was laid is one
   pub laid-exact : (span : Span) → IsSpanIn s span
-      → IsExactFile span (file_laid (piece_of head span file own) file own)
+      → IsExactFile span (file_laid (span_piece head span file own) file own)
   laid-exact span there =
       let inside = span_apart s span there in
       let first = first-there own.frames span.first (omega (arith, inside.some, inside.within)) in
@@ -185,8 +188,8 @@ module _ (file : List ℕ) (s : SurveyFields) (has : HasSurvey file s) where
         back = back_blocks file own;
         blocks = (blocks-kept file own has-own).1;
         file_is =
-            ap (λ (l : Laid). file_laid l file own) (piece-by span first.0 first.1)
-            ∙ ap (λ o. file_from o (laid_by span first.0) file own) first.1;
+            ap (λ (l : LaidPart). file_laid l file own) (piece-by span first.0 first.1)
+            ∙ ap (λ o. file_with_first o (laid_by span first.0) file own) first.1;
       }
 
   -- ---- the frames of the recording
@@ -200,7 +203,7 @@ module _ (file : List ℕ) (s : SurveyFields) (has : HasSurvey file s) where
   range-map f from to xs =
       sym (ap (take (to - from)) (drop-map f from xs) ∙ take-map f (to - from) (drop from xs))
 
-  all-needs : run_needs all_run ≡ map need_of own.frames
+  all-needs : needs_of all_run ≡ map need_of own.frames
   all-needs =
       between-needs file own has-own 0 (length own.frames)
       ∙ ap (map need_of) (range-whole own.frames)
@@ -239,7 +242,7 @@ module _ (file : List ℕ) (s : SurveyFields) (has : HasSurvey file s) where
     window = window_of s.class.version
 
     abbrev needs : List Need
-    needs = needs_in span own
+    needs = span_needs span own
 
     abbrev placed : List Placed
     placed = (plain span).placed
@@ -251,7 +254,7 @@ module _ (file : List ℕ) (s : SurveyFields) (has : HasSurvey file s) where
     inside = span_apart s span there
 
     -- it can be laid
-    pub span-fitting : IsFitting window needs placed
+    pub span-fitting : IsFittingPlan window needs placed
     span-fitting = with-fitting chosen own has-own.placed inside.some inside.within span.led
 
     -- its extension is whole
@@ -271,24 +274,25 @@ module _ (file : List ℕ) (s : SurveyFields) (has : HasSurvey file s) where
     -- Either its frames are in their own slots without a lead-in, where it doesn't have to have one
     -- and they fit behind no bytes; or they are after their lead-in, where one of these isn't so.
     abbrev pub IsLaidOwn : Type 0
-    IsLaidOwn = AreOwn needs placed × (span.led ≡ false) × (fits_behind window 0 needs ≡ true)
+    IsLaidOwn =
+        AreInOwnSlots needs placed × (span.led ≡ false) × (fits_behind window 0 needs ≡ true)
 
     abbrev pub IsLaidLed : Type 0
     IsLaidLed =
-        AreLed window needs placed
+        AreLedInOwnSlots window needs placed
         × ((span.led ≡ true) ⊎ ((span.led ≡ false) × (fits_behind window 0 needs ≡ false)))
 
     led-by : (needs : List Need) (ps : List Placed) → 0 < length needs
-        → IsLedPlan window own_choice needs ps → AreLed window needs ps
+        → IsLedPlan window own_choice needs ps → AreLedInOwnSlots window needs ps
     led-by [] ps some plan = absurd (omega (arith, some))
     led-by (first ∷ needs) ps some plan = (led-as window first needs ps plan).led
 
     abbrev placed_if : Bool → List Placed
-    placed_if led = plan_with led s.class needs
+    placed_if led = span_plan led s.class needs
 
-    laid-ways : (led : Bool) (fits : Bool) → fits_behind window 0 needs ≡ fits
-        → (AreOwn needs (placed_if led) × (led ≡ false) × (fits_behind window 0 needs ≡ true))
-        ⊎ (AreLed window needs (placed_if led)
+    laid-ways : (led : Bool) (fits : Bool) → fits_behind window 0 needs ≡ fits →
+        (AreInOwnSlots needs (placed_if led) × (led ≡ false) × (fits_behind window 0 needs ≡ true))
+        ⊎ (AreLedInOwnSlots window needs (placed_if led)
         × ((led ≡ true) ⊎ ((led ≡ false) × (fits_behind window 0 needs ≡ false))))
     laid-ways true fits test =
         inr (
@@ -320,9 +324,9 @@ module _ (file : List ℕ) (s : SurveyFields) (has : HasSurvey file s) where
     pub span-ways : IsLaidOwn ⊎ IsLaidLed
     span-ways = laid-ways span.led (fits_behind window 0 needs) refl
 
-    led-more : (needs : List Need) (ps : List Placed) → AreLed window needs ps
+    led-more : (needs : List Need) (ps : List Placed) → AreLedInOwnSlots window needs ps
         → length ps ≡ length needs + 1
-    unfolding AreLed
+    unfolding AreLedInOwnSlots
     led-more [] ps led = absurd led
     led-more (need ∷ needs) [] led = absurd led
     led-more (need ∷ needs) (p ∷ ps) led = omega (arith, own-many (need ∷ needs) ps led.2)
@@ -337,7 +341,7 @@ module _ (file : List ℕ) (s : SurveyFields) (has : HasSurvey file s) where
 
     -- ---- its file as an input
 
-    module _ (back : List (List ℕ)) (blocks : IsBlocks back) (c : ClassFields) (p : Part)
+    module _ (back : List (List ℕ)) (blocks : AreBlocks back) (c : ClassFields) (p : FilePart)
         (is : IsInput c p)
         (same_file : p.file
         ≡ laid_file (front_blocks file own) row.header (info_laid (laid_by span row) file own)
@@ -360,13 +364,13 @@ module _ (file : List ℕ) (s : SurveyFields) (has : HasSurvey file s) where
           span-long row row_is back blocks c p is same_file
 
       -- in the first way it brings the frames of the span
-      pub span-own : AreOwn needs placed → BringsOwn c p is run stream
+      pub span-own : AreInOwnSlots needs placed → BringsOwn c p is run stream
       span-own in_own =
           brings-own (laid_by span row) file own has-own inside.some inside.within span-fitting
           span-long row row_is back blocks c p is same_file in_own
 
       -- in the second it brings them after its lead-in
-      pub span-led : AreLed window needs placed → BringsLed c p is run stream
+      pub span-led : AreLedInOwnSlots window needs placed → BringsLed c p is run stream
       span-led led =
           brings-led (laid_by span row) file own has-own inside.some inside.within span-fitting
           span-long row row_is back blocks c p is same_file led
@@ -375,7 +379,7 @@ module _ (file : List ℕ) (s : SurveyFields) (has : HasSurvey file s) where
       read = head_info made (Some (head_at (length (concat (front_blocks file own))) row.header))
 
       -- the fields of its head
-      pub span-head : head_of p ≡ Some read
+      pub span-head : part_head p ≡ Some read
       span-head =
           ap (fields_of_head p.file)
           (head-is (laid_by span row) file own has-own inside.some inside.within span-fitting

@@ -2,17 +2,18 @@
 use Rattle.std.proofs.Common.{ap, ap₂, Bool, false, length, List, map, None, not, Ok, Some, subst}
 use Rattle.std.proofs.Common.{sym, true, zip, ℕ, [], ◌&&◌, ◌++◌, ◌==◌, ◌∙◌, ◌∷◌, ◌≡◌, ◌≤◌}
 use Rattle.std.{proofs.lemmas.Bool.and_parts, specs.{List.list_all, Prelude.slice_range}}
-use Rattle.commands.specs.{One.most_frames, Refusing.then_made}
-use Rattle.cut_edits.specs.Exact.{apart, exact_laid, piece_of}
+use Rattle.commands.specs.{Refusing.then_made, SingleOutput.most_frames}
+use Rattle.cut_edits.specs.Exact.{exact_part, span_piece, survey_without_head}
 use Rattle.exact_span.specs.declared.exact_place.ExactPlace.{ExactPlace}
 use Rattle.frame_header.specs.{Fields.IsClass, Tables.window_of}
-use Rattle.join_edits.{proofs.RunPlans.front-within, specs.Seamless.{brought_by, joined_by}}
-use Rattle.laying.proofs.{ChosenFrames.survey-had, LaidLaws.first-there}
-use Rattle.laying.specs.{Laid.{file_laid, Laid}, Relaid.Part, Surveys.HasSurvey}
+use Rattle.join_edits.proofs.RunPartLemmas.{front-within}
+use Rattle.join_edits.specs.Seamless.{join_of_parts, part_brought}
+use Rattle.laying.proofs.{LaidLemmas.first-there, SurveyFrameLemmas.survey-had}
+use Rattle.laying.specs.{Laid.{file_laid, LaidPart}, Relaid.FilePart, Surveys.CanBeRelaid}
 use Rattle.seam_plan.specs.Joins.{has_lead_in}
-use Rattle.split_edits.proofs.RecordingLaws.{pieces-recording}
-use Rattle.split_edits.specs.Recording.{leads_laid, PlayInTurn}
-use Rattle.sync_survey.{proofs.SurveyedFiles.survey_of-parts, specs.Faults.SurveyFields}
+use Rattle.split_edits.proofs.RecordingLemmas.{pieces-recording}
+use Rattle.split_edits.specs.Recording.{piece_lead_ins, PlayInTurn}
+use Rattle.sync_survey.{proofs.SurveyedFileLemmas.survey_of-parts, specs.Faults.SurveyFields}
 use Rattle.sync_survey.specs.MainData.{StreamFrame}
 use Rattle.theorems.proofs.ExactCutLemmas.{cut-file, is-same}
 use Rattle.theorems.proofs.ExactFileLemmas.{frames-few, head, IsExactFile, laid-exact, laid_by}
@@ -22,18 +23,19 @@ use Rattle.theorems.proofs.ExactNumberLemmas.{padding-is, padding-least, padding
 use Rattle.theorems.proofs.ExactNumberLemmas.{whole-files, whole-first, whole-is, whole-last}
 use Rattle.theorems.proofs.{ExactNumberLemmas.whole_span, ExactReadLemmas.read-plays}
 use Rattle.theorems.proofs.ExactRunLemmas.{all-follow, AreExactFiles, first_leads, IsJoined}
-use Rattle.theorems.proofs.{ExactRunLemmas.{joined-is, st}, SeamlessInputs.{AreInputs, inputs-are}}
-use Rattle.theorems.proofs.{SplitJoin.{not-true, parts-files}, SplitLaw.class-of}
+use Rattle.theorems.proofs.ExactRunLemmas.{joined-is, st}
+use Rattle.theorems.proofs.SeamlessInputLemmas.{AreInputs, inputs-are}
+use Rattle.theorems.proofs.{SplitJoinLemmas.{not-true, parts-files}, SplitLemmas.class-of}
 use Rattle.theorems.specs.SeamlessLaws.{ExactSplitThenSeamlessJoin, has_no_look_alike, HasTheSpan}
 use Rattle.theorems.specs.SeamlessLaws.{is_look_alike, last_place, PlaysTheSpan}
 
-module _ (file : List ℕ) (s : SurveyFields) (has : HasSurvey file s)
+module _ (file : List ℕ) (s : SurveyFields) (has : CanBeRelaid file s)
     (few : length s.frames ≤ most_frames) where
   -- parts whose files are those of pieces laid are files from each place to the next
-  pub exact-files : (from : ExactPlace) (tos : List ExactPlace) (laid : List Laid)
-      (parts : List Part) → PlayInTurn file s from tos laid
-      → map (λ (p : Part). Some p.file) parts
-      ≡ map (λ (l : Laid). Some (file_laid l file (apart s))) laid
+  pub exact-files : (from : ExactPlace) (tos : List ExactPlace) (laid : List LaidPart)
+      (parts : List FilePart) → PlayInTurn file s from tos laid
+      → map (λ (p : FilePart). Some p.file) parts
+      ≡ map (λ (l : LaidPart). Some (file_laid l file (survey_without_head s))) laid
       → AreExactFiles file s has few from tos parts
   exact-files from [] [] [] are same = tt
   exact-files from [] [] (p ∷ parts) are same = absurd cc
@@ -41,45 +43,48 @@ module _ (file : List ℕ) (s : SurveyFields) (has : HasSurvey file s)
   exact-files from (to ∷ tos) [] parts are same = absurd are
   exact-files from (to ∷ tos) (l ∷ laid) [] are same = absurd cc
   exact-files from (to ∷ tos) (l ∷ laid) (p ∷ parts) are same =
-      let here : p.file ≡ file_laid l file (apart s) = cc in
-      let more : map (λ (p : Part). Some p.file) parts
-      ≡ map (λ (l : Laid). Some (file_laid l file (apart s))) laid = cc in
+      let here : p.file ≡ file_laid l file (survey_without_head s) = cc in
+      let more : map (λ (p : FilePart). Some p.file) parts
+      ≡ map (λ (l : LaidPart). Some (file_laid l file (survey_without_head s))) laid = cc in
       let is = are.0 in
       let found = span-found file s has from to is.span is.found in (
         (
           is.span,
           found,
           subst (IsExactFile file s has is.span)
-              (sym (here ∙ ap (λ (l : Laid). file_laid l file (apart s)) is.is))
+              (sym (here ∙ ap (λ (l : LaidPart). file_laid l file (survey_without_head s)) is.is))
               (laid-exact file s has is.span found.there),
         ),
         exact-files to tos laid parts are.1 more,
       )
 
   -- where the first piece doesn't begin with a look-alike, it has no lead-in that it wasn't given
-  none-alike : (from to : ExactPlace) (tos : List ExactPlace) (laid : List Laid) (first : Part)
-      (parts : List Part) (are : PlayInTurn file s from (to ∷ tos) laid)
-      (same : map (λ (p : Part). Some p.file) (first ∷ parts)
-      ≡ map (λ (l : Laid). Some (file_laid l file (apart s))) laid)
+  none-alike : (from to : ExactPlace) (tos : List ExactPlace) (laid : List LaidPart)
+      (first : FilePart)
+      (parts : List FilePart) (are : PlayInTurn file s from (to ∷ tos) laid)
+      (same : map (λ (p : FilePart). Some p.file) (first ∷ parts)
+      ≡ map (λ (l : LaidPart). Some (file_laid l file (survey_without_head s))) laid)
       → has_no_look_alike laid (first ∷ []) ≡ true
       → leads file s has (exact-files from (to ∷ tos) laid (first ∷ parts) are same).0.0 ≡ 0
-      → has_lead_in (window_of first.survey.class.version) (brought_by first) ≡ false
+      → has_lead_in (window_of first.survey.class.version) (part_brought first) ≡ false
   unfolding exact-files
   none-alike from to tos [] first parts are same none no_leads = absurd are
   none-alike from to tos (l ∷ laid) first parts are same none no_leads =
-      let has_one : Bool = has_lead_in (window_of first.survey.class.version) (brought_by first) in
+      let has_one : Bool =
+      has_lead_in (window_of first.survey.class.version) (part_brought first) in
       let files = exact-files from (to ∷ tos) (l ∷ laid) (first ∷ parts) are same in
       let row = files.0.2.row in
       let by : l ≡ laid_by file s has files.0.0 row =
       are.0.is ∙ piece-by file s has files.0.0 row files.0.2.row_is in
-      let many : leads_laid l ≡ 0 = ap leads_laid by ∙ no_leads in
-      let others = list_all (λ (p : Laid × Part). not (is_look_alike p.0 p.1)) (zip laid []) in
+      let many : piece_lead_ins l ≡ 0 = ap piece_lead_ins by ∙ no_leads in
+      let others =
+      list_all (λ (p : LaidPart × FilePart). not (is_look_alike p.0 p.1)) (zip laid []) in
       let alike : is_look_alike l first ≡ false =
       not-true (is_look_alike l first) (and_parts (not (is_look_alike l first)) others none).0 in
       sym (ap (λ n. n == 0 && has_one) many) ∙ alike
 
   module _ (known : IsClass s.class) (place next : ExactPlace) (places : List ExactPlace)
-      (first : Part) (parts : List Part)
+      (first : FilePart) (parts : List FilePart)
       (inputs : AreInputs first.survey.class (first ∷ parts))
       (files : AreExactFiles file s has few place (next ∷ places) (first ∷ parts)) where
     abbrev joined : IsJoined file s has few known place next places first parts inputs files
@@ -103,13 +108,14 @@ module _ (file : List ℕ) (s : SurveyFields) (has : HasSurvey file s)
     }
 
     -- what is cut from the first place to the last
-    whole-laid : exact_laid place (last_place next places) file s
-        ≡ Ok (piece_of (head file s has)
+    whole-laid : exact_part place (last_place next places) file s
+        ≡ Ok (span_piece (head file s has)
         (whole_span file s has few known place next places first parts inputs files) file
-        (apart s))
-    unfolding exact_laid
+        (survey_without_head s))
+    unfolding exact_part
     whole-laid =
-        ap (λ r. then_made r (λ span. Ok (piece_of (head file s has) span file (apart s))))
+        ap (λ r. then_made r
+        (λ span. Ok (span_piece (head file s has) span file (survey_without_head s))))
         (whole-is file s has few known place next places first parts inputs files)
 
     plays-span : PlaysTheSpan place (last_place next places) file s first parts
@@ -117,7 +123,7 @@ module _ (file : List ℕ) (s : SurveyFields) (has : HasSurvey file s)
         (whole_span file s has few known place next places first parts inputs files)
     plays-span =
         let front =
-        first-there first.survey.frames (joined_by first parts).front
+        first-there first.survey.frames (join_of_parts first parts).front
         (front-within first parts (whole-file first.survey.class first inputs.0)
         (whole-files first.survey.class parts inputs.1)) in
         let padding = padding-is file s has few known place next places first parts inputs files in
@@ -149,8 +155,8 @@ exact-joins points file s place next places laid first parts read e inputs =
     let are = inputs-are inputs.files inputs.inputs first parts inputs.taken in
     let turns =
     (pieces-recording points file s place (next ∷ places) laid read e).each in
-    let same : map (λ (p : Part). Some p.file) (first ∷ parts)
-    ≡ map (λ (l : Laid). Some (file_laid l file (apart s))) laid =
+    let same : map (λ (p : FilePart). Some p.file) (first ∷ parts)
+    ≡ map (λ (l : LaidPart). Some (file_laid l file (survey_without_head s))) laid =
     sym (parts-files inputs.files 0 None most_frames inputs.inputs (first ∷ parts) inputs.taken)
     ∙ inputs.are in
     let files = exact-files file s has few place (next ∷ places) laid (first ∷ parts) turns same in
@@ -159,9 +165,9 @@ exact-joins points file s place next places laid first parts read e inputs =
       samples = plays-span file s has few known place next places first parts are files;
       cut = record {
         whole =
-            piece_of (head file s has)
+            span_piece (head file s has)
             (whole_span file s has few known place next places first parts are files) file
-            (apart s);
+            (survey_without_head s);
         is = whole-laid file s has few known place next places first parts are files;
         same = λ none.
             cut-file file s has few known place next places first parts are files

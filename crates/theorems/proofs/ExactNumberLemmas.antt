@@ -9,29 +9,31 @@ use Rattle.std.proofs.lemmas.List.{length-map, length-replicate, length-take-le,
 use Rattle.std.{proofs.lemmas.List.take-take, specs.List.list_all}
 use Rattle.std.specs.Prelude.{bytes_eq, codes, if◌then◌else◌, nat_le, nat_lt, option_and_then}
 use Rattle.std.specs.Prelude.{slice_range, ◌||◌}
-use Rattle.commands.specs.{One.most_frames, Refusing.unless}
+use Rattle.commands.specs.{Refusing.refusal_or, SingleOutput.most_frames}
 use Rattle.commands.specs.declared.fault.Refusal.TheVariants.{Span as NoSpan}
-use Rattle.cut_edits.proofs.{PieceLaws.span_apart, SealedLaws.for-whole}
-use Rattle.cut_edits.specs.Exact.{quality_of, span_in}
-use Rattle.exact_span.proofs.ExtensionLaws.{extension-length, extension-says}
-use Rattle.exact_span.proofs.{SealLaws.frames-sealed, SpanLaws.span-in_range}
+use Rattle.cut_edits.proofs.{PieceLemmas.span_apart, SealedLemmas.for-whole}
+use Rattle.cut_edits.specs.Exact.{file_span, quality_of}
+use Rattle.exact_span.proofs.ExtensionLemmas.{extension-length, extension-says}
+use Rattle.exact_span.proofs.{SealLemmas.frames-sealed, SpanLemmas.span-in_range}
 use Rattle.exact_span.specs.Extensions.{extension_of, has_encoder}
-use Rattle.exact_span.specs.Laws.{IsHeadOf, KeepsPlaces, SaysNumbers}
+use Rattle.exact_span.specs.Laws.{IsPieceHead, KeepsPlaces, SaysNumbers}
 use Rattle.exact_span.specs.PlayedPositions.{decoder_delay, length_of_played, played_of, rest_of}
 use Rattle.exact_span.specs.PlayedPositions.{samples_in}
-use Rattle.exact_span.specs.Spans.{AreLeads, delay_of, first_frame, frames_before, padding_of}
-use Rattle.exact_span.specs.{Spans.span_of, declared.exact_place.ExactPlace.ExactPlace}
+use Rattle.exact_span.specs.Spans.{AreLeads, delay_of, frames_before, padding_of, span_of}
+use Rattle.exact_span.specs.{Spans.warm_up_frame, declared.exact_place.ExactPlace.ExactPlace}
 use Rattle.exact_span.specs.declared.{played.Played.Played, span.Span.Span}
 use Rattle.frame_header.specs.{Fields.{ClassFields, IsClass}, Tables.samples_of}
 use Rattle.frame_header.specs.declared.version.Version.{Version, TheVariants.{One, Two, TwoFive}}
 use Rattle.info_header.specs.declared.fields.Info.{Info}
-use Rattle.join_edits.proofs.NumberLaws.{rest-counted}
-use Rattle.join_edits.proofs.RunPlans.{AreWholeFiles, IsWholeFile, run-laid}
-use Rattle.join_edits.specs.Seamless.{delay_by, delay_of_run, head_of, info_with, joined_by}
-use Rattle.join_edits.specs.Seamless.{joined_frames, last_of, leads_of, padding_by, replay_gain}
-use Rattle.join_edits.specs.Seamless.{rest_in, run_extension, says_gain, seamless_stream}
-use Rattle.laying.specs.{LaidFiles.entry_of, Relaid.Part, Surveys.HasSurvey, Written.info_for}
-use Rattle.seam_plan.specs.Frames.{Frame as RunFrame}
+use Rattle.join_edits.proofs.NumberLemmas.{rest-counted}
+use Rattle.join_edits.proofs.RunPartLemmas.{AreWholeFiles, IsWholeFile, run-laid}
+use Rattle.join_edits.specs.Seamless.{delay_of_run, join_of_parts, last_part, part_head, part_rest}
+use Rattle.join_edits.specs.Seamless.{part_says_gain, replay_gain, run_extension, run_lead_ins}
+use Rattle.join_edits.specs.Seamless.{seamless_delay, seamless_frames, seamless_info}
+use Rattle.join_edits.specs.Seamless.{seamless_padding, seamless_stream}
+use Rattle.laying.specs.{LaidFiles.stream_entry, Relaid.FilePart, Surveys.CanBeRelaid}
+use Rattle.laying.specs.Written.{info_for}
+use Rattle.seam_plan.specs.Frames.{RunFrame}
 use Rattle.split_edits.specs.Recording.{input_played}
 use Rattle.sync_survey.specs.{Faults.SurveyFields, MainData.StreamFrame, Row.Row}
 use Rattle.theorems.proofs.ExactFileLemmas.{all_run, has-own, head, IsFound, leads, own, sample}
@@ -41,8 +43,8 @@ use Rattle.theorems.proofs.ExactRunLemmas.{IsPiece, joined-is, position, st}
 use Rattle.theorems.proofs.ExactSpanLemmas.{first-before, first-is, has-span, HasSpan, input-class}
 use Rattle.theorems.proofs.ExactSpanLemmas.{last-is, leads-are, places-of, read, read-extension}
 use Rattle.theorems.proofs.ExactSpanLemmas.{read-is}
-use Rattle.theorems.proofs.SeamlessInputs.{AreInputs, brought-many, IsInput}
-use Rattle.theorems.{proofs.SplitJoin.stream-many, specs.SeamlessLaws.last_place}
+use Rattle.theorems.proofs.SeamlessInputLemmas.{AreInputs, brought-many, IsInput}
+use Rattle.theorems.{proofs.SplitJoinLemmas.stream-many, specs.SeamlessLaws.last_place}
 
 -- ---- an extension without peak and gains
 
@@ -138,7 +140,7 @@ rest-same TwoFive frames leads from to end q same ends some most =
     omega (arith, same, ends, some, most)
 
 from-is : (class : ClassFields) (p q : ℕ)
-    → (span_of class p q).from ≡ p - first_frame (samples_in class) p * samples_in class
+    → (span_of class p q).from ≡ p - warm_up_frame (samples_in class) p * samples_in class
 unfolding span_of
 from-is class p q = refl
 
@@ -152,7 +154,7 @@ unfolding span_of
 led-is class p q = refl
 
 -- a whole file as the planner has it
-pub whole-file : (c : ClassFields) (p : Part) → IsInput c p → IsWholeFile c p
+pub whole-file : (c : ClassFields) (p : FilePart) → IsInput c p → IsWholeFile c p
 whole-file c p is = record {
   had = is.has;
   same = is.of_class;
@@ -162,17 +164,18 @@ whole-file c p is = record {
 }
 
 -- so is each of them
-pub whole-files : (c : ClassFields) (parts : List Part) → AreInputs c parts → AreWholeFiles c parts
+pub whole-files : (c : ClassFields) (parts : List FilePart) → AreInputs c parts
+    → AreWholeFiles c parts
 whole-files c [] are = tt
 whole-files c (p ∷ parts) are = (whole-file c p are.0, whole-files c parts are.1)
 
 -- ---- one piece after another
 
-module _ (file : List ℕ) (s : SurveyFields) (has : HasSurvey file s)
+module _ (file : List ℕ) (s : SurveyFields) (has : CanBeRelaid file s)
     (few : length s.frames ≤ most_frames) where
-  piece-rest : (c : ClassFields) (from to : ExactPlace) (p : Part) (is : IsInput c p)
+  piece-rest : (c : ClassFields) (from to : ExactPlace) (p : FilePart) (is : IsInput c p)
       → IsPiece file s has few from to p
-      → rest_in p ≡ ended_at file s has few to * samples_in s.class - position file s has few to
+      → part_rest p ≡ ended_at file s has few to * samples_in s.class - position file s has few to
   piece-rest c from to p is piece =
       let n : ℕ = length p.survey.frames in
       let run : List RunFrame = all_run file s has in
@@ -190,17 +193,17 @@ module _ (file : List ℕ) (s : SurveyFields) (has : HasSurvey file s)
       sp.to_is
       ∙ last-is s.class (position file s has few from) (position file s has few to) piece.0
       piece.1.is in
-      rest-counted (head_of p) p.survey.class n sp.spans.played (sym sp.spans.counted)
+      rest-counted (part_head p) p.survey.class n sp.spans.played (sym sp.spans.counted)
       ∙ ap (λ (d : ClassFields). rest_of d n sp.spans.played) class
       ∙ rest-same s.class.version n (length sp.spans.lead_ins) sp.spans.from sp.spans.to
       sp.spans.played.end (position file s has few to) many sp.spans.ended sp.spans.some
       sp.spans.behind
       ∙ ap (λ k. k * samples_in s.class - position file s has few to) ends
 
-  last-rest : (c : ClassFields) (from to : ExactPlace) (p : Part) (is : IsInput c p)
-      → IsPiece file s has few from to p → (tos : List ExactPlace) (parts : List Part)
+  last-rest : (c : ClassFields) (from to : ExactPlace) (p : FilePart) (is : IsInput c p)
+      → IsPiece file s has few from to p → (tos : List ExactPlace) (parts : List FilePart)
       → AreInputs c parts → AreExactFiles file s has few to tos parts
-      → rest_in (last_of p parts)
+      → part_rest (last_part p parts)
       ≡ ended_at file s has few (last_place to tos) * samples_in s.class
       - position file s has few (last_place to tos)
   last-rest c from to p is piece [] [] are files = piece-rest c from to p is piece
@@ -210,8 +213,8 @@ module _ (file : List ℕ) (s : SurveyFields) (has : HasSurvey file s)
       last-rest c to next q are.0 files.0 tos parts are.1 files.1
 
   -- the samples rise, and all are played
-  places-within : (from to : ExactPlace) (p : Part) → IsPiece file s has few from to p
-      → (tos : List ExactPlace) (parts : List Part) → AreExactFiles file s has few to tos parts
+  places-within : (from to : ExactPlace) (p : FilePart) → IsPiece file s has few from to p
+      → (tos : List ExactPlace) (parts : List FilePart) → AreExactFiles file s has few to tos parts
       → (sample file s has from < sample file s has (last_place to tos))
       × (sample file s has (last_place to tos) ≤ length_of_played (input_played file s))
   places-within from to p piece [] [] files = (piece.1.some, piece.1.within)
@@ -224,22 +227,22 @@ module _ (file : List ℕ) (s : SurveyFields) (has : HasSurvey file s)
   -- the span of two places whose samples rise and are played
   span-of-places : (from to : ExactPlace) → sample file s has from < sample file s has to
       → sample file s has to ≤ length_of_played (input_played file s)
-      → span_in from to (head file s has) s
+      → file_span from to (head file s has) s
       ≡ Ok (span_of s.class (position file s has few from) (position file s has few to))
-  unfolding span_in
+  unfolding file_span
   span-of-places from to some most =
       let a : ℕ = sample file s has from in
       let b : ℕ = sample file s has to in
       let n : ℕ = length_of_played (input_played file s) in
-      ap (λ t. unless (if t then None else Some (NoSpan a b n))
+      ap (λ t. refusal_or (if t then None else Some (NoSpan a b n))
       (span_of s.class (position file s has few from) (position file s has few to)))
       (and_from (nat_lt a b) (nat_le b n) (lt-ltb a b some) (le-leb b n most))
 
 -- ---- the join
 
-module _ (file : List ℕ) (s : SurveyFields) (has : HasSurvey file s)
+module _ (file : List ℕ) (s : SurveyFields) (has : CanBeRelaid file s)
     (few : length s.frames ≤ most_frames) (known : IsClass s.class)
-    (place next : ExactPlace) (places : List ExactPlace) (first : Part) (parts : List Part)
+    (place next : ExactPlace) (places : List ExactPlace) (first : FilePart) (parts : List FilePart)
     (inputs : AreInputs first.survey.class (first ∷ parts))
     (files : AreExactFiles file s has few place (next ∷ places) (first ∷ parts)) where
   abbrev joined : IsJoined file s has few known place next places first parts inputs files
@@ -265,7 +268,7 @@ module _ (file : List ℕ) (s : SurveyFields) (has : HasSurvey file s)
   within = places-within file s has few place next first files.0 places parts files.1
 
   -- it is what `cut --exact` needs
-  pub whole-is : span_in place (last_place next places) (head file s has) s ≡ Ok whole_span
+  pub whole-is : file_span place (last_place next places) (head file s has) s ≡ Ok whole_span
   whole-is = span-of-places file s has few place (last_place next places) within.0 within.1
 
   -- so it is found
@@ -314,21 +317,22 @@ module _ (file : List ℕ) (s : SurveyFields) (has : HasSurvey file s)
   abbrev played : Played
   played = first-span.spans.played
 
-  delay-value : delay_by played first parts ≡ delay
+  delay-value : seamless_delay played first parts ≡ delay
   delay-value =
       let v : Version = s.class.version in
-      let starts : played.start + first_frame (samples_in s.class) p * samples_in s.class
+      let starts : played.start + warm_up_frame (samples_in s.class) p * samples_in s.class
       ≡ p + length first-span.spans.lead_ins * samples_in s.class =
       ap (λ n. played.start + n * samples_in s.class)
       (sym (first-span.from_is
       ∙ first-is s.class p (position file s has few next) files.0.0 files.0.1.is))
       ∙ first-span.spans.start in
       ap (λ (d : ClassFields).
-      played.start + leads_of first parts * samples_in d
-      - (joined_by first parts).front * samples_in d - decoder_delay)
+      played.start + run_lead_ins first parts * samples_in d
+      - (join_of_parts first parts).front * samples_in d - decoder_delay)
       (class-is file s has few known place next places first parts inputs files)
-      ∙ delay-same v played.start (first_frame (samples_in s.class) p) p
-      (length first-span.spans.lead_ins) (leads_of first parts) (joined_by first parts).front many
+      ∙ delay-same v played.start (warm_up_frame (samples_in s.class) p) p
+      (length first-span.spans.lead_ins) (run_lead_ins first parts)
+      (join_of_parts first parts).front many
       starts (first-before v p) (omega (arith, joined.many, first-span.many_is))
       ∙ ap (λ n. many * samples_in s.class + n - decoder_delay) (sym (from-is s.class p q))
 
@@ -340,14 +344,15 @@ module _ (file : List ℕ) (s : SurveyFields) (has : HasSurvey file s)
   pub delay-is : delay_of_run first parts ≡ Some delay
   delay-is =
       ap (option_and_then (λ (t : Played).
-      if nat_le (delay_by t first parts) 4095 then Some (delay_by t first parts) else None))
+      if nat_le (seamless_delay t first parts) 4095 then Some (seamless_delay t first parts)
+      else None))
       first-span.spans.counted
       ∙ ap (λ d. if nat_le d 4095 then Some d else None) delay-value
       ∙ ap (λ b. if b then Some delay else None)
       (le-leb delay 4095 (omega (arith, delay-most)))
 
   -- and the padding of the join is that of the span
-  pub padding-is : padding_by first parts ≡ padding_of whole_span
+  pub padding-is : seamless_padding first parts ≡ padding_of whole_span
   padding-is =
       ap (λ n. n + decoder_delay)
       (last-rest file s has few first.survey.class place next first inputs.0 files.0 places parts
@@ -367,7 +372,7 @@ module _ (file : List ℕ) (s : SurveyFields) (has : HasSurvey file s)
   -- ---- the Info frame
 
   -- there are as many frames as in the stream
-  pub frames-many : length (joined_frames first parts)
+  pub frames-many : length (seamless_frames first parts)
       ≡ many + (whole_span.last - whole_span.first)
   unfolding seamless_stream
   frames-many =
@@ -377,7 +382,7 @@ module _ (file : List ℕ) (s : SurveyFields) (has : HasSurvey file s)
       let all : List StreamFrame = st file s has few in
       let there = span_apart s whole_span whole-found.there in
       let last : ℕ = ended_at file s has few (last_place next places) in
-      sym (length-map (joined_frames first parts) entry_of)
+      sym (length-map (seamless_frames first parts) stream_entry)
       ∙ ap (λ (l : List StreamFrame). length l) (laid.stream_is ∙ joined.stream_is)
       ∙ length-append joined.leads (slice_range all files.0.0.first last)
       ∙ ap (λ n. many + n)
@@ -394,7 +399,7 @@ module _ (file : List ℕ) (s : SurveyFields) (has : HasSurvey file s)
   first_head =
       read file s has few place next files.0.0 files.0.1 first.survey.class first inputs.0 files.0.2
 
-  first-head : head_of first ≡ Some first_head
+  first-head : part_head first ≡ Some first_head
   first-head =
       read-is file s has few place next files.0.0 files.0.1 first.survey.class first inputs.0
       files.0.2
@@ -407,12 +412,12 @@ module _ (file : List ℕ) (s : SurveyFields) (has : HasSurvey file s)
       ∙ span-long file s has files.0.0 files.0.1.there files.0.2.row files.0.2.row_is
 
   abbrev made : List ℕ
-  made = extension_of (head_of first) delay (padding_by first parts)
+  made = extension_of (part_head first) delay (seamless_padding first parts)
 
   made-said : SaysNumbers delay (padding_of whole_span) made
   made-said =
       subst (λ o. SaysNumbers delay (padding_of whole_span)
-      (extension_of o delay (padding_by first parts))) (sym first-head)
+      (extension_of o delay (seamless_padding first parts))) (sym first-head)
       (subst (λ n. SaysNumbers delay (padding_of whole_span)
       (extension_of (Some first_head) delay n)) (sym padding-is)
       (made-says first_head delay (padding_of whole_span) head-long
@@ -420,26 +425,28 @@ module _ (file : List ℕ) (s : SurveyFields) (has : HasSurvey file s)
 
   made-long : length made ≡ 36
   made-long =
-      subst (λ o. length (extension_of o delay (padding_by first parts)) ≡ 36) (sym first-head)
-      (extension-length (Some first_head) delay (padding_by first parts) head-long)
+      subst (λ o. length (extension_of o delay (seamless_padding first parts)) ≡ 36)
+      (sym first-head)
+      (extension-length (Some first_head) delay (seamless_padding first parts) head-long)
 
   run-says : SaysNumbers delay (padding_of whole_span) (run_extension delay first parts)
   run-says =
-      either-says (list_all (says_gain (replay_gain made)) parts) delay (padding_of whole_span) made
+      either-says (list_all (part_says_gain (replay_gain made)) parts) delay
+      (padding_of whole_span) made
       made-long made-said
 
   -- its extension has 36 bytes
   pub run-long : length (run_extension delay first parts) ≡ 36
-  run-long = either-long (list_all (says_gain (replay_gain made)) parts) made made-long
+  run-long = either-long (list_all (part_says_gain (replay_gain made)) parts) made made-long
 
   -- the Info frame says the span
   pub info-head : (row : Row)
-      → IsHeadOf s.class many whole_span (info_with (Some delay) row first parts)
+      → IsPieceHead s.class many whole_span (seamless_info (Some delay) row first parts)
   info-head row =
-      let info : Info = info_for first.survey.class (joined_frames first parts)
-      (quality_of (head_of first)) (run_extension delay first parts) in
+      let info : Info = info_for first.survey.class (seamless_frames first parts)
+      (quality_of (part_head first)) (run_extension delay first parts) in
       let sealed = frames-sealed row.header info
-      (for-whole first.survey.class (joined_frames first parts) (quality_of (head_of first))
+      (for-whole first.survey.class (seamless_frames first parts) (quality_of (part_head first))
       (run_extension delay first parts) run-long) in
       record {
         frames = ap Some frames-many;
@@ -450,8 +457,8 @@ module _ (file : List ℕ) (s : SurveyFields) (has : HasSurvey file s)
   pub join-plays : (row : Row)
       → KeepsPlaces s.class many whole_span.first (sample file s has place)
       (sample file s has (last_place next places))
-      (played_of (Some (info_with (Some delay) row first parts)) s.class
+      (played_of (Some (seamless_info (Some delay) row first parts)) s.class
       (many + (whole_span.last - whole_span.first))) (input_played file s)
   join-plays row =
       places-of file s has few place (last_place next places) whole_span whole-found many
-      (info_with (Some delay) row first parts) many-leads (info-head row)
+      (seamless_info (Some delay) row first parts) many-leads (info-head row)

@@ -3,43 +3,44 @@ use Rattle.std.proofs.Common.{ap, ap₂, arith, length, List, Ok, refl, Some, su
 use Rattle.std.proofs.{Common.{◌-◌, ◌<◌, ◌^◌, ◌∙◌, ◌∷◌, ◌≡◌, ◌≤◌}, lemmas.List.length-map}
 use Rattle.std.proofs.lemmas.List.FromFn.{length-range_with_len}
 use Rattle.std.specs.{List.{concat, range_with_len}, Prelude.slice_get}
-use Rattle.commands.specs.One.{most_frames}
-use Rattle.cut_edits.proofs.{HeadLaws.apart-length, PieceLaws.span_apart, SealedLaws.for-whole}
-use Rattle.cut_edits.specs.Exact.{quality_of}
-use Rattle.exact_span.proofs.SealLaws.{sealed-whole}
-use Rattle.exact_span.specs.Laws.{AreWhole, IsHeadOf, KeepsPlaces, SaysNumbers}
+use Rattle.commands.specs.SingleOutput.{most_frames}
+use Rattle.cut_edits.proofs.{HeadLemmas.apart-length, PieceLemmas.span_apart}
+use Rattle.cut_edits.{proofs.SealedLemmas.for-whole, specs.Exact.quality_of}
+use Rattle.exact_span.proofs.SealLemmas.{sealed-whole}
+use Rattle.exact_span.specs.Laws.{AreInfoFields, IsPieceHead, KeepsPlaces, SaysNumbers}
 use Rattle.exact_span.specs.{PlayedPositions.played_of, Spans.{delay_of, padding_of}}
 use Rattle.exact_span.specs.declared.{exact_place.ExactPlace.ExactPlace, span.Span.Span}
 use Rattle.frame_header.specs.{Fields.{ClassFields, HeaderFields, IsClass}, Tables.class_of}
 use Rattle.frame_writer.specs.Frames.{Frame}
 use Rattle.info_header.specs.declared.fields.Info.{Info}
-use Rattle.join_edits.proofs.RunPlans.{front-within, run-laid}
-use Rattle.join_edits.specs.Seamless.{head_of, info_with, joined_by, joined_frames, run_extension}
-use Rattle.join_edits.specs.Seamless.{seamless_file, seamless_from}
-use Rattle.laying.proofs.{HoldLaws.blocks-kept, LaidFileLaws.laid-survey, LaidLaws.first-there}
-use Rattle.laying.specs.KeptFields.{fields_of_head}
-use Rattle.laying.specs.LaidFiles.{frame_length, frames_place, head_at, IsLaidFile, laid_fields}
-use Rattle.laying.specs.{LaidFiles.{laid_file, rows_from}, Relaid.Part, Surveys.HasSurvey}
+use Rattle.join_edits.proofs.RunPartLemmas.{front-within, run-laid}
+use Rattle.join_edits.specs.Seamless.{join_of_parts, part_head, run_extension, seamless_file}
+use Rattle.join_edits.specs.Seamless.{seamless_frames, seamless_info, seamless_row_file}
+use Rattle.laying.proofs.{HoldLemmas.blocks-kept, LaidFileLemmas.laid-survey}
+use Rattle.laying.{proofs.LaidLemmas.first-there, specs.KeptFields.fields_of_head}
+use Rattle.laying.specs.LaidFiles.{frame_length, frames_offset, head_at, IsLaidFile, laid_fields}
+use Rattle.laying.specs.{LaidFiles.{laid_file, rows_from}, Relaid.FilePart, Surveys.CanBeRelaid}
 use Rattle.laying.specs.Written.{front_blocks, head_info, info_for, table_entry}
 use Rattle.split_edits.specs.Recording.{input_played}
-use Rattle.sync_survey.proofs.{SurveyParts.surveyed-allowed, SurveyedFiles.survey_of-parts}
-use Rattle.sync_survey.specs.{Faults.{surveyed, SurveyFields}, Row.Row, Survey.survey_of}
+use Rattle.sync_survey.proofs.SurveyPartsLemmas.{surveyed-allowed}
+use Rattle.sync_survey.proofs.SurveyedFileLemmas.{survey_of-parts}
+use Rattle.sync_survey.specs.{Faults.{survey_fields, SurveyFields}, Row.Row, Survey.survey_of}
 use Rattle.theorems.proofs.ExactFileLemmas.{sample}
 use Rattle.theorems.proofs.ExactNumberLemmas.{delay, delay-is, frames-many, info-head, many}
 use Rattle.theorems.proofs.ExactNumberLemmas.{many-leads, run-long, whole-file, whole-files}
 use Rattle.theorems.proofs.ExactNumberLemmas.{whole-found, whole_span}
 use Rattle.theorems.proofs.{ExactRunLemmas.{AreExactFiles, class-is}, ExactSpanLemmas.places-of}
-use Rattle.theorems.proofs.{PieceHeads.{laid-count, laid-extension}, SeamlessInputs.AreInputs}
-use Rattle.theorems.specs.SeamlessLaws.{last_place}
+use Rattle.theorems.proofs.PieceHeadLemmas.{laid-count, laid-extension}
+use Rattle.theorems.{proofs.SeamlessInputLemmas.AreInputs, specs.SeamlessLaws.last_place}
 
 -- there is a row for each frame
 rows-many : (at : ℕ) (frames : List Frame) → length (rows_from at frames) ≡ length frames
 rows-many at [] = refl
 rows-many at (f ∷ frames) = omega (arith, rows-many (at + frame_length f) frames)
 
-module _ (file : List ℕ) (s : SurveyFields) (has : HasSurvey file s)
+module _ (file : List ℕ) (s : SurveyFields) (has : CanBeRelaid file s)
     (few : length s.frames ≤ most_frames) (known : IsClass s.class)
-    (place next : ExactPlace) (places : List ExactPlace) (first : Part) (parts : List Part)
+    (place next : ExactPlace) (places : List ExactPlace) (first : FilePart) (parts : List FilePart)
     (inputs : AreInputs first.survey.class (first ∷ parts))
     (files : AreExactFiles file s has few place (next ∷ places) (first ∷ parts)) where
   abbrev span : Span
@@ -52,9 +53,9 @@ module _ (file : List ℕ) (s : SurveyFields) (has : HasSurvey file s)
   written = delay file s has few known place next places first parts inputs files
 
   front-row : (row : Row)
-      × (slice_get first.survey.frames (joined_by first parts).front ≡ Some row)
+      × (slice_get first.survey.frames (join_of_parts first parts).front ≡ Some row)
   front-row =
-      first-there first.survey.frames (joined_by first parts).front
+      first-there first.survey.frames (join_of_parts first parts).front
       (front-within first parts (whole-file first.survey.class first inputs.0)
       (whole-files first.survey.class parts inputs.1))
 
@@ -62,13 +63,13 @@ module _ (file : List ℕ) (s : SurveyFields) (has : HasSurvey file s)
   header = front-row.0.header
 
   abbrev frames : List Frame
-  frames = joined_frames first parts
+  frames = seamless_frames first parts
 
   abbrev blocks : List (List ℕ)
   blocks = front_blocks first.file first.survey
 
   abbrev info : Info
-  info = info_with (Some written) front-row.0 first parts
+  info = seamless_info (Some written) front-row.0 first parts
 
   abbrev laid : List ℕ
   laid = laid_file blocks header info frames []
@@ -77,21 +78,21 @@ module _ (file : List ℕ) (s : SurveyFields) (has : HasSurvey file s)
   join-is : seamless_file (first ∷ parts) ≡ laid
   unfolding seamless_file
   join-is =
-      ap (λ o. seamless_from o first parts) front-row.1
-      ∙ ap (λ o. laid_file blocks header (info_with o front-row.0 first parts) frames [])
+      ap (λ o. seamless_row_file o first parts) front-row.1
+      ∙ ap (λ o. laid_file blocks header (seamless_info o front-row.0 first parts) frames [])
       (delay-is file s has few known place next places first parts inputs files)
 
-  whole : AreWhole info
+  whole : AreInfoFields info
   whole =
       let extension : List ℕ = run_extension written first parts in
       sealed-whole header
-      (info_for first.survey.class frames (quality_of (head_of first)) extension)
-      (for-whole first.survey.class frames (quality_of (head_of first)) extension
+      (info_for first.survey.class frames (quality_of (part_head first)) extension)
+      (for-whole first.survey.class frames (quality_of (part_head first)) extension
       (run-long file s has few known place next places first parts inputs files))
 
   file-is : IsLaidFile first.survey.class blocks header info frames []
   file-is =
-      let row = inputs.0.has.placed (joined_by first parts).front front-row.0 front-row.1 in
+      let row = inputs.0.has.placed (join_of_parts first parts).front front-row.0 front-row.1 in
       let are =
       run-laid first parts (whole-file first.survey.class first inputs.0)
       (whole-files first.survey.class parts inputs.1) in
@@ -115,7 +116,7 @@ module _ (file : List ℕ) (s : SurveyFields) (has : HasSurvey file s)
   abbrev read : Info
   read = head_info laid (Some (head_at (length (concat blocks)) header))
 
-  says : IsHeadOf s.class leads span info
+  says : IsPieceHead s.class leads span info
   says = info-head file s has few known place next places first parts inputs files front-row.0
 
   count-small : leads + (span.last - span.first) < 256 ^ 4
@@ -130,7 +131,7 @@ module _ (file : List ℕ) (s : SurveyFields) (has : HasSurvey file s)
       )
 
   -- it says what the Info frame does
-  read-says : IsHeadOf s.class leads span read
+  read-says : IsPieceHead s.class leads span read
   read-says = record {
     frames =
         laid-count header info file-is.header whole blocks frames []
@@ -145,8 +146,8 @@ module _ (file : List ℕ) (s : SurveyFields) (has : HasSurvey file s)
     told : laid_fields blocks header info frames [] ≡ j
     told =
         let most : ℕ = length laid + length frames + 1 in
-        let is : surveyed laid allowed ≡ Ok j =
-        subst (λ (l : List ℕ). surveyed l allowed ≡ Ok j) join-is
+        let is : survey_fields laid allowed ≡ Ok j =
+        subst (λ (l : List ℕ). survey_fields l allowed ≡ Ok j) join-is
         (survey_of-parts (seamless_file (first ∷ parts)) allowed j e).1 in
         let both : Ok j ≡ Ok (laid_fields blocks header info frames []) =
         sym (surveyed-allowed laid allowed most j (omega arith) is)
@@ -160,9 +161,9 @@ module _ (file : List ℕ) (s : SurveyFields) (has : HasSurvey file s)
         let class : class_of header ≡ s.class =
         file-is.class
         ∙ class-is file s has few known place next places first parts inputs files in
-        let count : length (rows_from (frames_place blocks header info) frames)
+        let count : length (rows_from (frames_offset blocks header info) frames)
         ≡ leads + (span.last - span.first) =
-        rows-many (frames_place blocks header info) frames
+        rows-many (frames_offset blocks header info) frames
         ∙ frames-many file s has few known place next places first parts inputs files in
         ap₂ (λ (l : List ℕ) (t : SurveyFields).
         played_of (fields_of_head l t.head) t.class (length t.frames)) join-is (sym told)

@@ -8,39 +8,42 @@ use Rattle.std.proofs.{Math.Seq.drop-append-add, lemmas.Bool.{and_from, and_part
 use Rattle.std.proofs.lemmas.List.{drop-append-le, drop-drop, drop-take, length-append, length-drop}
 use Rattle.std.{proofs.lemmas.List.length-take-le, specs.List.list_all}
 use Rattle.std.specs.Prelude.{slice_get, slice_range}
-use Rattle.commands.specs.One.{most_frames}
-use Rattle.cut_edits.proofs.PieceLaws.{span_apart}
+use Rattle.commands.specs.SingleOutput.{most_frames}
+use Rattle.cut_edits.proofs.PieceLemmas.{span_apart}
 use Rattle.exact_span.specs.PlayedPositions.{rest_of, samples_in}
-use Rattle.exact_span.specs.Spans.{first_frame, frames_before}
+use Rattle.exact_span.specs.Spans.{frames_before, warm_up_frame}
 use Rattle.exact_span.specs.declared.{exact_place.ExactPlace.ExactPlace, played.Played.Played}
 use Rattle.exact_span.specs.declared.span.Span.{Span}
 use Rattle.frame_header.specs.{Fields.{ClassFields, IsClass}, Tables.{samples_of, window_of}}
 use Rattle.frame_header.specs.declared.version.Version.{Version, TheVariants.{One, Two, TwoFive}}
-use Rattle.join_edits.specs.Seamless.{brought_by, joined_by, leads_of, part_from, parts_by}
-use Rattle.join_edits.specs.Seamless.{seamless_stream}
-use Rattle.laying.specs.{Relaid.{Part, silent_before, stream_in}, Surveys.HasSurvey}
-use Rattle.seam_plan.proofs.{FitLaws.fits-tested, FollowLaws.followers-on, SpanRuns.spans-one-run}
-use Rattle.seam_plan.specs.Frames.{Brought, Frame as RunFrame, needs_of as run_needs}
-use Rattle.seam_plan.specs.Joins.{fits_behind, has_lead_in}
-use Rattle.seam_plan.specs.Laws.{AreSpansOf, is_following, IsSpanOf, last_to}
-use Rattle.seam_plan.specs.Seams.{front_left_out, Joint, joint_of, joints_from, joints_of, left_out}
-use Rattle.seam_plan.specs.{Seams.run_with, declared.seam.Seam.Seam}
+use Rattle.join_edits.specs.Seamless.{join_of_parts, later_parts, part_brought, part_from}
+use Rattle.join_edits.specs.Seamless.{run_lead_ins, seamless_stream}
+use Rattle.laying.specs.{Relaid.{FilePart, part_stream, silent_lead_in}, Surveys.CanBeRelaid}
+use Rattle.seam_plan.proofs.{FitLemmas.fits-tested, FollowLemmas.followers-on}
+use Rattle.seam_plan.proofs.SpanRunLemmas.{spans-one-run}
+use Rattle.seam_plan.specs.{Frames.{Brought, needs_of, RunFrame}, Joins.{fits_behind, has_lead_in}}
+use Rattle.seam_plan.specs.Laws.{AreSpansOf, is_following_seam, IsSpanOf, spans_end}
+use Rattle.seam_plan.specs.Seams.{front_left_out_count, joint_of, JointFrames, joints_from}
+use Rattle.seam_plan.specs.{Seams.{joints_of, left_out_count, run_with}, declared.seam.Seam.Seam}
 use Rattle.seam_plan.specs.declared.seam.Seam.TheVariants.{Follows, LeadIn, Whole}
-use Rattle.slot_plan.{proofs.BehindLaws.{cons-fits, more-behind}, specs.Behind.FitsBehind}
-use Rattle.slot_plan.specs.{Parts.own_area, Reserve.free_behind, declared.needs.Need.Need}
+use Rattle.slot_plan.{proofs.FreeByteLemmas.{cons-fits, more-behind}, specs.FreeBytes.FitsBehind}
+use Rattle.slot_plan.specs.{Parts.own_slot_area, Reserve.free_bytes_behind}
+use Rattle.slot_plan.specs.declared.needs.Need.{Need}
 use Rattle.sync_survey.specs.{Faults.SurveyFields, MainData.StreamFrame}
 use Rattle.theorems.proofs.ExactFileLemmas.{all-range, all_run, begin, has-own, IsExactFile}
 use Rattle.theorems.proofs.ExactFileLemmas.{IsFound, IsLaidLed, leads, own, sample, span-ways}
 use Rattle.theorems.proofs.ExactSpanLemmas.{brought-led, first-early, first-is, first-rises}
 use Rattle.theorems.proofs.ExactSpanLemmas.{has-led-span, has-own-span, has-span, HasSpan}
 use Rattle.theorems.proofs.ExactSpanLemmas.{input-class, last-is, last-rises}
-use Rattle.theorems.proofs.{LaidInputLemmas.BringsLed, SeamlessFront.{front-silent, none-zero}}
-use Rattle.theorems.proofs.SeamlessInputs.{AreInputs, IsInput, stream-from}
-use Rattle.theorems.proofs.SeamlessRun.{front-few, front-is, front-parts, joints-are, leads-many}
-use Rattle.theorems.proofs.SeamlessRun.{run, run-is, run-leads, seamless-is, stream}
-use Rattle.theorems.proofs.SplitJoin.{all_stream, between-fits, between-known, range-append}
-use Rattle.theorems.proofs.SplitJoin.{range-none, run_between, stream-many}
-use Rattle.theorems.specs.SeamlessLaws.{is_empty, last_place}
+use Rattle.theorems.proofs.LaidInputLemmas.{BringsLed}
+use Rattle.theorems.proofs.SeamlessFrontLemmas.{front-silent, none-zero}
+use Rattle.theorems.proofs.SeamlessInputLemmas.{AreInputs, IsInput, stream-from}
+use Rattle.theorems.proofs.SeamlessRunLemmas.{front-few, front-is, front-parts, joints-are}
+use Rattle.theorems.proofs.SeamlessRunLemmas.{leads-many, run, run-is, run-leads, seamless-is}
+use Rattle.theorems.proofs.SeamlessRunLemmas.{stream}
+use Rattle.theorems.proofs.SplitJoinLemmas.{all_stream, between-fits, between-known, range-append}
+use Rattle.theorems.proofs.SplitJoinLemmas.{range-none, run_between, stream-many}
+use Rattle.theorems.specs.SeamlessLaws.{is_empty_frame, last_place}
 
 -- ---- lists
 
@@ -63,7 +66,7 @@ range-drop xs from to k few =
 
 -- ---- how many frames of a piece that follows are left out
 
-follows-by : (seam : Seam) → is_following seam ≡ true → (out : ℕ) × (seam ≡ Follows out)
+follows-by : (seam : Seam) → is_following_seam seam ≡ true → (out : ℕ) × (seam ≡ Follows out)
 follows-by (Follows out) is = (out, refl)
 follows-by LeadIn is = absurd cc
 follows-by Whole is = absurd cc
@@ -90,7 +93,7 @@ below-last TwoFive from last mid early most = omega (arith, early, most)
 
 -- ---- pieces of one recording
 
-module _ (file : List ℕ) (s : SurveyFields) (has : HasSurvey file s)
+module _ (file : List ℕ) (s : SurveyFields) (has : CanBeRelaid file s)
     (few : length s.frames ≤ most_frames) where
   -- the position of the sample that a place names
   abbrev pub position : ExactPlace → ℕ
@@ -102,7 +105,7 @@ module _ (file : List ℕ) (s : SurveyFields) (has : HasSurvey file s)
 
   -- the first frame that is needed from it on
   abbrev pub begun_at : ExactPlace → ℕ
-  begun_at place = first_frame (samples_in s.class) (position place)
+  begun_at place = warm_up_frame (samples_in s.class) (position place)
 
   abbrev pub all : List RunFrame
   all = all_run file s has
@@ -111,37 +114,37 @@ module _ (file : List ℕ) (s : SurveyFields) (has : HasSurvey file s)
   st = all_stream file (own file s has)
 
   -- the file of the piece between two places
-  abbrev pub IsPiece : ExactPlace → ExactPlace → Part → Type 0
+  abbrev pub IsPiece : ExactPlace → ExactPlace → FilePart → Type 0
   IsPiece from to p =
       (span : Span) × IsFound file s has from to span × IsExactFile file s has span p.file
 
   -- these files are the pieces from a place to the first of others, and from each of these to the
   -- next
-  abbrev pub AreExactFiles : ExactPlace → List ExactPlace → List Part → Type 0
+  abbrev pub AreExactFiles : ExactPlace → List ExactPlace → List FilePart → Type 0
   AreExactFiles from [] [] = Unit {0}
   AreExactFiles from (to ∷ tos) (p ∷ parts) = IsPiece from to p × AreExactFiles to tos parts
   AreExactFiles from _ _ = ⊥
 
   -- a piece as an input
-  abbrev IsSpan : (c : ClassFields) (from to : ExactPlace) (p : Part) → IsInput c p
+  abbrev IsSpan : (c : ClassFields) (from to : ExactPlace) (p : FilePart) → IsInput c p
       → IsPiece from to p → Type 0
   IsSpan c from to p is piece = HasSpan file s has few from to piece.0 piece.1 c p is piece.2
 
-  span-of : (c : ClassFields) (from to : ExactPlace) (p : Part) (is : IsInput c p)
+  span-of : (c : ClassFields) (from to : ExactPlace) (p : FilePart) (is : IsInput c p)
       (piece : IsPiece from to p) → IsSpan c from to p is piece
   span-of c from to p is piece = has-span file s has few from to piece.0 piece.1 c p is piece.2
 
   -- where it begins and ends
-  piece-begins : (from to : ExactPlace) (p : Part) (piece : IsPiece from to p)
+  piece-begins : (from to : ExactPlace) (p : FilePart) (piece : IsPiece from to p)
       → piece.0.first ≡ begun_at from
   piece-begins from to p piece = first-is s.class (position from) (position to) piece.0 piece.1.is
 
-  piece-ends : (from to : ExactPlace) (p : Part) (piece : IsPiece from to p)
+  piece-ends : (from to : ExactPlace) (p : FilePart) (piece : IsPiece from to p)
       → piece.0.last ≡ ended_at to
   piece-ends from to p piece = last-is s.class (position from) (position to) piece.0 piece.1.is
 
   -- no later piece ends earlier
-  ends-rise : (from : ExactPlace) (tos : List ExactPlace) (parts : List Part)
+  ends-rise : (from : ExactPlace) (tos : List ExactPlace) (parts : List FilePart)
       → AreExactFiles from tos parts → ended_at from ≤ ended_at (last_place from tos)
   ends-rise from [] parts files = omega arith
   ends-rise from (to ∷ tos) [] files = absurd files
@@ -155,13 +158,13 @@ module _ (file : List ℕ) (s : SurveyFields) (has : HasSurvey file s)
   record AreSpans (low last : ℕ) (from : ExactPlace) (tos : List ExactPlace)
       (inputs : List Brought) : Type 0 where
     are : AreSpansOf s.class all low last (position from) inputs (map position tos)
-    to_is : last_to s.class all low last (position from) inputs (map position tos) are
+    to_is : spans_end s.class all low last (position from) inputs (map position tos) are
         ≡ ended_at (last_place from tos)
 
   are-spans : (c : ClassFields) (low last : ℕ) (from : ExactPlace) (tos : List ExactPlace)
-      (parts : List Part) → AreInputs c parts → AreExactFiles from tos parts
+      (parts : List FilePart) → AreInputs c parts → AreExactFiles from tos parts
       → low ≤ begun_at from → 0 < position from → last ≡ ended_at from
-      → AreSpans low last from tos (map brought_by parts)
+      → AreSpans low last from tos (map part_brought parts)
   are-spans c low last from [] [] inputs files late some is = record { are = tt; to_is = is }
   are-spans c low last from [] (p ∷ parts) inputs files late some is = absurd files
   are-spans c low last from (to ∷ tos) [] inputs files late some is = absurd files
@@ -192,20 +195,20 @@ module _ (file : List ℕ) (s : SurveyFields) (has : HasSurvey file s)
   -- ---- the stream of the later pieces
 
   module _ (c : ClassFields) (first : Brought) (inputs : List Brought) where
-    abbrev all_joints : List Joint
+    abbrev all_joints : List JointFrames
     all_joints = joints_of s.class first inputs
 
-    abbrev following : List Joint → Type 0
-    following joints = list_all (λ (j : Joint). is_following j.seam) joints ≡ true
+    abbrev following : List JointFrames → Type 0
+    following joints = list_all (λ (j : JointFrames). is_following_seam j.seam) joints ≡ true
 
     left-one : (number b : ℕ) (from to : ExactPlace) (before : Brought)
-        (sp : IsSpanOf s.class all b (position from) before) (p : Part) (is : IsInput c p)
-        (piece : IsPiece from to p) (joint : Joint)
+        (sp : IsSpanOf s.class all b (position from) before) (p : FilePart) (is : IsInput c p)
+        (piece : IsPiece from to p) (joint : JointFrames)
         → slice_get (first ∷ inputs) number ≡ Some before
-        → slice_get inputs number ≡ Some (brought_by p)
-        → slice_get all_joints number ≡ Some joint → is_following joint.seam ≡ true
+        → slice_get inputs number ≡ Some (part_brought p)
+        → slice_get all_joints number ≡ Some joint → is_following_seam joint.seam ≡ true
         → 0 < position from → sp.to ≡ ended_at from
-        → stream_in (part_from (left_out joint.seam) p)
+        → part_stream (part_from (left_out_count joint.seam) p)
         ≡ slice_range st sp.to (ended_at to)
     left-one number b from to before sp p is piece joint is_before is_input is_joint follow some
         sp_to =
@@ -214,7 +217,7 @@ module _ (file : List ℕ) (s : SurveyFields) (has : HasSurvey file s)
         let mine = hs.spans in
         let out = follows-by joint.seam follow in
         let goes =
-        followers-on s.class first inputs number before (brought_by p) joint out.0 is_before
+        followers-on s.class first inputs number before (part_brought p) joint out.0 is_before
         is_input is_joint out.1 in
         let ended : Some goes.ended ≡ Some sp.played = sym goes.ended_is ∙ sp.counted in
         let played : Some goes.played ≡ Some mine.played = sym goes.played_is ∙ mine.counted in
@@ -247,7 +250,7 @@ module _ (file : List ℕ) (s : SurveyFields) (has : HasSurvey file s)
         let to_is : piece.0.last ≡ ended_at to = piece-ends from to p piece in
         let at : mine.from + (sp.to - mine.from) ≡ sp.to = omega (arith, inside) in
         let own_stream : List StreamFrame = slice_range st piece.0.first piece.0.last in
-        ap (λ (t : Seam). stream_in (part_from (left_out t) p)) out.1
+        ap (λ (t : Seam). part_stream (part_from (left_out_count t) p)) out.1
         ∙ stream-from c p is out.0
         ∙ ap₂ (λ (n : ℕ) (l : List StreamFrame). drop n l)
         (left ∙ ap (λ n. n + (sp.to - mine.from)) (sym hs.same)) hs.stream_is
@@ -259,15 +262,15 @@ module _ (file : List ℕ) (s : SurveyFields) (has : HasSurvey file s)
 
     left-all : (number : ℕ) (b : ℕ) (from : ExactPlace) (tos : List ExactPlace)
         (before : Brought) (sp : IsSpanOf s.class all b (position from) before)
-        (parts : List Part) (so_far : List RunFrame)
+        (parts : List FilePart) (so_far : List RunFrame)
         → AreInputs c parts → AreExactFiles from tos parts
         → slice_get (first ∷ inputs) number ≡ Some before
-        → drop number inputs ≡ map brought_by parts
-        → drop number all_joints ≡ joints_from s.class so_far before (map brought_by parts)
-        → following (joints_from s.class so_far before (map brought_by parts))
+        → drop number inputs ≡ map part_brought parts
+        → drop number all_joints ≡ joints_from s.class so_far before (map part_brought parts)
+        → following (joints_from s.class so_far before (map part_brought parts))
         → 0 < position from → sp.to ≡ ended_at from
-        → flat_map stream_in
-        (parts_by (joints_from s.class so_far before (map brought_by parts)) parts)
+        → flat_map part_stream
+        (later_parts (joints_from s.class so_far before (map part_brought parts)) parts)
         ≡ slice_range st sp.to (ended_at (last_place from tos))
     unfolding joints_from
     left-all number b from [] before sp [] so_far are files is_before is_inputs is_joints follow
@@ -282,21 +285,22 @@ module _ (file : List ℕ) (s : SurveyFields) (has : HasSurvey file s)
         is_joints follow some sp_to =
         let v : Version = s.class.version in
         let piece = files.0 in
-        let joint : Joint = joint_of s.class so_far before (brought_by p) in
-        let later : List Joint =
-        joints_from s.class (so_far ++ joint.frames) (brought_by p) (map brought_by parts) in
-        let next_input = next-of number inputs (map brought_by parts) (brought_by p) is_inputs in
+        let joint : JointFrames = joint_of s.class so_far before (part_brought p) in
+        let later : List JointFrames =
+        joints_from s.class (so_far ++ joint.frames) (part_brought p) (map part_brought parts) in
+        let next_input =
+        next-of number inputs (map part_brought parts) (part_brought p) is_inputs in
         let next_joint = next-of number all_joints later joint is_joints in
         let both =
-        and_parts (is_following joint.seam)
-        (list_all (λ (j : Joint). is_following j.seam) later) follow in
+        and_parts (is_following_seam joint.seam)
+        (list_all (λ (j : JointFrames). is_following_seam j.seam) later) follow in
         let hs = span-of c from to p are.0 piece in
         let to_is : hs.spans.to ≡ ended_at to = hs.to_is ∙ piece-ends from to p piece in
         let here =
         left-one number b from to before sp p are.0 piece joint is_before next_input.0
         next_joint.0 both.0 some sp_to in
         let more =
-        left-all (suc number) (position from) to tos (brought_by p) hs.spans parts
+        left-all (suc number) (position from) to tos (part_brought p) hs.spans parts
         (so_far ++ joint.frames) are.1 files.1 next_input.0 next_input.1 next_joint.1 both.1
         (omega (arith, piece.1.some)) to_is in
         let first_last = last-rises v (position from) (position to) (omega (arith, piece.1.some)) in
@@ -321,12 +325,13 @@ empty-before : (window : ℕ) (need : Need) (needs : List Need) → need.bytes �
     → FitsBehind window 0 needs → FitsBehind window 0 (need ∷ needs)
 empty-before window need needs empty fits =
     cons-fits window 0 need needs (omega arith) (omega (arith, empty))
-    (more-behind window 0 (free_behind window 0 need.bytes (own_area need)) needs (omega arith)
+    (more-behind window 0 (free_bytes_behind window 0 need.bytes (own_slot_area need)) needs
+    (omega arith)
     fits)
 
-module _ (file : List ℕ) (s : SurveyFields) (has : HasSurvey file s)
+module _ (file : List ℕ) (s : SurveyFields) (has : CanBeRelaid file s)
     (few : length s.frames ≤ most_frames) (known : IsClass s.class)
-    (place next : ExactPlace) (places : List ExactPlace) (first : Part) (parts : List Part)
+    (place next : ExactPlace) (places : List ExactPlace) (first : FilePart) (parts : List FilePart)
     (inputs : AreInputs first.survey.class (first ∷ parts))
     (files : AreExactFiles file s has few place (next ∷ places) (first ∷ parts)) where
   abbrev c : ClassFields
@@ -364,19 +369,19 @@ module _ (file : List ℕ) (s : SurveyFields) (has : HasSurvey file s)
   FirstSpan = HasSpan file s has few place next piece.0 piece.1 c first inputs.0 piece.2
 
   -- the joints of all later pieces
-  abbrev joints : List Joint
-  joints = joints_of s.class (brought_by first) (map brought_by parts)
+  abbrev joints : List JointFrames
+  joints = joints_of s.class (part_brought first) (map part_brought parts)
 
-  joints-here : (joined_by first parts).joints ≡ joints
+  joints-here : (join_of_parts first parts).joints ≡ joints
   joints-here =
       joints-are first parts inputs
-      ∙ ap (λ (d : ClassFields). joints_of d (brought_by first) (map brought_by parts)) class-is
+      ∙ ap (λ (d : ClassFields). joints_of d (part_brought first) (map part_brought parts)) class-is
 
   -- by the span of the first piece each later one
   -- follows, and the run is its lead-ins and the frames
   pub record IsOneRun (sp : FirstSpan) : Type 0 where
-    pub follow : list_all (λ (j : Joint). is_following j.seam) joints ≡ true
-    pub run_is : run_with (brought_by first) joints
+    pub follow : list_all (λ (j : JointFrames). is_following_seam j.seam) joints ≡ true
+    pub run_is : run_with (part_brought first) joints
         ≡ sp.spans.lead_ins ++ run_between file (own file s has) low high
 
   -- so it is
@@ -395,7 +400,7 @@ module _ (file : List ℕ) (s : SurveyFields) (has : HasSurvey file s)
       let own_rows : ℕ = length (own file s has).frames in
       let both =
       spans-one-run s.class all_is (position file s has few place)
-      (position file s has few next) (brought_by first) (map brought_by parts)
+      (position file s has few next) (part_brought first) (map part_brought parts)
       (map (position file s has few) places) sp.spans spans.are
       (between-known file (own file s has) (has-own file s has) 0 own_rows)
       (between-fits file (own file s has) (has-own file s has) 0 own_rows) in
@@ -409,10 +414,12 @@ module _ (file : List ℕ) (s : SurveyFields) (has : HasSurvey file s)
       }
 
   -- each later piece follows the one before it
-  pub all-follow : list_all (λ (j : Joint). is_following j.seam) (joined_by first parts).joints
+  pub all-follow : list_all (λ (j : JointFrames). is_following_seam j.seam)
+      (join_of_parts first parts).joints
       ≡ true
   all-follow =
-      ap (λ (js : List Joint). list_all (λ (j : Joint). is_following j.seam) js) joints-here
+      ap (λ (js : List JointFrames). list_all (λ (j : JointFrames). is_following_seam j.seam) js)
+      joints-here
       ∙ (one-run (has-span file s has few place next piece.0 piece.1 c first inputs.0
       piece.2)).follow
 
@@ -422,21 +429,21 @@ module _ (file : List ℕ) (s : SurveyFields) (has : HasSurvey file s)
   whole = slice_range (st file s has few) low high
 
   abbrev front : ℕ
-  front = (joined_by first parts).front
+  front = (join_of_parts first parts).front
 
   -- no later than the last
   pub ends-later : ended_at file s has few next ≤ high
   ends-later = ends-rise file s has few next places parts files.1
 
   later-stream : (sp : FirstSpan)
-      → flat_map stream_in (parts_by (joined_by first parts).joints parts)
+      → flat_map part_stream (later_parts (join_of_parts first parts).joints parts)
       ≡ slice_range (st file s has few) piece.0.last high
   later-stream sp =
       let to_is : sp.spans.to ≡ ended_at file s has few next = sp.to_is ∙ first-ends in
-      ap (λ (js : List Joint). flat_map stream_in (parts_by js parts)) joints-here
-      ∙ left-all file s has few c (brought_by first) (map brought_by parts) 0
-      (position file s has few place) next places (brought_by first) sp.spans parts
-      (brought_by first).frames inputs.1 files.1 refl refl refl (one-run sp).follow
+      ap (λ (js : List JointFrames). flat_map part_stream (later_parts js parts)) joints-here
+      ∙ left-all file s has few c (part_brought first) (map part_brought parts) 0
+      (position file s has few place) next places (part_brought first) sp.spans parts
+      (part_brought first).frames inputs.1 files.1 refl refl refl (one-run sp).follow
       (omega (arith, piece.1.some)) to_is
       ∙ ap (λ n. slice_range (st file s has few) n high) sp.to_is
 
@@ -482,7 +489,7 @@ module _ (file : List ℕ) (s : SurveyFields) (has : HasSurvey file s)
       run-is first parts inputs
       ∙ ap (drop front)
       (ap (λ (d : ClassFields).
-      run_with (brought_by first) (joints_of d (brought_by first) (map brought_by parts)))
+      run_with (part_brought first) (joints_of d (part_brought first) (map part_brought parts)))
       class-is
       ∙ (one-run sp).run_is)
 
@@ -493,26 +500,28 @@ module _ (file : List ℕ) (s : SurveyFields) (has : HasSurvey file s)
   pub record IsJoined (first_leads : ℕ) : Type 0 where
     pub leads : List StreamFrame
     pub one : length leads ≤ 1
-    pub empty : list_all (is_empty s.class) leads ≡ true
+    pub empty : list_all (is_empty_frame s.class) leads ≡ true
     pub stream_is : seamless_stream (first ∷ parts) ≡ leads ++ whole
-    pub many : length leads + front ≡ first_leads + leads_of first parts
+    pub many : length leads + front ≡ first_leads + run_lead_ins first parts
     pub led : first_leads ≤ length leads
 
-  silent-empty : (f : StreamFrame) → list_all (is_empty s.class) (silent_before f ∷ []) ≡ true
-  silent-empty f = and_from (is_empty s.class (silent_before f)) true (none-zero s.class known) refl
+  silent-empty : (f : StreamFrame)
+      → list_all (is_empty_frame s.class) (silent_lead_in f ∷ []) ≡ true
+  silent-empty f =
+      and_from (is_empty_frame s.class (silent_lead_in f)) true (none-zero s.class known) refl
 
   run-lead : (out : 0 < front) → (f : StreamFrame) × (fs : List StreamFrame)
       × (stream first parts inputs ≡ f ∷ fs)
-      × ((run-leads first parts inputs).leads ≡ silent_before f ∷ [])
+      × ((run-leads first parts inputs).leads ≡ silent_lead_in f ∷ [])
   run-lead out = (run-leads first parts inputs).led (front-parts first parts inputs out).1
 
-  many-leads : leads_of first parts ≡ length (run-leads first parts inputs).leads
+  many-leads : run_lead_ins first parts ≡ length (run-leads first parts inputs).leads
   many-leads = leads-many first parts inputs
 
   -- no lead-in was given, and none leaves the run
   joined-own : (sp : FirstSpan) → sp.leads ≡ [] → front ≡ 0 → IsJoined 0
   joined-own sp none stays =
-      by_fit (fits_behind (window_of c.version) 0 (run_needs (run first parts inputs))) refl
+      by_fit (fits_behind (window_of c.version) 0 (needs_of (run first parts inputs))) refl
     where
       here : stream first parts inputs ≡ whole
       here =
@@ -520,7 +529,7 @@ module _ (file : List ℕ) (s : SurveyFields) (has : HasSurvey file s)
           ∙ ap₂ (λ (n : ℕ) (l : List StreamFrame). drop n (l ++ whole)) stays none
 
       by_fit : (b : Bool)
-          → fits_behind (window_of c.version) 0 (run_needs (run first parts inputs)) ≡ b
+          → fits_behind (window_of c.version) 0 (needs_of (run first parts inputs)) ≡ b
           → IsJoined 0
       by_fit true fits =
           let no_leads = (run-leads first parts inputs).own fits in
@@ -543,7 +552,7 @@ module _ (file : List ℕ) (s : SurveyFields) (has : HasSurvey file s)
       by_fit false lacks =
           let led = (run-leads first parts inputs).led lacks in
           record {
-            leads = silent_before led.0 ∷ [];
+            leads = silent_lead_in led.0 ∷ [];
             one = omega arith;
             led = omega arith;
             empty = silent-empty led.0;
@@ -567,9 +576,9 @@ module _ (file : List ℕ) (s : SurveyFields) (has : HasSurvey file s)
       let silent = front-silent first parts inputs out led.0 led.1 led.2 in
       let one_stream : List StreamFrame = slice_range (st file s has few) low piece.0.last in
       let behind : List StreamFrame = slice_range (st file s has few) piece.0.last high in
-      let begins : one_stream ≡ silent_before led.0 ∷ silent.0 =
+      let begins : one_stream ≡ silent_lead_in led.0 ∷ silent.0 =
       sym (sp.stream_is ∙ ap (λ (l : List StreamFrame). l ++ one_stream) none) ∙ silent.1 in
-      let whole_is : whole ≡ silent_before led.0 ∷ (silent.0 ++ behind) =
+      let whole_is : whole ≡ silent_lead_in led.0 ∷ (silent.0 ++ behind) =
       sym (range-append (st file s has few) low piece.0.last high
       (omega (arith, piece.1.there.some)) (omega (arith, first-ends, ends-later)))
       ∙ ap (λ (l : List StreamFrame). l ++ behind) begins in
@@ -611,21 +620,21 @@ module _ (file : List ℕ) (s : SurveyFields) (has : HasSurvey file s)
     abbrev all_frames : List RunFrame
     all_frames = brings.lead_in ∷ run_frames
 
-    all-frames : run_with (brought_by first) (joints_of c (brought_by first)
-        (map brought_by parts)) ≡ all_frames
+    all-frames : run_with (part_brought first) (joints_of c (part_brought first)
+        (map part_brought parts)) ≡ all_frames
     all-frames =
         ap (λ (d : ClassFields).
-        run_with (brought_by first) (joints_of d (brought_by first) (map brought_by parts)))
+        run_with (part_brought first) (joints_of d (part_brought first) (map part_brought parts)))
         class-is
         ∙ (one-run led-span).run_is
 
     -- where the lead-in stays, the frames after it want none
-    pub stays-fit : front ≡ 0 → fits_behind (window_of c.version) 0 (run_needs run_frames) ≡ true
-    unfolding front_left_out
+    pub stays-fit : front ≡ 0 → fits_behind (window_of c.version) 0 (needs_of run_frames) ≡ true
+    unfolding front_left_out_count
     stays-fit stays =
         let fits : List RunFrame → Bool =
-        λ fs. fits_behind (window_of c.version) 0 (run_needs (drop 1 fs)) in
-        let leads_here : Bool = has_lead_in (window_of c.version) (brought_by first) in
+        λ fs. fits_behind (window_of c.version) 0 (needs_of (drop 1 fs)) in
+        let leads_here : Bool = has_lead_in (window_of c.version) (part_brought first) in
         not-both leads_here (fits all_frames)
         (no-front (leads_here && not (fits all_frames)) front
         (ap (λ (fs : List RunFrame). cond (leads_here && not (fits fs)) 1 0) (sym all-frames)
@@ -638,20 +647,20 @@ module _ (file : List ℕ) (s : SurveyFields) (has : HasSurvey file s)
 
     -- the run with its lead-in fits behind no bytes then
     pub run-fits : front ≡ 0
-        → fits_behind (window_of c.version) 0 (run_needs (run first parts inputs)) ≡ true
+        → fits_behind (window_of c.version) 0 (needs_of (run first parts inputs)) ≡ true
     run-fits stays =
-        ap (λ (fs : List RunFrame). fits_behind (window_of c.version) 0 (run_needs fs))
+        ap (λ (fs : List RunFrame). fits_behind (window_of c.version) 0 (needs_of fs))
         (run-whole stays)
-        ∙ (fits-tested (window_of c.version) 0 (run_needs all_frames)).1
-        (empty-before (window_of c.version) brings.lead_in.need (run_needs run_frames) brings.empty
-        ((fits-tested (window_of c.version) 0 (run_needs run_frames)).0 (stays-fit stays)))
+        ∙ (fits-tested (window_of c.version) 0 (needs_of all_frames)).1
+        (empty-before (window_of c.version) brings.lead_in.need (needs_of run_frames) brings.empty
+        ((fits-tested (window_of c.version) 0 (needs_of run_frames)).0 (stays-fit stays)))
 
     -- a lead-in was given, and stays
     joined-led : front ≡ 0 → IsJoined 1
     joined-led stays =
         let no_leads = (run-leads first parts inputs).own (run-fits stays) in
         record {
-          leads = silent_before brings.first ∷ [];
+          leads = silent_lead_in brings.first ∷ [];
           one = omega arith;
           led = omega arith;
           empty = silent-empty brings.first;
@@ -659,7 +668,7 @@ module _ (file : List ℕ) (s : SurveyFields) (has : HasSurvey file s)
               seamless-is first parts inputs
               ∙ ap₂ (λ (x y : List StreamFrame). x ++ y) no_leads
               (run-stream led-span
-              ∙ ap (λ n. drop n (silent_before brings.first ∷ whole)) stays);
+              ∙ ap (λ n. drop n (silent_lead_in brings.first ∷ whole)) stays);
           many =
               omega (
                 arith,
@@ -675,7 +684,7 @@ module _ (file : List ℕ) (s : SurveyFields) (has : HasSurvey file s)
         let led = run-lead out in
         let one : front ≡ 1 = omega (arith, out, front-few first parts inputs) in
         record {
-          leads = silent_before led.0 ∷ [];
+          leads = silent_lead_in led.0 ∷ [];
           one = omega arith;
           led = omega arith;
           empty = silent-empty led.0;
@@ -683,7 +692,7 @@ module _ (file : List ℕ) (s : SurveyFields) (has : HasSurvey file s)
               seamless-is first parts inputs
               ∙ ap₂ (λ (x y : List StreamFrame). x ++ y) led.3
               (run-stream led-span
-              ∙ ap (λ n. drop n (silent_before brings.first ∷ whole)) one);
+              ∙ ap (λ n. drop n (silent_lead_in brings.first ∷ whole)) one);
           many =
               omega (
                 arith,

@@ -4,25 +4,25 @@ use Rattle.std.proofs.Common.{ap, ap₂, arith, drop, inl, inr, length, List, re
 use Rattle.std.proofs.Common.{ℕ, [], ◌%◌, ◌*◌, ◌++◌, ◌+◌, ◌-◌, ◌<◌, ◌^◌, ◌∙◌, ◌∷◌, ◌≡◌, ◌≤◌}
 use Rattle.std.proofs.lemmas.List.{length-append, length-drop, length-map, length-take-le}
 use Rattle.std.specs.{List.concat, Prelude.slice_range}
-use Rattle.commands.specs.One.{most_frames}
-use Rattle.cut_edits.proofs.{HeadLaws.apart-length, PieceLaws.span_apart, PlayLaws.pieces-play}
-use Rattle.cut_edits.{proofs.SealedLaws.for-whole, specs.Exact.{IsSpanIn, leads_in}}
-use Rattle.cut_edits.specs.ExactLaws.{PlaysItsSamples}
-use Rattle.exact_span.proofs.PlayedLaws.{places-kept}
-use Rattle.exact_span.specs.Laws.{AreWhole, IsHeadOf, KeepsPlaces, SaysNumbers}
-use Rattle.exact_span.specs.PlayedPositions.{counted_of, played_of, samples_in}
-use Rattle.exact_span.specs.Spans.{AreLeads, delay_of, first_frame, frames_before, padding_of}
-use Rattle.exact_span.specs.{Spans.span_of, declared.exact_place.ExactPlace.ExactPlace}
+use Rattle.commands.specs.SingleOutput.{most_frames}
+use Rattle.cut_edits.proofs.{HeadLemmas.apart-length, PieceLemmas.span_apart}
+use Rattle.cut_edits.proofs.{PlayLemmas.pieces-play, SealedLemmas.for-whole}
+use Rattle.cut_edits.specs.{Exact.{IsSpanIn, span_lead_ins}, ExactLaws.PlaysItsSamples}
+use Rattle.exact_span.proofs.PlayedLemmas.{places-kept}
+use Rattle.exact_span.specs.Laws.{AreInfoFields, IsPieceHead, KeepsPlaces, SaysNumbers}
+use Rattle.exact_span.specs.PlayedPositions.{counted_positions, played_of, samples_in}
+use Rattle.exact_span.specs.Spans.{AreLeads, delay_of, frames_before, padding_of, span_of}
+use Rattle.exact_span.specs.{Spans.warm_up_frame, declared.exact_place.ExactPlace.ExactPlace}
 use Rattle.exact_span.specs.declared.span.Span.{Span}
 use Rattle.frame_header.specs.{Fields.ClassFields, Tables.samples_of}
 use Rattle.frame_header.specs.declared.version.Version.{Version, TheVariants.{One, Two, TwoFive}}
 use Rattle.frame_writer.specs.Frames.{Frame}
 use Rattle.info_header.specs.{Info.number_or_zero, declared.fields.Info.Info}
-use Rattle.join_edits.specs.Seamless.{brought_by, head_of}
-use Rattle.laying.specs.{Laid.{frames_laid, info_laid, Laid}, LaidFiles.{head_at, laid_file}}
-use Rattle.laying.specs.{Needs.need_of, Relaid.{Part, silent_before}, Surveys.HasSurvey}
+use Rattle.join_edits.specs.Seamless.{part_brought, part_head}
+use Rattle.laying.specs.{Laid.{frames_laid, info_laid, LaidPart}, LaidFiles.{head_at, laid_file}}
+use Rattle.laying.specs.{Needs.need_of, Relaid.{FilePart, silent_lead_in}, Surveys.CanBeRelaid}
 use Rattle.laying.specs.Written.{front_blocks, head_info}
-use Rattle.seam_plan.specs.{Frames.Frame as RunFrame, Laws.{AreEmpty, IsSpanOf}}
+use Rattle.seam_plan.specs.{Frames.RunFrame, Laws.{AreEmptyFrames, IsSpanOf}}
 use Rattle.slot_plan.specs.declared.needs.Need.{Need}
 use Rattle.split_edits.specs.Recording.{input_played}
 use Rattle.sync_survey.specs.{Faults.SurveyFields, MainData.StreamFrame, Row.Row}
@@ -32,15 +32,15 @@ use Rattle.theorems.proofs.ExactFileLemmas.{IsLaidOwn, laid_by, leads, led-leads
 use Rattle.theorems.proofs.ExactFileLemmas.{piece-by, sample, span-class, span-head, span-led}
 use Rattle.theorems.proofs.ExactFileLemmas.{span-long, span-own, span-ways}
 use Rattle.theorems.proofs.LaidInputLemmas.{BringsLed, BringsOwn}
-use Rattle.theorems.proofs.PieceHeads.{laid-count, laid-extension, laid-quality}
-use Rattle.theorems.proofs.SeamlessInputs.{brought-many, IsInput, whole_stream}
-use Rattle.theorems.proofs.SplitJoin.{all_stream, between-needs, run_between}
+use Rattle.theorems.proofs.PieceHeadLemmas.{laid-count, laid-extension, laid-quality}
+use Rattle.theorems.proofs.SeamlessInputLemmas.{brought-many, IsInput, whole_stream}
+use Rattle.theorems.proofs.SplitJoinLemmas.{all_stream, between-needs, run_between}
 
 -- ---- the first and the last frame of a span
 
 -- the first frame of a span
 pub first-is : (class : ClassFields) (p q : ℕ) (span : Span) → span_of class p q ≡ span
-    → span.first ≡ first_frame (samples_in class) p
+    → span.first ≡ warm_up_frame (samples_in class) p
 unfolding span_of
 first-is class p q span is = sym (ap (λ (t : Span). t.first) is)
 
@@ -51,13 +51,13 @@ unfolding span_of
 last-is class p q span is = sym (ap (λ (t : Span). t.last) is)
 
 -- a span begins no later than its first position
-pub first-before : (v : Version) (p : ℕ) → first_frame (samples_of v) p * samples_of v ≤ p
+pub first-before : (v : Version) (p : ℕ) → warm_up_frame (samples_of v) p * samples_of v ≤ p
 first-before One p = omega arith
 first-before Two p = omega arith
 first-before TwoFive p = omega arith
 
 -- and earlier, if that isn't the first of all
-pub first-early : (v : Version) (p : ℕ) → 0 < p → first_frame (samples_of v) p * samples_of v < p
+pub first-early : (v : Version) (p : ℕ) → 0 < p → warm_up_frame (samples_of v) p * samples_of v < p
 first-early One p some = omega (arith, some)
 first-early Two p some = omega (arith, some)
 first-early TwoFive p some = omega (arith, some)
@@ -70,7 +70,7 @@ last-behind TwoFive q = omega arith
 
 -- a later span begins no earlier
 pub first-rises : (v : Version) (p q : ℕ) → p ≤ q
-    → first_frame (samples_of v) p ≤ first_frame (samples_of v) q
+    → warm_up_frame (samples_of v) p ≤ warm_up_frame (samples_of v) q
 first-rises One p q later = omega (arith, later)
 first-rises Two p q later = omega (arith, later)
 first-rises TwoFive p q later = omega (arith, later)
@@ -84,7 +84,7 @@ last-rises TwoFive p q later = omega (arith, later)
 
 -- ---- one piece
 
-module _ (file : List ℕ) (s : SurveyFields) (has : HasSurvey file s)
+module _ (file : List ℕ) (s : SurveyFields) (has : CanBeRelaid file s)
     (few : length s.frames ≤ most_frames) where
   -- as many frames of the run are between two numbers as there are from one to the other
   pub run-many : (i j : ℕ) → j ≤ length (own file s has).frames
@@ -101,7 +101,7 @@ module _ (file : List ℕ) (s : SurveyFields) (has : HasSurvey file s)
   module _ (from to : ExactPlace) (span : Span) (found : IsFound file s has from to span) where
     -- a head that says the span plays its samples where the recording has them
     pub places-of : (many : ℕ) (fields : Info) → AreLeads span many
-        → IsHeadOf s.class many span fields
+        → IsPieceHead s.class many span fields
         → KeepsPlaces s.class many span.first (sample file s has from) (sample file s has to)
         (played_of (Some fields) s.class (many + (span.last - span.first))) (input_played file s)
     places-of many fields are is =
@@ -113,9 +113,9 @@ module _ (file : List ℕ) (s : SurveyFields) (has : HasSurvey file s)
         (sample file s has to) many
         (record { some = found.some; most = found.within })
         (subst (λ (t : Span). AreLeads t many) (sym found.is) are)
-        (subst (λ (t : Span). IsHeadOf s.class many t fields) (sym found.is) is))
+        (subst (λ (t : Span). IsPieceHead s.class many t fields) (sym found.is) is))
 
-    module _ (c : ClassFields) (p : Part) (is : IsInput c p)
+    module _ (c : ClassFields) (p : FilePart) (is : IsInput c p)
         (made : IsExactFile file s has span p.file) where
       abbrev frames : List Frame
       frames = frames_laid (laid_by file s has span made.row) file (own file s has)
@@ -137,9 +137,9 @@ module _ (file : List ℕ) (s : SurveyFields) (has : HasSurvey file s)
       plays : PlaysItsSamples (head file s has) s (sample file s has from) (sample file s has to)
           span many info
       plays =
-          subst (λ (l : Laid).
+          subst (λ (l : LaidPart).
           PlaysItsSamples (head file s has) s (sample file s has from) (sample file s has to) span
-          (leads_in span l.placed) (info_laid l file (own file s has)))
+          (span_lead_ins span l.placed) (info_laid l file (own file s has)))
           (piece-by file s has span made.row made.row_is)
           (pieces-play file s from to span has found.found)
 
@@ -152,7 +152,7 @@ module _ (file : List ℕ) (s : SurveyFields) (has : HasSurvey file s)
           head_info (laid_file front made.row.header info frames made.back)
           (Some (head_at (length (concat front)) made.row.header))
 
-      whole : AreWhole info
+      whole : AreInfoFields info
       whole =
           for-whole s.class frames (laid_by file s has span made.row).quality
           (laid_by file s has span made.row).extension
@@ -182,7 +182,7 @@ module _ (file : List ℕ) (s : SurveyFields) (has : HasSurvey file s)
           made.back
 
       -- so what is read of the head says the span
-      pub read-head : IsHeadOf s.class many span read
+      pub read-head : IsPieceHead s.class many span read
       read-head = record {
         frames = read-count;
         numbers =
@@ -191,7 +191,7 @@ module _ (file : List ℕ) (s : SurveyFields) (has : HasSurvey file s)
       }
 
       -- the fields of the head of the input
-      pub read-is : head_of p ≡ Some read
+      pub read-is : part_head p ≡ Some read
       read-is =
           span-head file s has span found.there made.row made.row_is made.back made.blocks c p is
           made.file_is
@@ -217,8 +217,8 @@ module _ (file : List ℕ) (s : SurveyFields) (has : HasSurvey file s)
       abbrev pub end : ℕ
       end = begin file s has + sample file s has to
 
-      module _ (lead_ins : List RunFrame) (frames_are : (brought_by p).frames ≡ lead_ins ++ run)
-          (empty : AreEmpty lead_ins) (same : length lead_ins ≡ many) where
+      module _ (lead_ins : List RunFrame) (frames_are : (part_brought p).frames ≡ lead_ins ++ run)
+          (empty : AreEmptyFrames lead_ins) (same : length lead_ins ≡ many) where
         frames-many : length p.survey.frames ≡ many + (span.last - span.first)
         frames-many =
             sym (brought-many c p is)
@@ -227,11 +227,11 @@ module _ (file : List ℕ) (s : SurveyFields) (has : HasSurvey file s)
             ∙ ap₂ (λ m n. m + n) same (run-many span.first span.last inside.within)
 
         -- its head counts what is played by it
-        pub counted : (brought_by p).played
+        pub counted : (part_brought p).played
             ≡ Some (played_of (Some read) s.class (many + (span.last - span.first)))
         counted =
-            ap (λ h. counted_of h p.survey.class (length p.survey.frames)) read-is
-            ∙ ap₂ (λ (d : ClassFields) (n : ℕ). counted_of (Some read) d n)
+            ap (λ h. counted_positions h p.survey.class (length p.survey.frames)) read-is
+            ∙ ap₂ (λ (d : ClassFields) (n : ℕ). counted_positions (Some read) d n)
             (is.of_class ∙ input-class) frames-many
             ∙ counted-is s.class many span read (many + (span.last - span.first)) found.there.some
             read-head
@@ -243,9 +243,9 @@ module _ (file : List ℕ) (s : SurveyFields) (has : HasSurvey file s)
         kept = places-of many read leads-are read-head
 
         -- an input with these lead-ins is a span of the recording
-        abbrev pub span-by : IsSpanOf s.class all start end (brought_by p)
+        abbrev pub span-by : IsSpanOf s.class all start end (part_brought p)
         span-by =
-            let first : span.first ≡ first_frame (samples_in s.class) start =
+            let first : span.first ≡ warm_up_frame (samples_in s.class) start =
             first-is s.class start end span found.is in
             let last : span.last ≡ frames_before (samples_in s.class) end =
             last-is s.class start end span found.is in
@@ -274,7 +274,7 @@ module _ (file : List ℕ) (s : SurveyFields) (has : HasSurvey file s)
 
       -- The input is the span, and its stream is as many lead-ins and then the frames of the span.
       pub record HasSpan : Type 0 where
-        pub spans : IsSpanOf s.class all start end (brought_by p)
+        pub spans : IsSpanOf s.class all start end (part_brought p)
         pub from_is : spans.from ≡ span.first
         pub to_is : spans.to ≡ span.last
         pub many_is : length spans.lead_ins ≡ many
@@ -319,7 +319,7 @@ module _ (file : List ℕ) (s : SurveyFields) (has : HasSurvey file s)
             from_is = refl;
             to_is = refl;
             many_is = sym one;
-            leads = silent_before brings.first ∷ [];
+            leads = silent_lead_in brings.first ∷ [];
             stream_is = brings.stream_is;
             same = refl;
           }

@@ -2,18 +2,18 @@
 use Rattle.std.proofs.Common.{ap, arith, Bool, false, inl, inr, length, List, map, None, Ok, refl}
 use Rattle.std.proofs.Common.{Some, subst, sym, true, ℕ, [], ◌++◌, ◌∙◌, ◌∷◌, ◌≡◌, ◌≤◌}
 use Rattle.std.{proofs.lemmas.Bool.and_parts, specs.Prelude.slice_range}
-use Rattle.commands.specs.One.{most_frames}
-use Rattle.cut_edits.{proofs.PieceLaws.span_apart, specs.Exact.piece_of}
+use Rattle.commands.specs.SingleOutput.{most_frames}
+use Rattle.cut_edits.{proofs.PieceLemmas.span_apart, specs.Exact.span_piece}
 use Rattle.exact_span.specs.{Spans.span_of, declared.exact_place.ExactPlace.ExactPlace}
 use Rattle.exact_span.specs.declared.span.Span.{Span}
 use Rattle.frame_header.specs.{Fields.IsClass, Tables.window_of}
-use Rattle.join_edits.specs.Seamless.{begins_blank, brought_by, seamless_file}
-use Rattle.laying.{proofs.{ChosenFrames.survey-had, LaidLaws.first-there}, specs.Laid.Laid}
-use Rattle.laying.specs.{Relaid.Part, Surveys.HasSurvey}
+use Rattle.join_edits.specs.Seamless.{begins_blank, part_brought, seamless_file}
+use Rattle.laying.proofs.{LaidLemmas.first-there, SurveyFrameLemmas.survey-had}
+use Rattle.laying.specs.{Laid.LaidPart, Relaid.FilePart, Surveys.CanBeRelaid}
 use Rattle.seam_plan.specs.{Frames.needs_of, Joins.{has_lead_in, leads_others}}
-use Rattle.split_edits.proofs.RecordingLaws.{pieces-recording}
-use Rattle.sync_survey.{proofs.SurveyedFiles.survey_of-parts, specs.Faults.{surveyed, SurveyFields}}
-use Rattle.sync_survey.specs.MainData.{StreamFrame}
+use Rattle.split_edits.proofs.RecordingLemmas.{pieces-recording}
+use Rattle.sync_survey.proofs.SurveyedFileLemmas.{survey_of-parts}
+use Rattle.sync_survey.specs.{Faults.{survey_fields, SurveyFields}, MainData.StreamFrame}
 use Rattle.theorems.proofs.ExactCutLemmas.{cut-file, is-same}
 use Rattle.theorems.proofs.ExactFileLemmas.{frames-few, head, IsExactFile, laid_by, leads}
 use Rattle.theorems.proofs.ExactFileLemmas.{led-leads, own, piece-by, span-ways}
@@ -21,18 +21,19 @@ use Rattle.theorems.proofs.ExactJoinLemmas.{exact-files}
 use Rattle.theorems.proofs.ExactNumberLemmas.{whole-found, whole_span}
 use Rattle.theorems.proofs.ExactRunLemmas.{AreExactFiles, class-is, first-some, IsPiece, position}
 use Rattle.theorems.proofs.{ExactRunLemmas.st, ExactSpanLemmas.brought-own}
-use Rattle.theorems.proofs.SeamlessInputs.{AreInputs, inputs-are, whole_stream}
-use Rattle.theorems.proofs.{SplitFull.first-empty, SplitJoin.parts-files, SplitLaw.class-of}
-use Rattle.theorems.proofs.SplitSteps.{first-of-range, inputs-front, none-empty}
-use Rattle.theorems.specs.SeamlessLaws.{bare_file, bare_from, ExactInSteps, HasNoEmptyFrame}
-use Rattle.theorems.specs.SeamlessLaws.{IsInSteps, last_place}
+use Rattle.theorems.proofs.SeamlessInputLemmas.{AreInputs, inputs-are, whole_stream}
+use Rattle.theorems.proofs.{SplitFullLemmas.first-empty, SplitJoinLemmas.parts-files}
+use Rattle.theorems.proofs.SplitLemmas.{class-of}
+use Rattle.theorems.proofs.SplitStepLemmas.{first-of-range, inputs-front, none-empty}
+use Rattle.theorems.specs.SeamlessLaws.{bare_file, bare_row_file, ExactInSteps, HasNoEmptyFrame}
+use Rattle.theorems.specs.SeamlessLaws.{IsJoinedInSteps, last_place}
 
-module _ (file : List ℕ) (s : SurveyFields) (has : HasSurvey file s)
+module _ (file : List ℕ) (s : SurveyFields) (has : CanBeRelaid file s)
     (few : length s.frames ≤ most_frames) where
   -- ---- the pieces in two lists
 
   -- those of the first list end at a place, and those of the second go on from it
-  record AreCut (from : ExactPlace) (tos : List ExactPlace) (parts others : List Part) : Type 0
+  record AreCut (from : ExactPlace) (tos : List ExactPlace) (parts others : List FilePart) : Type 0
     where
       first : List ExactPlace
       second : List ExactPlace
@@ -40,7 +41,7 @@ module _ (file : List ℕ) (s : SurveyFields) (has : HasSurvey file s)
       files : AreExactFiles file s has few from first parts
       files_on : AreExactFiles file s has few (last_place from first) second others
 
-  cut-files : (from : ExactPlace) (tos : List ExactPlace) (parts others : List Part)
+  cut-files : (from : ExactPlace) (tos : List ExactPlace) (parts others : List FilePart)
       → AreExactFiles file s has few from tos (parts ++ others) → AreCut from tos parts others
   cut-files from tos [] others files = record {
     first = [];
@@ -61,8 +62,8 @@ module _ (file : List ℕ) (s : SurveyFields) (has : HasSurvey file s)
       }
 
   -- the same files are the same pieces
-  same-files : (from : ExactPlace) (tos : List ExactPlace) (xs ys : List Part)
-      → map (λ (p : Part). Some p.file) xs ≡ map (λ (p : Part). Some p.file) ys
+  same-files : (from : ExactPlace) (tos : List ExactPlace) (xs ys : List FilePart)
+      → map (λ (p : FilePart). Some p.file) xs ≡ map (λ (p : FilePart). Some p.file) ys
       → AreExactFiles file s has few from tos xs → AreExactFiles file s has few from tos ys
   same-files from tos [] [] same files = files
   same-files from tos [] (y ∷ ys) same files = absurd cc
@@ -70,7 +71,8 @@ module _ (file : List ℕ) (s : SurveyFields) (has : HasSurvey file s)
   same-files from [] (x ∷ xs) (y ∷ ys) same files = absurd files
   same-files from (to ∷ tos) (x ∷ xs) (y ∷ ys) same files =
       let here : x.file ≡ y.file = cc in
-      let more : map (λ (p : Part). Some p.file) xs ≡ map (λ (p : Part). Some p.file) ys = cc in (
+      let more : map (λ (p : FilePart). Some p.file) xs ≡ map (λ (p : FilePart). Some p.file) ys =
+      cc in (
         (
           files.0.0,
           files.0.1,
@@ -79,25 +81,25 @@ module _ (file : List ℕ) (s : SurveyFields) (has : HasSurvey file s)
         same-files to tos xs ys more files.1,
       )
 
-  module _ (known : IsClass s.class) (most : ℕ) (e : surveyed file most ≡ Ok s)
+  module _ (known : IsClass s.class) (most : ℕ) (e : survey_fields file most ≡ Ok s)
       (filled : HasNoEmptyFrame s.class (st file s has few)) where
     -- what is cut from a place to another, without the blocks behind
     abbrev cut_between : ExactPlace → ExactPlace → List ℕ
     cut_between from to =
-        bare_file (piece_of (head file s has)
+        bare_file (span_piece (head file s has)
         (span_of s.class (position file s has few from) (position file s has few to)) file
         (own file s has)) file (own file s has)
 
     -- ---- no piece begins with a look-alike
 
-    module _ (place next : ExactPlace) (places : List ExactPlace) (first : Part)
-        (parts : List Part) (inputs : AreInputs first.survey.class (first ∷ parts))
+    module _ (place next : ExactPlace) (places : List ExactPlace) (first : FilePart)
+        (parts : List FilePart) (inputs : AreInputs first.survey.class (first ∷ parts))
         (files : AreExactFiles file s has few place (next ∷ places) (first ∷ parts)) where
       abbrev piece : IsPiece file s has few place next first
       piece = files.0
 
       abbrev has_one : Bool
-      has_one = has_lead_in (window_of first.survey.class.version) (brought_by first)
+      has_one = has_lead_in (window_of first.survey.class.version) (part_brought first)
 
       abbrev own_stream : List StreamFrame
       own_stream = slice_range (st file s has few) piece.0.first piece.0.last
@@ -110,8 +112,9 @@ module _ (file : List ℕ) (s : SurveyFields) (has : HasSurvey file s)
       blank-first : has_one ≡ true → begins_blank first.survey.frames ≡ true
       unfolding has_lead_in
       blank-first has =
-          (and_parts (brought_by first).blank
-          (leads_others (window_of first.survey.class.version) (needs_of (brought_by first).frames))
+          (and_parts (part_brought first).blank
+          (leads_others (window_of first.survey.class.version)
+          (needs_of (part_brought first).frames))
           has).0
 
       never-first : leads file s has piece.0 ≡ 0 → has_one ≡ true → ⊥
@@ -176,17 +179,18 @@ module _ (file : List ℕ) (s : SurveyFields) (has : HasSurvey file s)
             blocks = tt;
             file_is =
                 is ∙ all-joined
-                ∙ ap (λ (l : Laid). bare_file l file (own file s has))
+                ∙ ap (λ (l : LaidPart). bare_file l file (own file s has))
                 (piece-by file s has all_span row.0 row.1)
-                ∙ ap (λ o. bare_from o (laid_by file s has all_span row.0) file (own file s has))
+                ∙ ap (λ o. bare_row_file o (laid_by file s has all_span row.0) file
+                (own file s has))
                 row.1;
           }
 
-    two-steps : (place next : ExactPlace) (places : List ExactPlace) (first : Part)
-        (parts others : List Part)
+    two-steps : (place next : ExactPlace) (places : List ExactPlace) (first : FilePart)
+        (parts others : List FilePart)
         → AreInputs first.survey.class (first ∷ (parts ++ others))
         → AreExactFiles file s has few place (next ∷ places) (first ∷ (parts ++ others))
-        → (steps : IsInSteps first parts others)
+        → (steps : IsJoinedInSteps first parts others)
         → seamless_file (steps.joined ∷ steps.more) ≡ seamless_file (first ∷ (parts ++ others))
     two-steps place next places first parts others inputs files steps =
         let cut = cut-files next places parts others files.1 in
@@ -196,15 +200,15 @@ module _ (file : List ℕ) (s : SurveyFields) (has : HasSurvey file s)
         let front_files : AreExactFiles file s has few place (next ∷ cut.first) (first ∷ parts) =
         (files.0, cut.files) in
         let names : map steps.files steps.names
-        ≡ map (λ (p : Part). Some p.file) (steps.joined ∷ steps.more) =
+        ≡ map (λ (p : FilePart). Some p.file) (steps.joined ∷ steps.more) =
         parts-files steps.files 0 None most_frames steps.names (steps.joined ∷ steps.more)
         steps.taken in
-        let both : Some steps.joined.file ∷ map (λ (p : Part). Some p.file) steps.more
-        ≡ Some (seamless_file (first ∷ parts)) ∷ map (λ (p : Part). Some p.file) others =
+        let both : Some steps.joined.file ∷ map (λ (p : FilePart). Some p.file) steps.more
+        ≡ Some (seamless_file (first ∷ parts)) ∷ map (λ (p : FilePart). Some p.file) others =
         sym names ∙ steps.are in
         let joined_is : steps.joined.file ≡ seamless_file (first ∷ parts) = cc in
-        let more_are : map (λ (p : Part). Some p.file) others
-        ≡ map (λ (p : Part). Some p.file) steps.more = cc in
+        let more_are : map (λ (p : FilePart). Some p.file) others
+        ≡ map (λ (p : FilePart). Some p.file) steps.more = cc in
         let span : Span =
         whole_span file s has few known place next cut.first first parts front_inputs front_files in
         let piece : IsPiece file s has few place mid steps.joined = (

@@ -7,12 +7,13 @@ use Rattle.std.proofs.lemmas.List.{length-take-le, take-append-le, take-take, ta
 use Rattle.std.specs.Prelude.{IfSome, if◌then◌else◌, IsTrue}
 use Rattle.bit_fields.specs.Bits.{bytes}
 use Rattle.byteorder.specs.Endian.{big_bytes}
-use Rattle.exact_span.specs.Extensions.{extension_of, has_encoder, in_three_bytes, kept, plain}
+use Rattle.exact_span.specs.Extensions.{extension_of, has_encoder, kept_extension, plain_extension}
+use Rattle.exact_span.specs.Extensions.{three_bytes}
 use Rattle.exact_span.specs.TagWord.{arc_of, crc_place, sealed_info, tag_crc_of, with_length_field}
 use Rattle.frame_header.specs.{Fields.{ClassFields, HeaderFields}, HeaderBits.header_bits}
 use Rattle.frame_header.specs.Tables.{area_of, class_of, side_size_of}
 use Rattle.frame_writer.specs.Frames.{Frame}
-use Rattle.info_header.specs.Info.{info_bytes, number_or_zero, table_or_zeros, text_of}
+use Rattle.info_header.specs.Info.{info_bytes, number_or_zero, table_or_zeros, vbr_text}
 use Rattle.info_header.specs.InfoFrame.{info_frame, info_header_of, info_slot_of}
 use Rattle.info_header.specs.declared.fields.Info.{Info}
 use Rattle.join_edits.specs.Seamless.{replay_gain}
@@ -46,7 +47,7 @@ module _ (c : ClassFields) (frames : List Frame) (first second : Option ℕ)
   fields-same x a b same =
       let info : Info = info_for c frames first x in
       ap₂ (λ (q e : List ℕ).
-      text_of info.vbr ++ (big_bytes 4 15 ++ (big_bytes 4 (number_or_zero info.frames)
+      vbr_text info.vbr ++ (big_bytes 4 15 ++ (big_bytes 4 (number_or_zero info.frames)
       ++ (big_bytes 4 (number_or_zero info.bytes) ++ (table_or_zeros info.table ++ (q ++ e))))))
       quality same
 
@@ -83,12 +84,12 @@ quality-again q =
 -- ---- what an extension keeps
 
 kept-by : (b : Bool) (extension : List ℕ) → length extension ≡ 36
-    → length (cond b extension plain) ≡ 36
+    → length (cond b extension plain_extension) ≡ 36
 kept-by true extension long = long
 kept-by false extension long = refl
 
 kept-long : (head : Option Info) → IfSome head (λ (i : Info). length i.extension ≡ 36)
-    → length (kept head) ≡ 36
+    → length (kept_extension head) ≡ 36
 kept-long None long = refl
 kept-long (Some info) long = kept-by (has_encoder info.extension) info.extension long
 
@@ -120,8 +121,8 @@ sealed-front first info long =
 
 -- the bytes of an extension that one made of it keeps, and the name of an encoder that counts
 pub record Keeps (head : Option Info) (extension : List ℕ) : Type 0 where
-  pub front : take 21 extension ≡ take 21 (kept head)
-  pub mid : take 4 (drop 24 extension) ≡ take 4 (drop 24 (kept head))
+  pub front : take 21 extension ≡ take 21 (kept_extension head)
+  pub mid : take 4 (drop 24 extension) ≡ take 4 (drop 24 (kept_extension head))
   pub encoder : IsTrue (has_encoder extension)
 
 module _ (head : Option Info) (long : IfSome head (λ (i : Info). length i.extension ≡ 36))
@@ -129,33 +130,33 @@ module _ (head : Option Info) (long : IfSome head (λ (i : Info). length i.exten
   abbrev made : List ℕ
   made = extension_of head delay padding
 
-  front-long : length (take 21 (kept head)) ≡ 21
-  front-long = length-take-le 21 (kept head) (omega (arith, kept-long head long))
+  front-long : length (take 21 (kept_extension head)) ≡ 21
+  front-long = length-take-le 21 (kept_extension head) (omega (arith, kept-long head long))
 
-  mid-long : length (take 4 (drop 24 (kept head))) ≡ 4
+  mid-long : length (take 4 (drop 24 (kept_extension head))) ≡ 4
   mid-long =
-      length-take-le 4 (drop 24 (kept head))
-      (omega (arith, length-drop 24 (kept head), kept-long head long))
+      length-take-le 4 (drop 24 (kept_extension head))
+      (omega (arith, length-drop 24 (kept_extension head), kept-long head long))
 
   -- what is made of a head keeps its first 21 bytes
-  pub made-front : take 21 made ≡ take 21 (kept head)
+  pub made-front : take 21 made ≡ take 21 (kept_extension head)
   unfolding extension_of
   made-front =
-      take-append-le 21 (take 21 (kept head))
-      (in_three_bytes delay padding ++ (take 4 (drop 24 (kept head)) ++ replicate 8 0))
+      take-append-le 21 (take 21 (kept_extension head))
+      (three_bytes delay padding ++ (take 4 (drop 24 (kept_extension head)) ++ replicate 8 0))
       (omega (arith, front-long))
-      ∙ take-take 21 21 (kept head) (omega arith)
+      ∙ take-take 21 21 (kept_extension head) (omega arith)
 
   -- and the bytes 24 to 27
-  pub made-mid : take 4 (drop 24 made) ≡ take 4 (drop 24 (kept head))
+  pub made-mid : take 4 (drop 24 made) ≡ take 4 (drop 24 (kept_extension head))
   unfolding extension_of
   made-mid =
-      let rest : List ℕ = take 4 (drop 24 (kept head)) ++ replicate 8 0 in
+      let rest : List ℕ = take 4 (drop 24 (kept_extension head)) ++ replicate 8 0 in
       ap (take 4)
       (sym (drop-drop 3 21 made)
       ∙ ap (drop 3)
-      (drop_at (take 21 (kept head)) (in_three_bytes delay padding ++ rest) 21 front-long))
-      ∙ take_at (take 4 (drop 24 (kept head))) (replicate 8 0) 4 mid-long
+      (drop_at (take 21 (kept_extension head)) (three_bytes delay padding ++ rest) 21 front-long))
+      ∙ take_at (take 4 (drop 24 (kept_extension head))) (replicate 8 0) 4 mid-long
 
   -- so does whatever begins with the same 28 bytes
   pub keeps-by : (extension : List ℕ) → take 28 extension ≡ take 28 made
@@ -175,11 +176,11 @@ pub made-again : (head : Option Info) (fields : Info) (delay padding : ℕ)
 unfolding extension_of
 made-again head fields delay padding keeps =
     ap (λ b.
-    take 21 (if b then fields.extension else plain)
-    ++ (in_three_bytes delay padding
-    ++ (take 4 (drop 24 (if b then fields.extension else plain)) ++ replicate 8 0)))
+    take 21 (if b then fields.extension else plain_extension)
+    ++ (three_bytes delay padding
+    ++ (take 4 (drop 24 (if b then fields.extension else plain_extension)) ++ replicate 8 0)))
     keeps.encoder
-    ∙ ap₂ (λ (x y : List ℕ). x ++ (in_three_bytes delay padding ++ (y ++ replicate 8 0)))
+    ∙ ap₂ (λ (x y : List ℕ). x ++ (three_bytes delay padding ++ (y ++ replicate 8 0)))
     keeps.front keeps.mid
 
 -- peak and gains are in the first 21 bytes

@@ -6,48 +6,50 @@ use Rattle.std.proofs.{Common.{◌==◌, ◌∙◌, ◌∷◌, ◌≡◌, ◌≤
 use Rattle.std.proofs.lemmas.List.{length-drop, length-map, length-take-le}
 use Rattle.std.proofs.lemmas.{List.FromFn.length-range_with_len, Slice.Eq.bytes_eq-Decides}
 use Rattle.std.specs.{List.{concat, list_all, range_with_len}, Prelude.{slice_get, slice_range}}
-use Rattle.cut_edits.specs.Exact.{apart}
-use Rattle.frame_header.proofs.HeaderLaws.{IsClass-class_of}
+use Rattle.cut_edits.specs.Exact.{survey_without_head}
+use Rattle.frame_header.proofs.HeaderLemmas.{IsClass-class_of}
 use Rattle.frame_header.specs.Fields.{ClassFields, HeaderFields, IsClass, SlotFields}
 use Rattle.frame_header.specs.{HeaderBits.header_bits, Tables.{class_of, window_of}}
 use Rattle.frame_writer.specs.Frames.{Frame}
 use Rattle.info_header.specs.declared.fields.Info.{Info}
-use Rattle.join_edits.specs.Seamless.{begins_blank, brought_by, run_frame, sound_of}
-use Rattle.laying.proofs.FittingFrames.{fitting-laid}
-use Rattle.laying.proofs.HoldLaws.{blocks-kept, part-entries, part-needs, part-stream}
-use Rattle.laying.proofs.LaidFileLaws.{laid-frames-stay, laid-stream, laid-survey}
-use Rattle.laying.proofs.LaidLaws.{first-there, laid-slots}
-use Rattle.laying.proofs.PlannedFrames.{AreNeedsOf, one, relaid-cons}
-use Rattle.laying.specs.Fits.{FitsFrom, IsFitting}
-use Rattle.laying.specs.Laid.{frames_laid, info_laid, Laid, needs_laid, part_laid}
-use Rattle.laying.specs.LaidFiles.{AreEntries, frame_length, frames_place, head_at, IsBlocks}
-use Rattle.laying.specs.LaidFiles.{IsEntry, IsLaidFile, laid_fields, laid_file, rows_from}
-use Rattle.laying.specs.{LaidLaws.HasNoneLost, Laws.AreLaidAs, Needs.need_of, NeedsFit.own_choice}
-use Rattle.laying.specs.Relaid.{frames_in, IsPart, left_behind, moved_to, Part, relaid}
-use Rattle.laying.specs.{Relaid.{silent_before, stream_in, with_lead_ins}, Surveys.HasSurvey}
-use Rattle.laying.specs.Written.{front_blocks, slot_in, table_entry}
-use Rattle.seam_plan.proofs.{FollowLaws.sounds, LeadInLaws.lead-in-is}
-use Rattle.seam_plan.specs.Frames.{Frame as RunFrame, needs_of as run_needs}
-use Rattle.seam_plan.specs.Joins.{has_lead_in, is_header, lead_in_header, leads_others}
+use Rattle.join_edits.specs.Seamless.{begins_blank, part_brought, run_frame, sound_of}
+use Rattle.laying.proofs.FittingFrameLemmas.{fitting-laid}
+use Rattle.laying.proofs.HoldLemmas.{blocks-kept, part-entries, part-needs, part-stream}
+use Rattle.laying.proofs.LaidFileLemmas.{laid-frames-stay, laid-stream, laid-survey}
+use Rattle.laying.proofs.LaidLemmas.{first-there, laid-slots}
+use Rattle.laying.proofs.PlannedFrameLemmas.{AreNeedsOf, one, relaid-cons}
+use Rattle.laying.specs.Fits.{FitsFromReach, IsFittingPlan}
+use Rattle.laying.specs.Laid.{frames_laid, info_laid, LaidPart, needs_laid, source_part}
+use Rattle.laying.specs.LaidFiles.{AreBlocks, AreStreamEntries, frame_length, frames_offset}
+use Rattle.laying.specs.LaidFiles.{head_at, IsLaidFile, IsStreamEntry, laid_fields, laid_file}
+use Rattle.laying.specs.{LaidFiles.rows_from, LaidLaws.HasNoneLost, Laws.AreFramesOfStream}
+use Rattle.laying.specs.{Needs.need_of, NeedsFit.own_choice}
+use Rattle.laying.specs.Relaid.{FilePart, frame_with_place, IsPart, part_frames, part_stream}
+use Rattle.laying.specs.Relaid.{relaid_frames, rest_behind, silent_lead_in, stream_with_lead_ins}
+use Rattle.laying.specs.{Surveys.CanBeRelaid, Written.{front_blocks, slot_in, table_entry}}
+use Rattle.seam_plan.proofs.{FollowLemmas.sounds, LeadInLemmas.lead-in-is}
+use Rattle.seam_plan.specs.Frames.{needs_of, RunFrame}
+use Rattle.seam_plan.specs.Joins.{has_lead_in, lead_in_header, leads_others, matches_header}
 use Rattle.side_info.specs.Side.{no_side, payload_bits, payload_bytes, side_bits}
 use Rattle.side_info.specs.declared.side.Side.{Side}
-use Rattle.slot_plan.{proofs.AreaLaws.only_one, specs.Behind.IsLeadInHeader}
-use Rattle.slot_plan.specs.{Laws.{AreLed, AreOwn}, Plans.AreFor, declared.needs.Need.Need}
-use Rattle.slot_plan.specs.declared.needs.Placed.{Placed}
-use Rattle.sync_survey.proofs.{EmptiedLaws.no_bytes, SurveyParts.surveyed-allowed}
-use Rattle.sync_survey.proofs.SurveyedFiles.{survey_of-parts}
-use Rattle.sync_survey.specs.Faults.{stream_of, stream_of_survey, surveyed, SurveyFields}
-use Rattle.sync_survey.specs.{HeadApart.{emptied, emptied_row}, MainData.StreamFrame, Row.Row}
-use Rattle.theorems.proofs.{CaseLaws.stream-is, ExactLaws.{one-on, part-sized}}
-use Rattle.theorems.proofs.{FrontBlocks.front-stays, SeamlessFront.none-zero}
-use Rattle.theorems.proofs.SeamlessInputs.{brought-needs, brought-sounds, IsInput, run-needs}
-use Rattle.theorems.proofs.SeamlessInputs.{run-sounds, whole_stream}
-use Rattle.theorems.proofs.SeamlessRun.{own-frames, own-many}
+use Rattle.slot_plan.{proofs.AreaLemmas.only_one, specs.FreeBytes.IsLeadInHeader}
+use Rattle.slot_plan.specs.{Laws.{AreInOwnSlots, AreLedInOwnSlots}, Plans.AreItemSlots}
+use Rattle.slot_plan.specs.declared.needs.{Need.Need, Placed.Placed}
+use Rattle.sync_survey.proofs.{EmptiedLemmas.no_bytes, SurveyPartsLemmas.surveyed-allowed}
+use Rattle.sync_survey.proofs.SurveyedFileLemmas.{survey_of-parts}
+use Rattle.sync_survey.specs.Faults.{stream_of, stream_of_survey, survey_fields, SurveyFields}
+use Rattle.sync_survey.specs.{HeadApart.{emptied_row, emptied_survey}, MainData.StreamFrame}
+use Rattle.sync_survey.specs.Row.{Row}
+use Rattle.theorems.proofs.{CaseLemmas.stream-is, ExactLemmas.{one-on, part-sized}}
+use Rattle.theorems.proofs.{FrontBlockLemmas.front-stays, SeamlessFrontLemmas.none-zero}
+use Rattle.theorems.proofs.SeamlessInputLemmas.{brought-needs, brought-sounds, IsInput, run-needs}
+use Rattle.theorems.proofs.SeamlessInputLemmas.{run-sounds, whole_stream}
+use Rattle.theorems.proofs.SeamlessRunLemmas.{own-frames, own-many}
 
 -- ---- lists of frames
 
 -- frames with the same needs and the same sounds are the same
-pub frames-same : (xs ys : List RunFrame) → run_needs xs ≡ run_needs ys → sounds xs ≡ sounds ys
+pub frames-same : (xs ys : List RunFrame) → needs_of xs ≡ needs_of ys → sounds xs ≡ sounds ys
     → xs ≡ ys
 frames-same [] [] needs sounding = refl
 frames-same [] (y ∷ ys) needs sounding =
@@ -57,7 +59,7 @@ frames-same (x ∷ xs) [] needs sounding =
 frames-same (x ∷ xs) (y ∷ ys) needs sounding =
     let need : x.need ≡ y.need = cc in
     let sound : x.sound ≡ y.sound = cc in
-    let more_needs : run_needs xs ≡ run_needs ys = cc in
+    let more_needs : needs_of xs ≡ needs_of ys = cc in
     let more_sounds : sounds xs ≡ sounds ys = cc in
     ap₂ (λ (f : RunFrame) (fs : List RunFrame). f ∷ fs)
     (ap₂ (λ (n : Need) (s : List ℕ). record { need = n; sound = s }) need sound)
@@ -89,10 +91,10 @@ begun-bytes : (s : Side) (begin : ℕ)
 unfolding payload_bytes payload_bits
 begun-bytes s begin = refl
 
-moved-need : (class : ClassFields) (need : Need) (f : Frame) (p : Placed) → IsEntry class f
+moved-need : (class : ClassFields) (need : Need) (f : Frame) (p : Placed) → IsStreamEntry class f
     → need.header ≡ f.kept.header
     → need.bytes ≡ length f.payload → Contains (own_choice need.header) p.slot
-    → frame_need (moved_to p f) ≡ need
+    → frame_need (frame_with_place p f) ≡ need
 moved-need class need f p entry header bytes slot =
     let same : p.slot ≡ need.header.slot = sym (only_one need.header.slot p.slot slot) in
     ap₂ (λ (h : HeaderFields) (n : ℕ). record { header = h; bytes = n })
@@ -101,16 +103,16 @@ moved-need class need f p entry header bytes slot =
 
 relaid-cons-by : (b : Bool) (p : Placed) (placed : List Placed) (f : Frame) (fs : List Frame)
     → p.lead_in ≡ b
-    → relaid (f ∷ fs) (p ∷ placed) ≡ one b p f ∷ relaid (left_behind b f fs) placed
+    → relaid_frames (f ∷ fs) (p ∷ placed) ≡ one b p f ∷ relaid_frames (rest_behind b f fs) placed
 relaid-cons-by b p placed f fs is =
     relaid-cons p placed f fs
-    ∙ ap (λ lead_in. one lead_in p f ∷ relaid (left_behind lead_in f fs) placed) is
+    ∙ ap (λ lead_in. one lead_in p f ∷ relaid_frames (rest_behind lead_in f fs) placed) is
 
 -- frames that are laid in their own slots need what the plan was made for
 pub own-needs : (class : ClassFields) (needs : List Need) (fs : List Frame) (placed : List Placed)
-    → AreEntries class fs → AreNeedsOf needs fs
-    → AreOwn needs placed → map frame_need (relaid fs placed) ≡ needs
-unfolding AreFor relaid
+    → AreStreamEntries class fs → AreNeedsOf needs fs
+    → AreInOwnSlots needs placed → map frame_need (relaid_frames fs placed) ≡ needs
+unfolding AreItemSlots relaid_frames
 own-needs class [] [] placed entries are own = refl
 own-needs class [] (f ∷ fs) placed entries are own = absurd are
 own-needs class (need ∷ needs) [] placed entries are own = absurd are
@@ -130,10 +132,10 @@ pub record LedNeeds (window : ℕ) (needs : List Need) (at : ℕ) (fs : List Fra
 
 -- frames that are laid after their lead-in need what it and they do
 pub led-needs : (class : ClassFields) (window at : ℕ) (needs : List Need) (fs : List Frame)
-    (placed : List Placed) → IsClass class → AreEntries class fs
-    → AreNeedsOf needs fs → AreLed window needs placed → FitsFrom window 0 needs placed
-    → LedNeeds window needs at (relaid fs placed)
-unfolding AreLed FitsFrom IsLeadInHeader
+    (placed : List Placed) → IsClass class → AreStreamEntries class fs → AreNeedsOf needs fs
+    → AreLedInOwnSlots window needs placed → FitsFromReach window 0 needs placed
+    → LedNeeds window needs at (relaid_frames fs placed)
+unfolding AreLedInOwnSlots FitsFromReach IsLeadInHeader
 led-needs class window at [] fs placed known entries are led fits = absurd led
 led-needs class window at (need ∷ needs) [] placed known entries are led fits = absurd are
 led-needs class window at (need ∷ needs) (f ∷ fs) [] known entries are led fits = absurd led
@@ -164,19 +166,19 @@ led-needs class window at (need ∷ needs) (f ∷ fs) (p ∷ placed) known entri
 -- ---- one file
 
 placed-some : (window reach : ℕ) (needs : List Need) (placed : List Placed)
-    → FitsFrom window reach needs placed → 0 < length needs → 0 < length placed
-unfolding FitsFrom
+    → FitsFromReach window reach needs placed → 0 < length needs → 0 < length placed
+unfolding FitsFromReach
 placed-some window reach [] placed fits some = absurd (omega (arith, some))
 placed-some window reach (need ∷ needs) [] fits some = absurd fits
 placed-some window reach (need ∷ needs) (p ∷ placed) fits some = omega arith
 
 -- the stream of frames after their lead-in
 led-frames : (window : ℕ) (needs : List Need) (placed : List Placed) (stream : List StreamFrame)
-    → length stream ≡ length needs → AreLed window needs placed
+    → length stream ≡ length needs → AreLedInOwnSlots window needs placed
     → (f : StreamFrame) × (fs : List StreamFrame) × (stream ≡ f ∷ fs)
-    × (with_lead_ins placed stream ≡ silent_before f ∷ stream)
+    × (stream_with_lead_ins placed stream ≡ silent_lead_in f ∷ stream)
     × (length placed ≡ length needs + 1)
-unfolding AreLed
+unfolding AreLedInOwnSlots
 led-frames window [] placed stream same led = absurd led
 led-frames window (need ∷ needs) [] stream same led = absurd led
 led-frames window (need ∷ needs) (p ∷ placed) [] same led = absurd (omega (arith, same))
@@ -185,36 +187,36 @@ led-frames window (need ∷ needs) (p ∷ placed) (f ∷ fs) same led = (
   fs,
   refl,
   one-on true p placed f fs led.0
-      ∙ ap (λ (l : List StreamFrame). silent_before f ∷ l)
+      ∙ ap (λ (l : List StreamFrame). silent_lead_in f ∷ l)
       (own-frames (need ∷ needs) (f ∷ fs) placed same led.2),
   omega (arith, own-many (need ∷ needs) placed led.2),
 )
 
 -- these frames and no lead-in
-pub record BringsOwn (class : ClassFields) (p : Part) (is : IsInput class p)
+pub record BringsOwn (class : ClassFields) (p : FilePart) (is : IsInput class p)
     (frames : List RunFrame) (own : List StreamFrame) : Type 0 where
-  pub frames_are : (brought_by p).frames ≡ frames
-  pub rows_need : map need_of p.survey.frames ≡ run_needs frames
+  pub frames_are : (part_brought p).frames ≡ frames
+  pub rows_need : map need_of p.survey.frames ≡ needs_of frames
   pub stream_is : whole_stream class p is ≡ own
 
 -- these frames after a lead-in, which the input has in front
-pub record BringsLed (class : ClassFields) (p : Part) (is : IsInput class p)
+pub record BringsLed (class : ClassFields) (p : FilePart) (is : IsInput class p)
     (frames : List RunFrame) (own : List StreamFrame) : Type 0 where
   pub lead_in : RunFrame
-  pub frames_are : (brought_by p).frames ≡ lead_in ∷ frames
+  pub frames_are : (part_brought p).frames ≡ lead_in ∷ frames
   pub empty : lead_in.need.bytes ≡ 0
-  pub header : lead_in_header (window_of class.version) (run_needs frames)
+  pub header : lead_in_header (window_of class.version) (needs_of frames)
       ≡ Some lead_in.need.header
-  pub rows_need : map need_of p.survey.frames ≡ lead_in.need ∷ run_needs frames
-  pub has : has_lead_in (window_of class.version) (brought_by p) ≡ true
+  pub rows_need : map need_of p.survey.frames ≡ lead_in.need ∷ needs_of frames
+  pub has : has_lead_in (window_of class.version) (part_brought p) ≡ true
   pub first : StreamFrame
   pub rest : List StreamFrame
   pub own_is : own ≡ first ∷ rest
-  pub stream_is : whole_stream class p is ≡ silent_before first ∷ own
+  pub stream_is : whole_stream class p is ≡ silent_lead_in first ∷ own
 
-module _ (laid : Laid) (file : List ℕ) (s : SurveyFields) (has : HasSurvey file s)
+module _ (laid : LaidPart) (file : List ℕ) (s : SurveyFields) (has : CanBeRelaid file s)
     (some : laid.from < laid.to) (within : laid.to ≤ length s.frames)
-    (fitting : IsFitting (window_of s.class.version) (needs_laid laid s) laid.placed)
+    (fitting : IsFittingPlan (window_of s.class.version) (needs_laid laid s) laid.placed)
     (long : length laid.extension ≡ 36) where
   abbrev window : ℕ
   window = window_of s.class.version
@@ -222,14 +224,14 @@ module _ (laid : Laid) (file : List ℕ) (s : SurveyFields) (has : HasSurvey fil
   abbrev needs : List Need
   needs = needs_laid laid s
 
-  abbrev part : Part
-  part = part_laid laid file s
+  abbrev part : FilePart
+  part = source_part laid file s
 
   abbrev frames : List Frame
   frames = frames_laid laid file s
 
   abbrev own : List StreamFrame
-  own = stream_in part
+  own = part_stream part
 
   -- its frames as those of a run
   abbrev pub own_run : List RunFrame
@@ -262,7 +264,7 @@ module _ (laid : Laid) (file : List ℕ) (s : SurveyFields) (has : HasSurvey fil
       )
 
   -- they can be laid, and are the frames of their stream with the lead-ins of the plan
-  pub laid-as : AreLaidAs s.class frames (with_lead_ins laid.placed own)
+  pub laid-as : AreFramesOfStream s.class frames (stream_with_lead_ins laid.placed own)
   laid-as =
       let are = fitting-laid s.class part laid.placed part-is fitting in
       record {
@@ -270,7 +272,8 @@ module _ (laid : Laid) (file : List ℕ) (s : SurveyFields) (has : HasSurvey fil
         entries = are.entries;
         fit = are.fit;
         stream_is =
-            are.stream_is ∙ ap (with_lead_ins laid.placed) (part-stream s.class part part-is);
+            are.stream_is
+            ∙ ap (stream_with_lead_ins laid.placed) (part-stream s.class part part-is);
       }
 
   class-known : IsClass s.class
@@ -279,17 +282,17 @@ module _ (laid : Laid) (file : List ℕ) (s : SurveyFields) (has : HasSurvey fil
       let row = has.placed laid.from first.0 first.1 in
       subst IsClass row.class_is (IsClass-class_of first.0.header row.known)
 
-  needs-are : AreNeedsOf needs (frames_in part)
+  needs-are : AreNeedsOf needs (part_frames part)
   needs-are = part-needs s.class part part-is
 
-  entries-are : AreEntries s.class (frames_in part)
+  entries-are : AreStreamEntries s.class (part_frames part)
   entries-are = part-entries s.class part part-is
 
   -- ---- as an input
 
   -- the file, with any blocks behind its frames
   module _ (row : Row) (row_is : slice_get s.frames laid.from ≡ Some row) (back : List (List ℕ))
-      (behind : IsBlocks back) where
+      (behind : AreBlocks back) where
     abbrev pub made : List ℕ
     made = laid_file (front_blocks file s) row.header info frames back
 
@@ -314,13 +317,13 @@ module _ (laid : Laid) (file : List ℕ) (s : SurveyFields) (has : HasSurvey fil
           blocks_behind = behind;
         }
 
-    module _ (c : ClassFields) (p : Part) (is : IsInput c p)
+    module _ (c : ClassFields) (p : FilePart) (is : IsInput c p)
         (same_file : p.file ≡ made) where
       told : fields ≡ p.survey
       told =
           let many : ℕ = length made + length frames + 1 in
-          let e : surveyed made is.allowed ≡ Ok p.survey =
-          subst (λ l. surveyed l is.allowed ≡ Ok p.survey) same_file
+          let e : survey_fields made is.allowed ≡ Ok p.survey =
+          subst (λ l. survey_fields l is.allowed ≡ Ok p.survey) same_file
           (survey_of-parts p.file is.allowed p.survey is.surveyed).1 in
           let one : Ok p.survey ≡ Ok fields =
           sym (surveyed-allowed made is.allowed many p.survey (omega arith) e)
@@ -340,17 +343,17 @@ module _ (laid : Laid) (file : List ℕ) (s : SurveyFields) (has : HasSurvey fil
           (laid-frames-stay s.class (front_blocks file s) row.header info frames back
           made-laid).none
           is.allowed p.survey
-          (subst (λ l. surveyed l is.allowed ≡ Ok p.survey) same_file
+          (subst (λ l. survey_fields l is.allowed ≡ Ok p.survey) same_file
           (survey_of-parts p.file is.allowed p.survey is.surveyed).1)
 
-      apart-same : apart p.survey ≡ p.survey
+      apart-same : survey_without_head p.survey ≡ p.survey
       apart-same =
-          ap emptied none-lost.apart
+          ap emptied_survey none-lost.apart
           ∙ ap (λ (rows : List Row). record p.survey { frames = rows })
           (none-emptied p.survey.frames none-lost.kept)
 
       -- the stream of the input is that of its frames
-      pub input-stream : whole_stream c p is ≡ with_lead_ins laid.placed own
+      pub input-stream : whole_stream c p is ≡ stream_with_lead_ins laid.placed own
       input-stream =
           ap (λ (t : SurveyFields). stream_of_survey p.file t) apart-same
           ∙ sym (stream-is p.file is.allowed p.survey is.surveyed)
@@ -360,7 +363,7 @@ module _ (laid : Laid) (file : List ℕ) (s : SurveyFields) (has : HasSurvey fil
           ∙ laid-as.stream_is
 
       abbrev at : ℕ
-      at = frames_place (front_blocks file s) row.header info
+      at = frames_offset (front_blocks file s) row.header info
 
       rows-are : p.survey.frames ≡ rows_from at frames
       unfolding laid_fields
@@ -371,15 +374,15 @@ module _ (laid : Laid) (file : List ℕ) (s : SurveyFields) (has : HasSurvey fil
       input-rows = ap (map need_of) rows-are ∙ rows-needs at frames
 
       -- and so do the frames that it brings
-      pub input-needs : run_needs (brought_by p).frames ≡ map frame_need frames
+      pub input-needs : needs_of (part_brought p).frames ≡ map frame_need frames
       input-needs =
           brought-needs c p is ∙ ap (λ (t : SurveyFields). map need_of t.frames) apart-same
           ∙ input-rows
 
-      input-sounds : sounds (brought_by p).frames
-          ≡ map (sound_of s.class) (with_lead_ins laid.placed own)
+      input-sounds : sounds (part_brought p).frames
+          ≡ map (sound_of s.class) (stream_with_lead_ins laid.placed own)
       input-sounds = brought-sounds c p is ∙ ap (map (sound_of c)) input-stream
-          ∙ ap (λ d. map (sound_of d) (with_lead_ins laid.placed own)) class-same
+          ∙ ap (λ d. map (sound_of d) (stream_with_lead_ins laid.placed own)) class-same
 
       -- its head is the Info frame
       pub head-is : p.survey.head
@@ -388,7 +391,7 @@ module _ (laid : Laid) (file : List ℕ) (s : SurveyFields) (has : HasSurvey fil
       head-is = ap (λ (t : SurveyFields). t.head) (sym told)
 
       -- its blocks in front are those of the file
-      pub front-same : (many : ℕ) (t : SurveyFields) → surveyed file many ≡ Ok t
+      pub front-same : (many : ℕ) (t : SurveyFields) → survey_fields file many ≡ Ok t
           → front_blocks file t ≡ front_blocks file s
           → front_blocks p.file p.survey ≡ front_blocks file s
       front-same many t e same =
@@ -399,7 +402,7 @@ module _ (laid : Laid) (file : List ℕ) (s : SurveyFields) (has : HasSurvey fil
           ∙ front-stays file t many e row.header info frames back
           ∙ same
 
-      own-run-needs : run_needs own_run ≡ needs
+      own-run-needs : needs_of own_run ≡ needs
       own-run-needs =
           let rows : List Row = slice_range s.frames laid.from laid.to in
           run-needs s.class rows own (own-length ∙ length-map rows need_of)
@@ -410,63 +413,65 @@ module _ (laid : Laid) (file : List ℕ) (s : SurveyFields) (has : HasSurvey fil
           run-sounds s.class rows own (own-length ∙ length-map rows need_of)
 
       -- in their own slots it brings them alone
-      pub brings-own : AreOwn needs laid.placed → BringsOwn c p is own_run own
+      pub brings-own : AreInOwnSlots needs laid.placed → BringsOwn c p is own_run own
       brings-own in_own =
-          let all : with_lead_ins laid.placed own ≡ own =
+          let all : stream_with_lead_ins laid.placed own ≡ own =
           own-frames needs own laid.placed own-length in_own in
           record {
             frames_are =
-                frames-same (brought_by p).frames own_run
+                frames-same (part_brought p).frames own_run
                 (input-needs
-                ∙ own-needs s.class needs (frames_in part) laid.placed entries-are needs-are in_own
+                ∙ own-needs s.class needs
+                (part_frames part) laid.placed entries-are needs-are in_own
                 ∙ sym own-run-needs)
                 (input-sounds ∙ ap (map (sound_of s.class)) all ∙ sym own-run-sounds);
             rows_need =
                 input-rows
-                ∙ own-needs s.class needs (frames_in part) laid.placed entries-are needs-are in_own
+                ∙ own-needs s.class needs
+                (part_frames part) laid.placed entries-are needs-are in_own
                 ∙ sym own-run-needs;
             stream_is = input-stream ∙ all;
           }
 
       -- after their lead-in it brings them after it
-      pub brings-led : AreLed window needs laid.placed → BringsLed c p is own_run own
+      pub brings-led : AreLedInOwnSlots window needs laid.placed → BringsLed c p is own_run own
       unfolding has_lead_in
       brings-led led =
           let lead_needs =
-          led-needs s.class window at needs (frames_in part) laid.placed class-known entries-are
+          led-needs s.class window at needs (part_frames part) laid.placed class-known entries-are
           needs-are led fitting.fits in
           let all = led-frames window needs laid.placed own own-length led in
           let lead_need : Need = record { header = lead_needs.header; bytes = 0 } in
           let lead_in : RunFrame =
-          record { need = lead_need; sound = sound_of s.class (silent_before all.0) } in
-          let all_needs : run_needs (brought_by p).frames ≡ lead_need ∷ needs =
+          record { need = lead_need; sound = sound_of s.class (silent_lead_in all.0) } in
+          let all_needs : needs_of (part_brought p).frames ≡ lead_need ∷ needs =
           input-needs ∙ lead_needs.are in
-          let leads : leads_others window (run_needs (brought_by p).frames) ≡ true =
-          ap (leads_others window) all_needs ∙ ap (is_header lead_needs.header) lead_needs.lead
+          let leads : leads_others window (needs_of (part_brought p).frames) ≡ true =
+          ap (leads_others window) all_needs ∙ ap (matches_header lead_needs.header) lead_needs.lead
           ∙ (bytes_eq-Decides (header_bits lead_needs.header) (header_bits lead_needs.header)).1
           refl in
           record {
             lead_in = lead_in;
             frames_are =
-                frames-same (brought_by p).frames (lead_in ∷ own_run)
+                frames-same (part_brought p).frames (lead_in ∷ own_run)
                 (all_needs ∙ ap (λ (l : List Need). lead_need ∷ l) (sym own-run-needs))
                 (input-sounds ∙ ap (map (sound_of s.class)) all.3
-                ∙ ap (λ (l : List (List ℕ)). sound_of s.class (silent_before all.0) ∷ l)
+                ∙ ap (λ (l : List (List ℕ)). sound_of s.class (silent_lead_in all.0) ∷ l)
                 (sym own-run-sounds));
             empty = refl;
             header =
                 subst (λ (d : ClassFields).
-                lead_in_header (window_of d.version) (run_needs own_run) ≡ Some lead_needs.header)
+                lead_in_header (window_of d.version) (needs_of own_run) ≡ Some lead_needs.header)
                 (sym class-same)
                 (ap (lead_in_header window) own-run-needs ∙ lead_needs.lead);
             rows_need =
                 input-rows ∙ lead_needs.are
                 ∙ ap (λ (l : List Need). lead_need ∷ l) (sym own-run-needs);
             has = subst
-                (λ (d : ClassFields). has_lead_in (window_of d.version) (brought_by p) ≡ true)
+                (λ (d : ClassFields). has_lead_in (window_of d.version) (part_brought p) ≡ true)
                 (sym class-same)
-                (and_from (brought_by p).blank
-                (leads_others window (run_needs (brought_by p).frames))
+                (and_from (part_brought p).blank
+                (leads_others window (needs_of (part_brought p).frames))
                 (ap begins_blank rows-are ∙ lead_needs.blank) leads);
             first = all.0;
             rest = all.1;

@@ -6,22 +6,23 @@ use Rattle.std.proofs.lemmas.List.{append-nil}
 use Rattle.frame_header.specs.{Fields.{ClassFields, HeaderFields, SlotFields}, Slots.all_slots}
 use Rattle.frame_header.specs.Tables.{area_of, class_of}
 use Rattle.laying.specs.NeedsFit.{own_choice}
-use Rattle.slot_plan.proofs.AreaLaws.{Contains-area, only_one}
-use Rattle.slot_plan.proofs.BehindLaws.{chosen-own, cons-fits, fit-feasible, fits-cons, more-behind}
-use Rattle.slot_plan.proofs.{BehindLaws.within-fit, OwnLeadIn.none-own}
-use Rattle.slot_plan.specs.{Behind.{FitsBehind, IsLeadInSlot}, Laws.{AreLed, AreOwn}}
-use Rattle.slot_plan.specs.Layouts.{begins_of, Frame, IsFeasible}
-use Rattle.slot_plan.specs.Lists.{AreChosen, frames_of, IsNotBehind}
-use Rattle.slot_plan.specs.Parts.{AreLeadIns, IsLeadIn, item_of, items_of, led_items, open_of}
-use Rattle.slot_plan.specs.Parts.{own_area, own_frame, whole_of}
-use Rattle.slot_plan.specs.Plans.{areas_in, AreFor, IsLedPlan, IsPlan, IsPlanFor}
-use Rattle.slot_plan.specs.{Reserve.free_behind, declared.needs.{Need.Need, Placed.Placed}}
+use Rattle.slot_plan.proofs.AreaLemmas.{Contains-area, only_one}
+use Rattle.slot_plan.proofs.FreeByteLemmas.{chosen-own, cons-fits, fit-feasible, fits-cons}
+use Rattle.slot_plan.proofs.{FreeByteLemmas.{more-behind, within-fit}, OwnLeadInLemmas.none-own}
+use Rattle.slot_plan.specs.FreeBytes.{FitsBehind, IsLeadInSlot}
+use Rattle.slot_plan.specs.Laws.{AreInOwnSlots, AreLedInOwnSlots}
+use Rattle.slot_plan.specs.Layouts.{begins_of, FrameLengths, HasLayout}
+use Rattle.slot_plan.specs.Lists.{AreChosenAreas, frames_with_areas, IsNotBehind}
+use Rattle.slot_plan.specs.Parts.{all_items, AreLeadIns, IsLeadIn, led_items, need_item, open_frame}
+use Rattle.slot_plan.specs.Parts.{own_frame, own_slot_area, part_items}
+use Rattle.slot_plan.specs.Plans.{AreItemSlots, IsLedPlan, IsPlan, IsPlanFor, item_areas}
+use Rattle.slot_plan.specs.{Reserve.free_bytes_behind, declared.needs.{Need.Need, Placed.Placed}}
 
 -- ---- frames in their own slots
 
-own-areas : (needs : List Need) (placed : List Placed) → AreOwn needs placed
-    → areas_in (map (item_of own_choice) needs) placed ≡ map own_area needs
-unfolding AreFor areas_in
+own-areas : (needs : List Need) (placed : List Placed) → AreInOwnSlots needs placed
+    → item_areas (map (need_item own_choice) needs) placed ≡ map own_slot_area needs
+unfolding AreItemSlots item_areas
 own-areas [] [] own = refl
 own-areas [] (p ∷ placed) own = absurd own
 own-areas (need ∷ needs) [] own = absurd own
@@ -31,12 +32,12 @@ own-areas (need ∷ needs) (p ∷ placed) own =
     (ap (λ (t : SlotFields). area_of (class_of need.header) t need.header.protected) (sym slot))
     (own-areas needs placed own.2)
 
-own-laid : (needs : List Need)
-    → frames_of (map open_of (map (item_of own_choice) needs)) (map own_area needs)
+own-laid : (needs : List Need) → frames_with_areas (map open_frame
+    (map (need_item own_choice) needs)) (map own_slot_area needs)
     ≡ map own_frame needs
-unfolding frames_of
+unfolding frames_with_areas
 own-laid [] = refl
-own-laid (need ∷ needs) = ap (λ (l : List Frame). own_frame need ∷ l) (own-laid needs)
+own-laid (need ∷ needs) = ap (λ (l : List FrameLengths). own_frame need ∷ l) (own-laid needs)
 
 -- where main data begin in the plan of frames in their own slots
 abbrev pub OwnBegins : ℕ → List Need → List Placed → Type 0
@@ -44,19 +45,20 @@ OwnBegins window needs placed =
     map (λ (p : Placed). p.begin) placed ≡ begins_of window 0 0 (map own_frame needs)
 
 own-begins : (window : ℕ) (needs : List Need) (placed : List Placed)
-    → IsPlanFor window (map (item_of own_choice) needs) placed → OwnBegins window needs placed
+    → IsPlanFor window (map (need_item own_choice) needs) placed → OwnBegins window needs placed
 own-begins window needs placed plan =
     plan.begins
     ∙ ap (λ (areas : List ℕ).
-    begins_of window 0 0 (frames_of (map open_of (map (item_of own_choice) needs)) areas))
+    begins_of window 0 0
+    (frames_with_areas (map open_frame (map (need_item own_choice) needs)) areas))
     (own-areas needs placed plan.slots)
     ∙ ap (begins_of window 0 0) (own-laid needs)
 
 alone-begins : (window : ℕ) (needs : List Need) (lead_in : Option SlotFields)
     (placed : List Placed) → IsLeadIn window own_choice needs lead_in
-    → IsPlanFor window (items_of own_choice needs lead_in) placed → FitsBehind window 0 needs
+    → IsPlanFor window (part_items own_choice needs lead_in) placed → FitsBehind window 0 needs
     → OwnBegins window needs placed
-unfolding IsLeadIn items_of
+unfolding IsLeadIn part_items
 alone-begins window needs None placed alone plan fits = own-begins window needs placed plan
 alone-begins window [] (Some slot) placed alone plan fits = absurd alone
 alone-begins window (first ∷ needs) (Some slot) placed alone plan fits =
@@ -64,14 +66,14 @@ alone-begins window (first ∷ needs) (Some slot) placed alone plan fits =
 
 leads-begins : (window : ℕ) (needs : List Need) (lead_ins : List (Option SlotFields))
     (placed : List Placed) → AreLeadIns window own_choice (needs ∷ []) lead_ins
-    → IsPlanFor window (whole_of own_choice (needs ∷ []) lead_ins) placed
+    → IsPlanFor window (all_items own_choice (needs ∷ []) lead_ins) placed
     → FitsBehind window 0 needs → OwnBegins window needs placed
-unfolding AreLeadIns whole_of
+unfolding AreLeadIns all_items
 leads-begins window needs [] placed alone plan fits = absurd alone
 leads-begins window needs (lead_in ∷ lead_ins) placed alone plan fits =
     alone-begins window needs lead_in placed alone.0
     (subst (λ items. IsPlanFor window items placed)
-    (append-nil (items_of own_choice needs lead_in)) plan) fits
+    (append-nil (part_items own_choice needs lead_in)) plan) fits
 
 -- in the plan of frames that fit behind no bytes main data begin as early as they may
 pub plan-begins : (window : ℕ) (needs : List Need) (placed : List Placed)
@@ -81,9 +83,10 @@ plan-begins window needs placed plan fits =
     leads-begins window needs plan.lead_ins placed plan.alone plan.whole fits
 
 -- frames in their own slots whose main data begin alike are placed alike
-pub own-same : (needs : List Need) (xs ys : List Placed) → AreOwn needs xs → AreOwn needs ys
-    → map (λ (p : Placed). p.begin) xs ≡ map (λ (p : Placed). p.begin) ys → xs ≡ ys
-unfolding AreFor
+pub own-same : (needs : List Need) (xs ys : List Placed) → AreInOwnSlots needs xs
+    → AreInOwnSlots needs ys → map (λ (p : Placed). p.begin) xs ≡ map (λ (p : Placed). p.begin) ys
+    → xs ≡ ys
+unfolding AreItemSlots
 own-same [] [] [] first second begins = refl
 own-same [] [] (y ∷ ys) first second begins = absurd second
 own-same [] (x ∷ xs) ys first second begins = absurd first
@@ -114,7 +117,7 @@ pub lead-fits : (window : ℕ) (h : HeaderFields) (slot : SlotFields) (needs : L
 lead-fits window h slot needs fits =
     let area : ℕ = area_of (class_of h) slot false in
     let behind = fits-cons window 0 (lead_need h slot) needs (omega arith) fits in
-    more-behind window (free_behind window 0 0 area) area needs (omega arith) behind.1
+    more-behind window (free_bytes_behind window 0 0 area) area needs (omega arith) behind.1
 
 -- and the other way
 pub fits-lead : (window : ℕ) (h : HeaderFields) (slot : SlotFields) (needs : List Need)
@@ -122,7 +125,7 @@ pub fits-lead : (window : ℕ) (h : HeaderFields) (slot : SlotFields) (needs : L
     → FitsBehind window 0 (lead_need h slot ∷ needs)
 fits-lead window h slot needs fits =
     let area : ℕ = area_of (class_of h) slot false in
-    let near : area - (area - window) ≡ free_behind window 0 0 area = omega arith in
+    let near : area - (area - window) ≡ free_bytes_behind window 0 0 area = omega arith in
     cons-fits window 0 (lead_need h slot) needs (omega arith) (omega arith)
     (subst (λ n. FitsBehind window n needs) near
     (within-fit window (area - (area - window)) (map own_frame needs) (omega arith)
@@ -145,17 +148,17 @@ module _ (window : ℕ) (first : Need) (needs : List Need) where
 
   -- the lead-in and the frames as they are laid
   led-laid : (slot : SlotFields)
-      → frames_of (map open_of (led_items own_choice all))
-      (area_of class slot false ∷ map own_area all)
+      → frames_with_areas (map open_frame (led_items own_choice all))
+      (area_of class slot false ∷ map own_slot_area all)
       ≡ map own_frame (lead_need first.header slot ∷ all)
-  unfolding frames_of led_items
+  unfolding frames_with_areas led_items
   led-laid slot =
-      ap (λ (l : List Frame). own_frame (lead_need first.header slot) ∷ l) (own-laid all)
+      ap (λ (l : List FrameLengths). own_frame (lead_need first.header slot) ∷ l) (own-laid all)
 
   led-chosen : (slot : SlotFields) → Contains all_slots slot
-      → AreChosen (map open_of (led_items own_choice all))
-      (area_of class slot false ∷ map own_area all)
-  unfolding AreChosen led_items
+      → AreChosenAreas (map open_frame (led_items own_choice all))
+      (area_of class slot false ∷ map own_slot_area all)
+  unfolding AreChosenAreas led_items
   led-chosen slot has = (Contains-area class false all_slots slot has, chosen-own all)
 
   -- the lead-in of the plan and where the main data of all begin
@@ -163,28 +166,29 @@ module _ (window : ℕ) (first : Need) (needs : List Need) where
     pub lead : Placed
     pub rest : List Placed
     pub are : placed ≡ lead ∷ rest
-    pub led : AreLed window all placed
+    pub led : AreLedInOwnSlots window all placed
     pub slot : IsLeadInSlot window class all lead.slot
-    pub own : AreOwn all rest
+    pub own : AreInOwnSlots all rest
     pub begins : OwnBegins window (lead_need first.header lead.slot ∷ all) placed
 
-  led-areas : (p : Placed) (placed : List Placed) → AreFor (led_items own_choice all) (p ∷ placed)
-      → areas_in (led_items own_choice all) (p ∷ placed)
-      ≡ area_of class p.slot false ∷ map own_area all
-  unfolding AreFor areas_in led_items
+  led-areas : (p : Placed) (placed : List Placed)
+      → AreItemSlots (led_items own_choice all) (p ∷ placed)
+      → item_areas (led_items own_choice all) (p ∷ placed)
+      ≡ area_of class p.slot false ∷ map own_slot_area all
+  unfolding AreItemSlots item_areas led_items
   led-areas p placed slots =
       ap (λ (l : List ℕ). area_of class p.slot false ∷ l) (own-areas all placed slots.2)
 
   led-cons : (p : Placed) (placed : List Placed) → IsLedPlan window own_choice all (p ∷ placed)
       → IsLedAs (p ∷ placed)
-  unfolding AreFor AreLed led_items
+  unfolding AreItemSlots AreLedInOwnSlots led_items
   led-cons p placed plan =
       let slots = plan.slots in
       let areas = led-areas p placed slots in
-      let opens = map open_of (led_items own_choice all) in
+      let opens = map open_frame (led_items own_choice all) in
       let feasible : FitsBehind window 0 (lead_need first.header p.slot ∷ all) =
-      subst (IsFeasible window 0) (led-laid p.slot)
-      (subst (λ (l : List ℕ). IsFeasible window 0 (frames_of opens l)) areas
+      subst (HasLayout window 0) (led-laid p.slot)
+      (subst (λ (l : List ℕ). HasLayout window 0 (frames_with_areas opens l)) areas
       plan.least.feasible) in
       let is : IsLeadInSlot window class all p.slot =
       record {
@@ -192,12 +196,12 @@ module _ (window : ℕ) (first : Need) (needs : List Need) where
         fits = lead-fits window first.header p.slot all feasible;
         least = λ other has fits.
             not-behind (area_of class p.slot false) (area_of class other false)
-            (map own_area all) (map own_area all)
+            (map own_slot_area all) (map own_slot_area all)
             (subst (λ (l : List ℕ).
-            IsNotBehind l (area_of class other false ∷ map own_area all)) areas
-            (plan.least.least (area_of class other false ∷ map own_area all)
+            IsNotBehind l (area_of class other false ∷ map own_slot_area all)) areas
+            (plan.least.least (area_of class other false ∷ map own_slot_area all)
             (led-chosen other has)
-            (subst (IsFeasible window 0) (sym (led-laid other))
+            (subst (HasLayout window 0) (sym (led-laid other))
             (fits-lead window first.header other all fits))));
       } in
       record {
@@ -209,13 +213,13 @@ module _ (window : ℕ) (first : Need) (needs : List Need) where
         own = slots.2;
         begins =
             plan.begins
-            ∙ ap (λ (l : List ℕ). begins_of window 0 0 (frames_of opens l)) areas
+            ∙ ap (λ (l : List ℕ). begins_of window 0 0 (frames_with_areas opens l)) areas
             ∙ ap (begins_of window 0 0) (led-laid p.slot);
       }
 
   -- the plan of a part after a lead-in in any case: the lead-in
   -- has the least slot behind whose area the frames fit
   pub led-as : (placed : List Placed) → IsLedPlan window own_choice all placed → IsLedAs placed
-  unfolding AreFor led_items
+  unfolding AreItemSlots led_items
   led-as [] plan = absurd plan.slots
   led-as (p ∷ placed) plan = led-cons p placed plan

@@ -1,13 +1,13 @@
 -- A stream of the frames of several parts, as they are, each part after at most one lead-in.
 use Rattle.std.specs.Prelude.{List, [], ◌++◌, ◌∷◌, ◌≡◌}
-use Rattle.laying.specs.Relaid.{silent_before}
+use Rattle.laying.specs.Relaid.{silent_lead_in}
 use Rattle.sync_survey.specs.MainData.{StreamFrame}
 
 -- no frame, or one without main data, whose header is
 -- that of the part's first frame without a check word
 abbrev pub IsAtMostALeadIn : List StreamFrame → List StreamFrame → Type 0
 IsAtMostALeadIn [] part = Unit {0}
-IsAtMostALeadIn (frame ∷ []) (first ∷ part) = frame ≡ silent_before first
+IsAtMostALeadIn (frame ∷ []) (first ∷ part) = frame ≡ silent_lead_in first
 IsAtMostALeadIn _ _ = ⊥
 
 -- the stream is, part by part, at most one lead-in

@@ -1,33 +1,32 @@
 -- What holds of the streams and plans of the commands that lay main data anew.
 use Rattle.std.specs.Prelude.{Bool, false, flat_map, length, List, map, Ok, slice_get, slice_range}
 use Rattle.std.specs.Prelude.{Some, true, ℕ, [], ◌<◌, ◌∷◌, ◌≡◌, ◌≤◌}
-use Rattle.commands.specs.{Command.{Command, Made, Output}, One.most_frames}
+use Rattle.commands.specs.{Command.{Command, Made, Output}, SingleOutput.most_frames}
 use Rattle.cue_sheet.specs.declared.place.Place.{Place}
-use Rattle.cut_edits.specs.Chosen.{AreUsual, Chosen, cut_command, first_plan, laid_by, needs_of}
-use Rattle.cut_edits.specs.{Chosen.plan_of, Exact.exact_command}
+use Rattle.cut_edits.specs.Chosen.{AreUsualChoices, Chosen, chosen_needs, cut_command, first_plan}
+use Rattle.cut_edits.specs.{Chosen.{own_slots_plan, placed_part}, Exact.exact_command}
 use Rattle.exact_span.specs.declared.exact_place.ExactPlace.{ExactPlace}
 use Rattle.frame_header.specs.{Fields.{ClassFields, HeaderFields, SlotFields}, Tables.window_of}
 use Rattle.gain_edits.specs.{Fade.fade_command, Gain.gain_command, Undo.undo_command}
-use Rattle.job_words.specs.Asked.{Asked, Cut, CutExact, Fade, Gain, Join, Pack, Salvage, SplitAt}
-use Rattle.job_words.specs.Asked.{SplitBy, SplitExact, Undo}
-use Rattle.join_edits.specs.Join.{join_command, joined_stream, parts_of as input_parts}
-use Rattle.join_edits.specs.Join.{plan_of as joined_plan}
-use Rattle.join_edits.specs.Seamless.{brought_by, joined_by, run_plan, seamless_command}
+use Rattle.job_words.specs.Request.{Cut, CutExact, Fade, Gain, Join, Pack, Request, Salvage}
+use Rattle.job_words.specs.Request.{SplitAt, SplitBy, SplitExact, Undo}
+use Rattle.join_edits.specs.Join.{join_command, join_parts, joined_plan, joined_stream}
+use Rattle.join_edits.specs.Seamless.{join_of_parts, part_brought, run_plan, seamless_command}
 use Rattle.laying.specs.{Laid.stream_laid, LaidLaws.LosesNoFrame, Needs.need_of}
 use Rattle.laying.specs.NeedsFit.{own_choice}
-use Rattle.laying.specs.Relaid.{AreParts, needs_in, Part, stream_in, with_lead_ins}
+use Rattle.laying.specs.Relaid.{AreParts, FilePart, part_needs, part_stream, stream_with_lead_ins}
 use Rattle.outside.specs.Files.{Contents}
-use Rattle.pack_edits.specs.Modes.{pack_mode_command, plan_by}
+use Rattle.pack_edits.specs.Modes.{mode_planning, pack_mode_command}
 use Rattle.requests.specs.declared.{mode.PackMode.PackMode, shift.Shift.Shift}
-use Rattle.salvage.specs.{Damaged.{damaged_of, DamagedFields}, Stream.salvaged_stream}
-use Rattle.salvage_edits.specs.Salvaged.{all_of, left_stream, salvage_command}
-use Rattle.seam_plan.specs.{Frames.needs_of as run_needs, Seams.run_of}
+use Rattle.salvage.specs.{DamagedFiles.{damaged_of, DamagedFields}, Stream.salvaged_stream}
+use Rattle.salvage_edits.specs.Salvaged.{all_chosen, left_stream, salvage_command}
+use Rattle.seam_plan.specs.{Frames.needs_of, Seams.run_of}
 use Rattle.side_info.specs.Side.{no_side}
 use Rattle.slot_plan.specs.{Plans.IsPlan, declared.needs.Placed.Placed}
 use Rattle.split_edits.specs.Split.{split_at_command, split_by_command, split_exact_at_command}
 use Rattle.split_edits.specs.Split.{split_exact_by_command}
-use Rattle.sync_survey.specs.{Faults.{stream_of, SurveyFields}, HeadApart.emptied}
-use Rattle.sync_survey.specs.{MainData.{no_slot, part_lengths, parts_of, StreamFrame}, Row.Row}
+use Rattle.sync_survey.specs.{Faults.{stream_of, SurveyFields}, HeadApart.emptied_survey}
+use Rattle.sync_survey.specs.{MainData.{granule_lengths, no_slot, split_bits, StreamFrame}, Row.Row}
 use Rattle.sync_survey.specs.Survey.{survey_of}
 use Rattle.theorems.specs.{Chosen.{AllConsistOf, chosen_of}, Exact.IsExactly}
 
@@ -35,60 +34,61 @@ use Rattle.theorems.specs.{Chosen.{AllConsistOf, chosen_of}, Exact.IsExactly}
 -- stream is exactly the frames of each part, as in a join.
 abbrev pub PlannedStreamsAreExact : Type 0
 PlannedStreamsAreExact =
-    (class : ClassFields) (choices : HeaderFields → List SlotFields) (parts : List Part)
+    (class : ClassFields) (choices : HeaderFields → List SlotFields) (parts : List FilePart)
     (placed : List Placed) → AreParts class parts
-    → IsPlan (window_of class.version) choices (map needs_in parts) placed
-    → IsExactly (map stream_in parts) (with_lead_ins placed (flat_map stream_in parts))
+    → IsPlan (window_of class.version) choices (map part_needs parts) placed
+    → IsExactly (map part_stream parts) (stream_with_lead_ins placed (flat_map part_stream parts))
 
 -- The output of a cut, of a packing with the least slots, and each piece
 -- of a split holds exactly the chosen frames of the stream of the input.
 abbrev pub ChosenStreamsAreExact : Type 0
 ChosenStreamsAreExact =
     (choices : HeaderFields → List SlotFields) (chosen : Chosen) (file : List ℕ) (s : SurveyFields)
-    → AreUsual choices → survey_of file most_frames ≡ Ok s → chosen.from < chosen.to
+    → AreUsualChoices choices → survey_of file most_frames ≡ Ok s → chosen.from < chosen.to
     → chosen.to ≤ length s.frames → IsExactly (slice_range (stream_of file) chosen.from chosen.to
-    ∷ []) (stream_laid (laid_by chosen (first_plan choices s.class (needs_of chosen s))) file s)
+    ∷ [])
+    (stream_laid (placed_part chosen (first_plan choices s.class (chosen_needs chosen s))) file s)
 
 -- Their plan is the first of all lists of slots, in the order of areas, into which
 -- the main data can be laid, with a lead-in only where there is none without.
 abbrev pub ChosenPlansAreFirst : Type 0
 ChosenPlansAreFirst =
     (choices : HeaderFields → List SlotFields) (chosen : Chosen) (file : List ℕ) (s : SurveyFields)
-    → AreUsual choices → survey_of file most_frames ≡ Ok s → chosen.from < chosen.to
+    → AreUsualChoices choices → survey_of file most_frames ≡ Ok s → chosen.from < chosen.to
     → chosen.to ≤ length s.frames → IsPlan (window_of s.class.version) choices
-    (needs_of chosen s ∷ []) (first_plan choices s.class (needs_of chosen s))
+    (chosen_needs chosen s ∷ []) (first_plan choices s.class (chosen_needs chosen s))
 
 -- The output of a packing, in whichever mode, holds exactly the frames of the stream of the input.
 abbrev pub PackedStreamsAreExact : Type 0
 PackedStreamsAreExact =
     (mode : PackMode) (chosen : Chosen) (file : List ℕ) (s : SurveyFields) (placed : List Placed)
     → survey_of file most_frames ≡ Ok s → chosen.from < chosen.to → chosen.to ≤ length s.frames
-    → plan_by mode s.class (needs_of chosen s) ≡ Ok placed
+    → mode_planning mode s.class (chosen_needs chosen s) ≡ Ok placed
     → IsExactly (slice_range (stream_of file) chosen.from chosen.to ∷ [])
-    (with_lead_ins placed (slice_range (stream_of file) chosen.from chosen.to))
+    (stream_with_lead_ins placed (slice_range (stream_of file) chosen.from chosen.to))
 
 -- The output of a join holds exactly the frames of each part, which are all frames of an input.
 abbrev pub JoinedStreamsAreExact : Type 0
 JoinedStreamsAreExact =
-    (first : Part) (parts : List Part) → AreParts first.survey.class (first ∷ parts)
-    → IsExactly (map stream_in (first ∷ parts)) (joined_stream (first ∷ parts))
+    (first : FilePart) (parts : List FilePart) → AreParts first.survey.class (first ∷ parts)
+    → IsExactly (map part_stream (first ∷ parts)) (joined_stream (first ∷ parts))
 
 -- Its plan is the first of all lists of the frames' own
 -- slots, with the lead-in that each part has alone.
 abbrev pub JoinedPlansAreFirst : Type 0
 JoinedPlansAreFirst =
-    (first : Part) (parts : List Part) → AreParts first.survey.class (first ∷ parts)
-    → IsPlan (window_of first.survey.class.version) own_choice (map needs_in (first ∷ parts))
+    (first : FilePart) (parts : List FilePart) → AreParts first.survey.class (first ∷ parts)
+    → IsPlan (window_of first.survey.class.version) own_choice (map part_needs (first ∷ parts))
     (joined_plan first.survey.class (first ∷ parts))
 
 -- The plan of a join without seams is that of one part: the first of all lists of the slots of the
 -- run's frames, which are their own, but for first frames of inputs that joined in greater ones.
 abbrev pub SeamlessPlansAreFirst : Type 0
 SeamlessPlansAreFirst =
-    (files : Contents) (inputs : List (List ℕ)) (first : Part) (parts : List Part)
-    → input_parts files inputs ≡ Ok (first ∷ parts)
+    (files : Contents) (inputs : List (List ℕ)) (first : FilePart) (parts : List FilePart)
+    → join_parts files inputs ≡ Ok (first ∷ parts)
     → IsPlan (window_of first.survey.class.version) own_choice
-    (run_needs (run_of (brought_by first) (joined_by first parts)) ∷ []) (run_plan first parts)
+    (needs_of (run_of (part_brought first) (join_of_parts first parts)) ∷ []) (run_plan first parts)
 
 -- The output of a salvage holds exactly what is left of the damaged file:
 -- the frames of all runs, each sound one as it is, and each other one empty.
@@ -100,9 +100,9 @@ SalvagedStreamsAreExact = (file : List ℕ) (d : DamagedFields) → damaged_of f
 -- a cut of all frames, of which those that aren't sound have no main data.
 abbrev pub SalvagedPlansAreFirst : Type 0
 SalvagedPlansAreFirst =
-    (file : List ℕ) (d : DamagedFields) → damaged_of file ≡ Ok d
-    → IsPlan (window_of d.survey.class.version) own_choice (map need_of (emptied d.survey).frames
-    ∷ []) (plan_of (all_of (emptied d.survey)) (emptied d.survey))
+    (file : List ℕ) (d : DamagedFields) → damaged_of file ≡ Ok d → IsPlan
+    (window_of d.survey.class.version) own_choice (map need_of (emptied_survey d.survey).frames
+    ∷ []) (own_slots_plan (all_chosen (emptied_survey d.survey)) (emptied_survey d.survey))
 
 -- Of a frame that is read this is left: its header, and its side
 -- information, or no side information and no main data if it isn't sound.
@@ -110,7 +110,7 @@ pub record IsLeftOf (r : Row) (frame : StreamFrame) : Type 0 where
   pub header : frame.header ≡ record r.header { slot = no_slot }
   pub sound : r.lost ≡ false → frame.side ≡ record r.side { main_data_begin = 0 }
   pub empty : r.lost ≡ true
-      → (frame.side ≡ no_side) × (frame.payload ≡ parts_of (part_lengths r.header no_side) [])
+      → (frame.side ≡ no_side) × (frame.payload ≡ split_bits (granule_lengths r.header no_side) [])
 
 -- as many frames are left as are read, in their order
 pub record AreLeftOf (rows : List Row) (frames : List StreamFrame) : Type 0 where
@@ -124,7 +124,7 @@ SalvagedFramesAreLeft = (file : List ℕ) (d : DamagedFields) → damaged_of fil
     → AreLeftOf d.survey.frames (salvaged_stream file)
 
 -- What a command writes, where it isn't refused, holds exactly the frames that the job chooses.
-abbrev pub HoldsChosen : Asked → Command → Type 0
+abbrev pub HoldsChosen : Request → Command → Type 0
 HoldsChosen asked command = (files : Contents) (made : Made) → command.makes files ≡ Ok made
     → AllConsistOf (chosen_of asked files) (command.streams files)
 

@@ -3,26 +3,28 @@ use Rattle.std.specs.List.{list_all}
 use Rattle.std.specs.Prelude.{Bool, filter, length, List, map, None, not, Ok, Option, slice_get}
 use Rattle.std.specs.Prelude.{slice_range, Some, true, zip, ℕ, [], ◌%◌, ◌&&◌, ◌*◌, ◌++◌, ◌+◌, ◌-◌}
 use Rattle.std.specs.Prelude.{◌/◌, ◌<◌, ◌==◌, ◌∷◌, ◌≡◌, ◌≤◌}
-use Rattle.commands.specs.One.{most_frames}
+use Rattle.commands.specs.SingleOutput.{most_frames}
 use Rattle.cue_sheet.specs.declared.place.Place.{Place}
-use Rattle.cut_edits.specs.Exact.{apart, exact_laid, span_in}
-use Rattle.exact_span.specs.{Laws.{IsHeadOf, KeepsPlaces}, PlayedPositions.{played_of, samples_in}}
+use Rattle.cut_edits.specs.Exact.{exact_part, file_span, survey_without_head}
+use Rattle.exact_span.specs.Laws.{IsPieceHead, KeepsPlaces}
+use Rattle.exact_span.specs.PlayedPositions.{played_of, samples_in}
 use Rattle.exact_span.specs.declared.{exact_place.ExactPlace.ExactPlace, played.Played.Played}
 use Rattle.exact_span.specs.declared.span.Span.{Span}
 use Rattle.frame_header.specs.{Fields.ClassFields, Tables.window_of}
-use Rattle.join_edits.specs.Join.{parts_of}
-use Rattle.join_edits.specs.Seamless.{brought_by, delay_of_run, info_with, joined_by, leads_of}
-use Rattle.join_edits.specs.Seamless.{padding_by, seamless_file, seamless_stream, set_apart}
-use Rattle.join_edits.specs.Seamless.{sound_of}
+use Rattle.join_edits.specs.Join.{join_parts}
+use Rattle.join_edits.specs.Seamless.{delay_of_run, join_of_parts, part_brought, part_without_head}
+use Rattle.join_edits.specs.Seamless.{run_lead_ins, seamless_file, seamless_info, seamless_padding}
+use Rattle.join_edits.specs.Seamless.{seamless_stream, sound_of}
 use Rattle.laying.specs.KeptFields.{fields_of_head}
-use Rattle.laying.specs.Laid.{file_laid, frames_laid, info_laid, Laid, stream_laid}
-use Rattle.laying.specs.{LaidFiles.laid_file, Relaid.{Part, stream_in}, Written.front_blocks}
+use Rattle.laying.specs.Laid.{file_laid, frames_laid, info_laid, LaidPart, stream_laid}
+use Rattle.laying.specs.{LaidFiles.laid_file, Relaid.{FilePart, part_stream}, Written.front_blocks}
 use Rattle.outside.specs.Files.{Contents}
-use Rattle.seam_plan.specs.{Joins.has_lead_in, Laws.{is_following, run_after}, Seams.Joint}
-use Rattle.seam_plan.specs.declared.seam.Seam.TheVariants.{Follows}
+use Rattle.seam_plan.specs.{Joins.has_lead_in, Laws.{is_following_seam, run_after}}
+use Rattle.seam_plan.specs.{Seams.JointFrames, declared.seam.Seam.TheVariants.Follows}
 use Rattle.side_info.specs.Side.{side_bits}
-use Rattle.split_edits.specs.{Cutting.laid_at, Recording.{input_played, leads_laid, sample_named}}
-use Rattle.split_edits.specs.Split.{cutting_of, exact_cutting_of, frames_between}
+use Rattle.split_edits.specs.Cutting.{piece_parts}
+use Rattle.split_edits.specs.Recording.{input_played, piece_lead_ins, sample_named}
+use Rattle.split_edits.specs.Split.{cut_part, cutting_of, exact_cutting_of}
 use Rattle.split_edits.specs.declared.{exact_points.ExactPoints.ExactPoints, points.Points.Points}
 use Rattle.sync_survey.specs.Faults.{stream_of, stream_of_survey, SurveyFields}
 use Rattle.sync_survey.specs.{MainData.StreamFrame, Row.Row, Survey.survey_of}
@@ -31,21 +33,22 @@ use Rattle.sync_survey.specs.{MainData.StreamFrame, Row.Row, Survey.survey_of}
 
 -- how many frames the run has where those of an input end in it, the one with this number, counted
 -- from 0
-abbrev pub ends_of : Part → List Part → ℕ → ℕ
-ends_of first parts number =
-    length (run_after (brought_by first) (joined_by first parts).joints number)
+abbrev pub run_end : FilePart → List FilePart → ℕ → ℕ
+run_end first parts number =
+    length (run_after (part_brought first) (join_of_parts first parts).joints number)
 
 -- Position x of the input with this number is position y of the joined file: both are as far from
 -- the end of the input's last frame.
-abbrev pub IsAt : Part → List Part → ℕ → Part → ℕ → ℕ → Type 0
-IsAt first parts number input x y =
+abbrev pub IsSamePosition : FilePart → List FilePart → ℕ → FilePart → ℕ → ℕ → Type 0
+IsSamePosition first parts number input x y =
     let samples = samples_in first.survey.class in
-    y + (length input.survey.frames + (joined_by first parts).front) * samples
-    ≡ x + (leads_of first parts + ends_of first parts number) * samples
+    y + (length input.survey.frames + (join_of_parts first parts).front) * samples
+    ≡ x + (run_lead_ins first parts + run_end first parts number) * samples
 
 -- Frame j of a stream is alike frame i of another: both are the same but for their gains. (What bit
 -- rate and padding they have is no part of a stream.)
-pub record IsAlike (class : ClassFields) (own : List StreamFrame) (i : ℕ) (all : List StreamFrame)
+pub record IsFrameAlike (class : ClassFields) (own : List StreamFrame) (i : ℕ)
+    (all : List StreamFrame)
     (j : ℕ) : Type 0 where
   pub own_frame : StreamFrame
   pub frame : StreamFrame
@@ -54,40 +57,43 @@ pub record IsAlike (class : ClassFields) (own : List StreamFrame) (i : ℕ) (all
   pub alike : sound_of class frame ≡ sound_of class own_frame
 
 -- Position x of an input is in the joined file, at its offset in a frame that is alike its own.
-pub record IsKept (first : Part) (parts : List Part) (number : ℕ) (input : Part) (x : ℕ)
+pub record IsPositionKept (first : FilePart) (parts : List FilePart) (number : ℕ) (input : FilePart)
+    (x : ℕ)
     : Type 0 where
   pub place : ℕ
-  pub at : IsAt first parts number input x place
+  pub at : IsSamePosition first parts number input x place
   pub offset : place % samples_in first.survey.class ≡ x % samples_in first.survey.class
   pub frame :
       let samples = samples_in first.survey.class in
-      IsAlike first.survey.class (stream_in (set_apart input)) (x / samples)
+      IsFrameAlike first.survey.class (part_stream (part_without_head input)) (x / samples)
       (seamless_stream (first ∷ parts)) (place / samples)
 
 -- ---- an input that follows the one before it
 
 -- Its first played position is where the played positions of the other end, so its samples come
 -- right behind those of the other; and each of them is kept.
-pub record ComesBehind (first : Part) (parts : List Part) (number : ℕ) (before input : Part)
+pub record ComesBehind (first : FilePart) (parts : List FilePart) (number : ℕ)
+    (before input : FilePart)
     : Type 0 where
   pub ended : Played
   pub played : Played
-  pub ended_is : (brought_by before).played ≡ Some ended
-  pub played_is : (brought_by input).played ≡ Some played
+  pub ended_is : (part_brought before).played ≡ Some ended
+  pub played_is : (part_brought input).played ≡ Some played
   pub seam : ℕ
-  pub ends : IsAt first parts number before ended.end seam
-  pub starts : IsAt first parts (number + 1) input played.start seam
+  pub ends : IsSamePosition first parts number before ended.end seam
+  pub starts : IsSamePosition first parts (number + 1) input played.start seam
   pub samples : (x : ℕ) → played.start ≤ x → x < played.end
-      → IsKept first parts (number + 1) input x
+      → IsPositionKept first parts (number + 1) input x
 
 -- so it is with each of the inputs of a join that follows
-abbrev pub FollowingSamples : Type 0
-FollowingSamples =
-    (files : Contents) (inputs : List (List ℕ)) (first : Part) (parts : List Part) (number : ℕ)
-    (before input : Part) (joint : Joint) (out : ℕ)
-    → parts_of files inputs ≡ Ok (first ∷ parts)
+abbrev pub FollowingSamplesStay : Type 0
+FollowingSamplesStay =
+    (files : Contents) (inputs : List (List ℕ)) (first : FilePart) (parts : List FilePart)
+    (number : ℕ)
+    (before input : FilePart) (joint : JointFrames) (out : ℕ)
+    → join_parts files inputs ≡ Ok (first ∷ parts)
     → slice_get (first ∷ parts) number ≡ Some before → slice_get parts number ≡ Some input
-    → slice_get (joined_by first parts).joints number ≡ Some joint → joint.seam ≡ Follows out
+    → slice_get (join_of_parts first parts).joints number ≡ Some joint → joint.seam ≡ Follows out
     → ComesBehind first parts number before input
 
 -- ---- the pieces of a split, in order
@@ -98,50 +104,53 @@ last_place place [] = place
 last_place place (next ∷ places) = last_place next places
 
 -- these files are the inputs of a join that isn't refused
-pub record AreInputs (laid : List Laid) (file : List ℕ) (s : SurveyFields) (first : Part)
-    (parts : List Part) : Type 0 where
+pub record ArePieceInputs (laid : List LaidPart) (file : List ℕ) (s : SurveyFields)
+    (first : FilePart)
+    (parts : List FilePart) : Type 0 where
   pub files : Contents
   pub inputs : List (List ℕ)
-  pub are : map files inputs ≡ map (λ (l : Laid). Some (file_laid l file s)) laid
-  pub taken : parts_of files inputs ≡ Ok (first ∷ parts)
+  pub are : map files inputs ≡ map (λ (l : LaidPart). Some (file_laid l file s)) laid
+  pub taken : join_parts files inputs ≡ Ok (first ∷ parts)
 
 -- The first frame of a piece is a look-alike where it was given no lead-in and has one in front all
 -- the same: it is a frame of the recording.
-abbrev pub is_look_alike : Laid → Part → Bool
+abbrev pub is_look_alike : LaidPart → FilePart → Bool
 is_look_alike laid part =
-    leads_laid laid == 0 && has_lead_in (window_of part.survey.class.version) (brought_by part)
+    piece_lead_ins laid == 0
+    && has_lead_in (window_of part.survey.class.version) (part_brought part)
 
 -- none of these pieces begins with a look-alike
-abbrev pub has_no_look_alike : List Laid → List Part → Bool
+abbrev pub has_no_look_alike : List LaidPart → List FilePart → Bool
 has_no_look_alike laid parts =
-    list_all (λ (p : Laid × Part). not (is_look_alike p.0 p.1)) (zip laid parts)
+    list_all (λ (p : LaidPart × FilePart). not (is_look_alike p.0 p.1)) (zip laid parts)
 
 -- the file of chosen frames without the blocks behind them
-abbrev pub bare_from : Option Row → Laid → List ℕ → SurveyFields → List ℕ
-bare_from None laid file s = []
-bare_from (Some first) laid file s =
+abbrev pub bare_row_file : Option Row → LaidPart → List ℕ → SurveyFields → List ℕ
+bare_row_file None laid file s = []
+bare_row_file (Some first) laid file s =
     laid_file (front_blocks file s) first.header (info_laid laid file s)
     (frames_laid laid file s) []
 
 -- the same, with the row of the first chosen frame
-abbrev pub bare_file : Laid → List ℕ → SurveyFields → List ℕ
-bare_file laid file s = bare_from (slice_get s.frames laid.from) laid file s
+abbrev pub bare_file : LaidPart → List ℕ → SurveyFields → List ℕ
+bare_file laid file s = bare_row_file (slice_get s.frames laid.from) laid file s
 
 -- all bits of the side information of a frame of this class are 0
-abbrev pub is_empty : ClassFields → StreamFrame → Bool
-is_empty class f = list_all (λ bit. bit == 0) (side_bits class f.side)
+abbrev pub is_empty_frame : ClassFields → StreamFrame → Bool
+is_empty_frame class f = list_all (λ bit. bit == 0) (side_bits class f.side)
 
 -- the frames that aren't empty
 abbrev pub full_frames : ClassFields → List StreamFrame → List StreamFrame
-full_frames class stream = filter (λ f. not (is_empty class f)) stream
+full_frames class stream = filter (λ f. not (is_empty_frame class f)) stream
 
 -- What is cut from the first place to the last is this. The join of the pieces is the file of it
 -- without the blocks behind the frames, and has its stream, where no frame is a look-alike. In any
 -- case their frames are the same but for empty ones.
-pub record JoinsTheFrames (from to : Place) (laid : List Laid) (file : List ℕ) (s : SurveyFields)
-    (first : Part) (parts : List Part) : Type 0 where
-  pub whole : Laid
-  pub is : frames_between from to file s ≡ Ok whole
+pub record JoinsTheFrames (from to : Place) (laid : List LaidPart) (file : List ℕ)
+    (s : SurveyFields)
+    (first : FilePart) (parts : List FilePart) : Type 0 where
+  pub whole : LaidPart
+  pub is : cut_part from to file s ≡ Ok whole
   pub same : has_no_look_alike laid (first ∷ parts) ≡ true
       → (seamless_file (first ∷ parts) ≡ bare_file whole file s)
       × (seamless_stream (first ∷ parts) ≡ stream_laid whole file s)
@@ -152,24 +161,24 @@ pub record JoinsTheFrames (from to : Place) (laid : List Laid) (file : List ℕ)
 abbrev pub SplitThenSeamlessJoin : Type 0
 SplitThenSeamlessJoin =
     (points : Points) (file : List ℕ) (s : SurveyFields) (place next : Place) (places : List Place)
-    (laid : List Laid) (first : Part) (parts : List Part)
+    (laid : List LaidPart) (first : FilePart) (parts : List FilePart)
     → survey_of file most_frames ≡ Ok s
-    → laid_at (cutting_of points) file s (place ∷ next ∷ places) ≡ Ok laid
-    → AreInputs laid file s first parts
+    → piece_parts (cutting_of points) file s (place ∷ next ∷ places) ≡ Ok laid
+    → ArePieceInputs laid file s first parts
     → JoinsTheFrames place (last_place next places) laid file s first parts
 
 -- ---- in two steps
 
 -- The file that some inputs are joined to, and the other inputs, are inputs of a join that isn't
 -- refused.
-pub record IsInSteps (first : Part) (parts others : List Part) : Type 0 where
+pub record IsJoinedInSteps (first : FilePart) (parts others : List FilePart) : Type 0 where
   pub files : Contents
   pub names : List (List ℕ)
-  pub joined : Part
-  pub more : List Part
+  pub joined : FilePart
+  pub more : List FilePart
   pub are : map files names ≡ Some (seamless_file (first ∷ parts))
-      ∷ map (λ (p : Part). Some p.file) others
-  pub taken : parts_of files names ≡ Ok (joined ∷ more)
+      ∷ map (λ (p : FilePart). Some p.file) others
+  pub taken : join_parts files names ≡ Ok (joined ∷ more)
 
 -- no frame of this stream is empty
 abbrev pub HasNoEmptyFrame : ClassFields → List StreamFrame → Type 0
@@ -177,14 +186,14 @@ HasNoEmptyFrame class stream = full_frames class stream ≡ stream
 
 -- The pieces of a split, in order, are joined in two steps as in one, where no frame of the file is
 -- empty.
-abbrev pub InSteps : Type 0
-InSteps =
+abbrev pub StepsJoinTheSame : Type 0
+StepsJoinTheSame =
     (points : Points) (file : List ℕ) (s : SurveyFields) (place next : Place) (places : List Place)
-    (laid : List Laid) (first : Part) (parts others : List Part)
+    (laid : List LaidPart) (first : FilePart) (parts others : List FilePart)
     → survey_of file most_frames ≡ Ok s
-    → laid_at (cutting_of points) file s (place ∷ next ∷ places) ≡ Ok laid
-    → AreInputs laid file s first (parts ++ others)
-    → HasNoEmptyFrame s.class (stream_of file) → (steps : IsInSteps first parts others)
+    → piece_parts (cutting_of points) file s (place ∷ next ∷ places) ≡ Ok laid
+    → ArePieceInputs laid file s first (parts ++ others)
+    → HasNoEmptyFrame s.class (stream_of file) → (steps : IsJoinedInSteps first parts others)
     → seamless_file (steps.joined ∷ steps.more) ≡ seamless_file (first ∷ (parts ++ others))
 
 -- ---- the pieces of an exact split, in order
@@ -193,48 +202,49 @@ InSteps =
 -- but the first follows the one before it. The stream of the join is at most one empty frame, and
 -- then the recording's frames of the span: as they are in the stream of the file whose head is set
 -- apart, each once.
-pub record HasTheSpan (from to : ExactPlace) (file : List ℕ) (s : SurveyFields) (first : Part)
-    (parts : List Part) : Type 0 where
+pub record HasTheSpan (from to : ExactPlace) (file : List ℕ) (s : SurveyFields) (first : FilePart)
+    (parts : List FilePart) : Type 0 where
   -- the span of the samples from the first place to before the last
   pub span : Span
   -- it is the one that `cut --exact` finds
-  pub found : span_in from to (fields_of_head file s.head) s ≡ Ok span
+  pub found : file_span from to (fields_of_head file s.head) s ≡ Ok span
   -- each later piece follows the one before it
-  pub follow : list_all (λ (j : Joint). is_following j.seam) (joined_by first parts).joints ≡ true
+  pub follow : list_all (λ (j : JointFrames). is_following_seam j.seam)
+      (join_of_parts first parts).joints ≡ true
   -- what is before the frames of the span
   pub leads : List StreamFrame
   -- no more than one frame
   pub one : length leads ≤ 1
   -- which is empty
-  pub empty : list_all (is_empty s.class) leads ≡ true
+  pub empty : list_all (is_empty_frame s.class) leads ≡ true
   -- the stream is this and then these frames
   pub stream : seamless_stream (first ∷ parts)
-      ≡ leads ++ slice_range (stream_of_survey file (apart s)) span.first span.last
+      ≡ leads ++ slice_range (stream_of_survey file (survey_without_head s)) span.first span.last
 
 -- Numbers are written. By the Info frame the join plays the samples from the first place to before
 -- the last, and no other: it says as many frames as there are and the delay and the padding of the
 -- span, both in range; and sample k of the join is at the offset in its frame at which sample a + k
 -- of the recording, where the first place is sample a, is in the same frame.
-pub record PlaysTheSpan (from to : ExactPlace) (file : List ℕ) (s : SurveyFields) (first : Part)
-    (parts : List Part) (leads : ℕ) (span : Span) : Type 0 where
+pub record PlaysTheSpan (from to : ExactPlace) (file : List ℕ) (s : SurveyFields) (first : FilePart)
+    (parts : List FilePart) (leads : ℕ) (span : Span) : Type 0 where
   -- the row of the first frame of the run, by whose header the Info frame is made
   pub row : Row
   -- it is in the first input, behind what leaves the run
-  pub row_is : slice_get first.survey.frames (joined_by first parts).front ≡ Some row
+  pub row_is : slice_get first.survey.frames (join_of_parts first parts).front ≡ Some row
   -- the delay
   pub delay : ℕ
   -- it and the padding are written
   pub delay_is : delay_of_run first parts ≡ Some delay
   -- both are in range
   pub delay_most : delay ≤ 2830
-  pub padding_least : 529 ≤ padding_by first parts
-  pub padding_most : padding_by first parts ≤ 1680
+  pub padding_least : 529 ≤ seamless_padding first parts
+  pub padding_most : seamless_padding first parts ≤ 1680
   -- what the Info frame says
-  pub head : IsHeadOf s.class leads span (info_with (Some delay) row first parts)
+  pub head : IsPieceHead s.class leads span (seamless_info (Some delay) row first parts)
   -- what is played by it
   pub plays : KeepsPlaces s.class leads span.first (sample_named file s from)
       (sample_named file s to)
-      (played_of (Some (info_with (Some delay) row first parts)) s.class
+      (played_of (Some (seamless_info (Some delay) row first parts)) s.class
       (leads + (span.last - span.first))) (input_played file s)
   -- and by the head of the file as it is read
   pub reads : (allowed : ℕ) (j : SurveyFields)
@@ -244,21 +254,21 @@ pub record PlaysTheSpan (from to : ExactPlace) (file : List ℕ) (s : SurveyFiel
 
 -- Where the first piece doesn't begin with a look-alike, the join is the file that `cut --exact`
 -- writes from the first place to the last, without the blocks behind the frames.
-pub record IsTheCut (from to : ExactPlace) (laid : List Laid) (file : List ℕ) (s : SurveyFields)
-    (first : Part) (parts : List Part) : Type 0 where
+pub record IsTheCut (from to : ExactPlace) (laid : List LaidPart) (file : List ℕ) (s : SurveyFields)
+    (first : FilePart) (parts : List FilePart) : Type 0 where
   -- what `cut --exact` lays
-  pub whole : Laid
+  pub whole : LaidPart
   -- it isn't refused
-  pub is : exact_laid from to file s ≡ Ok whole
+  pub is : exact_part from to file s ≡ Ok whole
   -- the join is the file of it
   pub same : has_no_look_alike laid (first ∷ []) ≡ true
-      → seamless_file (first ∷ parts) ≡ bare_file whole file (apart s)
+      → seamless_file (first ∷ parts) ≡ bare_file whole file (survey_without_head s)
 
 -- The join of exact pieces has the frames that are needed of the
 -- recording, each once, plays exactly the recording's samples from the
 -- first place to the last, and is what is cut from the one to the other.
-pub record JoinsTheSamples (from to : ExactPlace) (laid : List Laid) (file : List ℕ)
-    (s : SurveyFields) (first : Part) (parts : List Part) : Type 0 where
+pub record JoinsTheSamples (from to : ExactPlace) (laid : List LaidPart) (file : List ℕ)
+    (s : SurveyFields) (first : FilePart) (parts : List FilePart) : Type 0 where
   -- the frames of the span, each once
   pub frames : HasTheSpan from to file s first parts
   -- its samples, each once
@@ -270,10 +280,10 @@ pub record JoinsTheSamples (from to : ExactPlace) (laid : List Laid) (file : Lis
 abbrev pub ExactSplitThenSeamlessJoin : Type 0
 ExactSplitThenSeamlessJoin =
     (points : ExactPoints) (file : List ℕ) (s : SurveyFields) (place next : ExactPlace)
-    (places : List ExactPlace) (laid : List Laid) (first : Part) (parts : List Part)
+    (places : List ExactPlace) (laid : List LaidPart) (first : FilePart) (parts : List FilePart)
     → survey_of file most_frames ≡ Ok s
-    → laid_at (exact_cutting_of points) file s (place ∷ next ∷ places) ≡ Ok laid
-    → AreInputs laid file (apart s) first parts
+    → piece_parts (exact_cutting_of points) file s (place ∷ next ∷ places) ≡ Ok laid
+    → ArePieceInputs laid file (survey_without_head s) first parts
     → JoinsTheSamples place (last_place next places) laid file s first parts
 
 -- The pieces of an exact split, in order, are joined in two steps as in one, where no frame of the
@@ -281,10 +291,10 @@ ExactSplitThenSeamlessJoin =
 abbrev pub ExactInSteps : Type 0
 ExactInSteps =
     (points : ExactPoints) (file : List ℕ) (s : SurveyFields) (place next : ExactPlace)
-    (places : List ExactPlace) (laid : List Laid) (first : Part) (parts others : List Part)
-    → survey_of file most_frames ≡ Ok s
-    → laid_at (exact_cutting_of points) file s (place ∷ next ∷ places) ≡ Ok laid
-    → AreInputs laid file (apart s) first (parts ++ others)
-    → HasNoEmptyFrame s.class (stream_of_survey file (apart s))
-    → (steps : IsInSteps first parts others)
+    (places : List ExactPlace) (laid : List LaidPart) (first : FilePart)
+    (parts others : List FilePart) → survey_of file most_frames ≡ Ok s
+    → piece_parts (exact_cutting_of points) file s (place ∷ next ∷ places) ≡ Ok laid
+    → ArePieceInputs laid file (survey_without_head s) first (parts ++ others)
+    → HasNoEmptyFrame s.class (stream_of_survey file (survey_without_head s))
+    → (steps : IsJoinedInSteps first parts others)
     → seamless_file (steps.joined ∷ steps.more) ≡ seamless_file (first ∷ (parts ++ others))

@@ -1,10 +1,10 @@
 //! Laws of files that are joined without seams. Each function does nothing: a proof that needs its law calls it.
-ghost use Rattle.theorems.specs.SeamlessLaws.{FollowingSamples, SplitThenSeamlessJoin, InSteps, ExactSplitThenSeamlessJoin, ExactInSteps};
+ghost use Rattle.theorems.specs.SeamlessLaws.{FollowingSamplesStay, SplitThenSeamlessJoin, StepsJoinTheSame, ExactSplitThenSeamlessJoin, ExactInSteps};
 
 /// Where an input follows the one before it, its first played sample is right behind the last played one of that input, and
 /// each of its samples is at its own offset in a frame that is the same as its own but for gains, bit rate and padding.
 pub fn following_samples()
-    ensures { FollowingSamples }
+    ensures { FollowingSamplesStay }
 {}
 
 /// The pieces of a split at positions, joined in order without seams, are the file that `cut` writes from the first position to
@@ -18,7 +18,7 @@ pub fn split_then_seamless_join()
 /// The pieces of a split at positions can be joined in two steps: the first of them, and what that made with the others. It is the
 /// same file as in one step, where no frame of the file that was split is empty.
 pub fn in_steps()
-    ensures { InSteps }
+    ensures { StepsJoinTheSame }
 {}
 
 /// The pieces of an exact split, joined in order without seams, play exactly the recording's samples from the first place to

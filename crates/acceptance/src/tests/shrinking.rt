@@ -125,9 +125,9 @@ fn found(name: &str, other: u64) -> u64 {
 }
 
 impl Folder for Changing {
-    ghost use Rattle.outside.specs.Files.{untold};
+    ghost use Rattle.outside.specs.Files.{untold_files};
 
-    ghost seen = { λ folder. record { files = untold; counts = folder.tally } };
+    ghost seen = { λ folder. record { files = untold_files; counts = folder.tally } };
 
     fn find(&mut self, name: &str) -> Result<u64, FindFault> {
         Ok(found(name, self.found))
@@ -149,7 +149,7 @@ impl Folder for Changing {
         Ok(count)
     }
 
-    #[tactic(auto, unfolding(outside::specs::Files::emptied))]
+    #[tactic(auto, unfolding(outside::specs::Files::with_empty_file))]
     fn create(&mut self, name: &str) -> Result<(), Failed> {
         self.second |= is_second_piece(name);
         self.output.clear();
@@ -157,7 +157,7 @@ impl Folder for Changing {
         Ok(())
     }
 
-    #[tactic(auto, unfolding(outside::specs::Files::appended))]
+    #[tactic(auto, unfolding(outside::specs::Files::with_appended_bytes))]
     fn write(&mut self, name: &str, bytes: &[u8]) -> Result<usize, Failed> {
         self.second |= is_second_piece(name);
         let count = bytes.len().min(700);

@@ -1,7 +1,7 @@
 //! Files worked out by hand: a frame of 417 bytes has an area of 381 (MPEG-1, 44,100 Hz, 128 kbit/s, stereo).
 ghost use Rattle.std.specs.Prelude.{◌<◌, ◌≤◌, length, IfOk};
-ghost use Rattle.sync_survey.specs.Faults.{tells};
-ghost use Rattle.sync_survey.specs.Survey.{IsLaidOut};
+ghost use Rattle.sync_survey.specs.Faults.{survey_view};
+ghost use Rattle.sync_survey.specs.Survey.{IsSurveyLaidOut};
 
 use laying::{Parts, one_part_fits};
 use outside::{Folder, MemFolder};
@@ -27,7 +27,7 @@ static FILE: [Stretch; 3] = [
 
 /// The survey of the file.
 fn surveyed<R: Abort + AllocGlobal, D: Folder>(rt: &R, folder: &mut D) -> Survey
-    ensures { IsLaidOut (tells result) }
+    ensures { IsSurveyLaidOut (survey_view result) }
 {
     match survey(rt.alloc(), folder, "a", 100) {
         Ok(survey) => survey,
@@ -42,9 +42,9 @@ fn plan_between<R: Abort + AllocGlobal>(
     from: usize,
     to: usize,
 ) -> Result<Plan, AllocError>
-    requires laid { IsLaidOut (tells survey.now) }
+    requires laid { IsSurveyLaidOut (survey_view survey.now) }
     requires some { from < to }
-    requires within { to ≤ length (tells survey.now).frames }
+    requires within { to ≤ length (survey_view survey.now).frames }
 {
     let frames = survey.frames();
     assert!(rt; frames.len() <= 2_900_000);
@@ -93,7 +93,7 @@ fn expect_case<R: Abort + AllocGlobal>(
     survey: &Survey,
     case: &Case,
 ) -> Result<(), AllocError>
-    requires { IsLaidOut (tells survey.now) }
+    requires { IsSurveyLaidOut (survey_view survey.now) }
 {
     let to = survey.frames().len();
     assert!(rt; to == 3 && case.from < to);
@@ -108,7 +108,7 @@ fn expect_case<R: Abort + AllocGlobal>(
 
 /// The survey of the file, in a folder.
 fn survey_of_file<R: Abort + AllocGlobal>(rt: &R) -> Result<Survey, AllocError>
-    ensures { IfOk result (λ survey. IsLaidOut (tells survey)) }
+    ensures { IfOk result (λ survey. IsSurveyLaidOut (survey_view survey)) }
 {
     let file = bytes_of(rt.alloc(), &FILE)?;
     let mut folder = MemFolder::new(rt.alloc());

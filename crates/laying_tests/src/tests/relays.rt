@@ -3,7 +3,7 @@
 ghost use Rattle.std.specs.Prelude.{◌<◌};
 
 use cut_edits::{Chosen, plan_file};
-use laying::{Buffers, Kept, Relay};
+use laying::{Kept, Relay, RelayBuffers};
 use outside::{Folder, MemFolder, Pass, PassFault};
 use std::alloc::{AllocError, AllocGlobal, Global};
 use std::process::Abort;
@@ -79,7 +79,7 @@ static CASES: [Case; 2] = table! {
 };
 
 /// Lays one of two frames, in its own slot.
-#[tactic(auto, using(outside::proofs::FilesLaws::emptied_there))]
+#[tactic(auto, using(outside::proofs::FilesLemmas::emptied_there))]
 fn lay_frame<R: Abort + AllocGlobal, D: Folder>(
     rt: &R,
     folder: &mut D,
@@ -100,7 +100,7 @@ fn lay_frame<R: Abort + AllocGlobal, D: Folder>(
         kept: Kept::none(),
     };
     let selected = plan_file(rt.alloc(), &survey, &chosen, false)?;
-    let mut buffers = Buffers::new(rt.alloc(), survey.class())?;
+    let mut buffers = RelayBuffers::new(rt.alloc(), survey.class())?;
     let pass = Pass {
         input: "a",
         output: "b",

@@ -14,9 +14,9 @@ pub struct Buffer {
 impl Model for Buffer {
     ghost use Rattle.std.specs.Prelude.{◌≤◌, vec_len};
     ghost use Rattle.std.specs.Vec.{vec_capacity};
-    ghost use Rattle.outside.specs.Held.{Held};
+    ghost use Rattle.outside.specs.HeldBytes.{HeldBytes};
 
-    ghost Value = { Held };
+    ghost Value = { HeldBytes };
 
     ghost view = { λ b. record { bytes = b.content.items; room = b.room } };
 

@@ -1,13 +1,13 @@
 //! A folder in memory, for tests.
 ghost use Rattle.std.specs.Prelude.{◌≡◌, ◌≢◌, ◌+◌, ◌-◌, ◌<◌, [], ◌∷◌, ◌++◌, None, Some, Ok, Err, length, take, drop, min, OnOk, OnErr, option_copied};
-ghost use Rattle.outside.specs.Files.{Told, with_file, IsThere, AreOctets};
-ghost use Rattle.outside.specs.Counts.{none_counted};
+ghost use Rattle.outside.specs.Files.{Told, with_file, IsFileThere, AreOctets};
+ghost use Rattle.outside.specs.Counts.{no_counts};
 ghost use Rattle.outside.specs.Answers.{FindAnswer, ReadAnswer, CreateAnswer, WriteAnswer};
 ghost use Rattle.outside.specs.Memory.{MemFinds, MemReads, MemCreates, MemWrites};
 
 use crate::folder::{Failed, FindFault, Folder};
+use crate::memory::file_rooms::{FileRoom, FileRooms};
 use crate::memory::schedule::Schedule;
-use crate::memory::slots::{Slot, Slots};
 use crate::tally::Tally;
 use std::alloc::{AllocError, Global};
 
@@ -31,7 +31,7 @@ pub enum Call {
 #[derive(Drop)]
 pub struct MemFolder {
     alloc: Global,
-    slots: Slots,
+    slots: FileRooms,
     // A folder over this one may count in it too.
     pub(super) tally: Tally,
     finds: Schedule,
@@ -41,19 +41,19 @@ pub struct MemFolder {
 }
 
 impl MemFolder {
-    ghost use Rattle.outside.specs.Memory.{contents_of, rooms_of, with_room, counts_of, calls_made, calls_to_fail, NotCalled};
+    ghost use Rattle.outside.specs.Memory.{contents_of, rooms_of, with_room, mem_counts, calls_made, calls_to_fail, MakesNoCall};
 
     /// A folder without files and rooms, with all counts 0 and nothing that is to fail.
     pub fn new(alloc: Global) -> Self
         ensures contents { contents_of result ≡ (λ _. None) }
         ensures rooms { rooms_of result ≡ (λ _. None) }
-        ensures counts { counts_of result ≡ none_counted }
+        ensures counts { mem_counts result ≡ no_counts }
         ensures made { (call : Call) → calls_made result call ≡ 0 }
         ensures failing { (call : Call) → calls_to_fail result call ≡ [] }
     {
         MemFolder {
             alloc,
-            slots: Slots::new(alloc),
+            slots: FileRooms::new(alloc),
             tally: Tally::new(),
             finds: Schedule::new(alloc),
             reads: Schedule::new(alloc),
@@ -74,10 +74,10 @@ impl MemFolder {
             (length bytes.now)) }
         ensures contents_kept { OnErr result (contents_of self.new ≡ contents_of self.old) }
         ensures rooms_kept { OnErr result (rooms_of self.new ≡ rooms_of self.old) }
-        ensures others { NotCalled self.old self.new }
+        ensures others { MakesNoCall self.old self.new }
     {
         let room = self.slots.room(name).max(bytes.len() as u64);
-        let slot = Slot::new(self.alloc, room, Some(bytes))?;
+        let slot = FileRoom::new(self.alloc, room, Some(bytes))?;
         self.slots.set(self.alloc, name, slot)
     }
 
@@ -90,10 +90,10 @@ impl MemFolder {
         ensures rooms { OnOk result (rooms_of self.new ≡ with_room
             (rooms_of self.old) name.now bytes) }
         ensures rooms_kept { OnErr result (rooms_of self.new ≡ rooms_of self.old) }
-        ensures others { NotCalled self.old self.new }
+        ensures others { MakesNoCall self.old self.new }
     {
         let room = self.slots.room(name).max(bytes);
-        let slot = Slot::new(self.alloc, room, self.slots.content(name))?;
+        let slot = FileRoom::new(self.alloc, room, self.slots.content(name))?;
         self.slots.set(self.alloc, name, slot)
     }
 
@@ -116,7 +116,7 @@ impl MemFolder {
             → calls_to_fail self.new other ≡ calls_to_fail self.old other }
         ensures kept { OnErr result (calls_to_fail self.new call ≡ calls_to_fail self.old call) }
         ensures made { (kind : Call) → calls_made self.new kind ≡ calls_made self.old kind }
-        ensures counts { counts_of self.new ≡ counts_of self.old }
+        ensures counts { mem_counts self.new ≡ mem_counts self.old }
         ensures contents { contents_of self.new ≡ contents_of self.old }
         ensures rooms { rooms_of self.new ≡ rooms_of self.old }
     {
@@ -139,7 +139,7 @@ fn size_of(bytes: &[u8]) -> u64
 }
 
 impl Folder for MemFolder {
-    ghost use Rattle.outside.specs.Memory.{contents_of, seen_of, counts_of};
+    ghost use Rattle.outside.specs.Memory.{contents_of, seen_of, mem_counts};
 
     ghost seen = { λ folder. seen_of folder };
 
@@ -161,7 +161,7 @@ impl Folder for MemFolder {
     }
 
     fn read(&mut self, name: &str, at: u64, into: &mut [u8]) -> Result<usize, Failed>
-        requires { IsThere (Told (contents_of self.old)) name.now }
+        requires { IsFileThere (Told (contents_of self.old)) name.now }
         ensures answer { ReadAnswer name.now at into.old into.new (seen_of self.old)
             (seen_of self.new) result }
         ensures own { MemReads name.now at into.old into.new self.old self.new result }
@@ -188,7 +188,7 @@ impl Folder for MemFolder {
     }
 
     fn write(&mut self, name: &str, bytes: &[u8]) -> Result<usize, Failed>
-        requires { IsThere (Told (contents_of self.old)) name.now }
+        requires { IsFileThere (Told (contents_of self.old)) name.now }
         ensures answer { WriteAnswer name.now bytes.now (seen_of self.old)
             (seen_of self.new) result }
         ensures own { MemWrites name.now bytes.now self.old self.new result }

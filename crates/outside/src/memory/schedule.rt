@@ -1,6 +1,6 @@
 //! Calls of one kind, of which some are to fail.
 ghost use Rattle.std.specs.Prelude.{◌≡◌, [], ◌∷◌, ◌++◌, OnOk, OnErr};
-ghost use Rattle.outside.specs.Plan.{is_next_to_fail, after_call};
+ghost use Rattle.outside.specs.Schedules.{is_next_to_fail, schedule_after_call};
 
 use std::alloc::{AllocError, Global};
 use std::marker::Model;
@@ -13,9 +13,9 @@ pub struct Schedule {
 }
 
 impl Model for Schedule {
-    ghost use Rattle.outside.specs.Plan.{Plan};
+    ghost use Rattle.outside.specs.Schedules.{ScheduleFields};
 
-    ghost Value = { Plan };
+    ghost Value = { ScheduleFields };
 
     ghost view = { λ s. record { made = s.made; failing = s.failing.items } };
 }
@@ -48,7 +48,7 @@ impl Schedule {
     /// stays there.
     pub fn next_fails(&mut self) -> bool
         ensures answer { result ≡ is_next_to_fail self.old }
-        ensures counted { self.new ≡ after_call self.old }
+        ensures counted { self.new ≡ schedule_after_call self.old }
     {
         self.made = self.made.saturating_add(1);
         self.failing.contains(&self.made)

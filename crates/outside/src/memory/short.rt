@@ -1,8 +1,8 @@
 //! A folder that says greater lengths than it gives, for tests.
 ghost use Rattle.std.specs.Prelude.{◌≡◌, ◌-◌, ◌<◌, Ok, true, OnOk, OnErr, is_err, is_some, option_copied};
-ghost use Rattle.outside.specs.Files.{Told, untold, emptied, appended, IsThere};
-ghost use Rattle.outside.specs.Memory.{contents_of, counts_of};
-ghost use Rattle.outside.specs.Short.{short_counts, create_missing_fails, IsCreated, ShortFinds, ShortReads, ShortCreates, ShortWrites};
+ghost use Rattle.outside.specs.Files.{Told, untold_files, with_empty_file, with_appended_bytes, IsFileThere};
+ghost use Rattle.outside.specs.Memory.{contents_of, mem_counts};
+ghost use Rattle.outside.specs.ShortFolders.{short_counts, create_missing_fails, IsCreated, ShortFinds, ShortReads, ShortCreates, ShortWrites};
 ghost use Rattle.outside.specs.Counts.{with_write_fault, OnlyWrites, HappenedTo};
 ghost use Rattle.outside.specs.Answers.{FindAnswer, ReadAnswer, CreateAnswer, WriteAnswer};
 
@@ -28,7 +28,7 @@ impl ShortFolder {
     pub fn new(inner: MemFolder, extra: u64) -> Self
         ensures inner { result.inner ≡ inner }
         ensures extra { result.extra ≡ extra }
-        ensures counts { short_counts result ≡ counts_of inner }
+        ensures counts { short_counts result ≡ mem_counts inner }
     {
         ShortFolder { inner, extra }
     }
@@ -44,15 +44,15 @@ impl ShortFolder {
 /// Creates a file of no bytes if the name isn't there, so that bytes can be appended to it.
 fn create_missing(folder: &mut MemFolder, name: &str) -> Result<(), Failed>
     ensures fails { is_err result ≡ create_missing_fails folder.old name.now }
-    ensures there { OnOk result (IsThere (Told (contents_of folder.new)) name.now) }
+    ensures there { OnOk result (IsFileThere (Told (contents_of folder.new)) name.now) }
     ensures made { OnOk result (IsCreated folder.old folder.new name.now) }
     ensures stays { is_some (contents_of folder.old name.now) ≡ true → folder.new ≡ folder.old }
-    ensures failed { OnErr result (HappenedTo name.now (counts_of folder.old).write_faults
-        (counts_of folder.new).write_faults) }
-    ensures done { OnOk result (counts_of folder.new ≡ counts_of folder.old) }
-    ensures counts { OnlyWrites (counts_of folder.old) (counts_of folder.new) }
+    ensures failed { OnErr result (HappenedTo name.now (mem_counts folder.old).write_faults
+        (mem_counts folder.new).write_faults) }
+    ensures done { OnOk result (mem_counts folder.new ≡ mem_counts folder.old) }
+    ensures counts { OnlyWrites (mem_counts folder.old) (mem_counts folder.new) }
     ensures failed_counts { OnErr result
-        (counts_of folder.new ≡ with_write_fault name.now (counts_of folder.old)) }
+        (mem_counts folder.new ≡ with_write_fault name.now (mem_counts folder.old)) }
 {
     if folder.get(name).is_some() {
         return Ok(());
@@ -62,7 +62,7 @@ fn create_missing(folder: &mut MemFolder, name: &str) -> Result<(), Failed>
 
 impl Folder for ShortFolder {
     ghost use Rattle.outside.specs.Memory.{contents_of};
-    ghost use Rattle.outside.specs.Short.{short_seen};
+    ghost use Rattle.outside.specs.ShortFolders.{short_seen};
 
     ghost seen = { λ folder. short_seen folder };
 
@@ -75,7 +75,7 @@ impl Folder for ShortFolder {
     }
 
     fn read(&mut self, name: &str, at: u64, into: &mut [u8]) -> Result<usize, Failed>
-        requires { IsThere untold name.now }
+        requires { IsFileThere untold_files name.now }
         ensures answer { ReadAnswer name.now at into.old into.new (short_seen self.old)
             (short_seen self.new) result }
         ensures own { ShortReads name.now at into.old into.new self.old self.new result }
@@ -87,7 +87,7 @@ impl Folder for ShortFolder {
         self.inner.read(name, at, into)
     }
 
-    #[tactic(auto, unfolding(crate::specs::Files::emptied))]
+    #[tactic(auto, unfolding(crate::specs::Files::with_empty_file))]
     fn create(&mut self, name: &str) -> Result<(), Failed>
         ensures answer { CreateAnswer name.now (short_seen self.old) (short_seen self.new) result }
         ensures own { ShortCreates name.now self.old self.new result }
@@ -95,9 +95,9 @@ impl Folder for ShortFolder {
         self.inner.create(name)
     }
 
-    #[tactic(auto, unfolding(crate::specs::Files::appended))]
+    #[tactic(auto, unfolding(crate::specs::Files::with_appended_bytes))]
     fn write(&mut self, name: &str, bytes: &[u8]) -> Result<usize, Failed>
-        requires { IsThere untold name.now }
+        requires { IsFileThere untold_files name.now }
         ensures answer { WriteAnswer name.now bytes.now (short_seen self.old) (short_seen self.new)
             result }
         ensures own { ShortWrites name.now bytes.now self.old self.new result }

@@ -1,5 +1,5 @@
 //! How often the buffers read and write, over a folder that gives and takes few bytes at a time.
-ghost use Rattle.outside.specs.Files.{untold};
+ghost use Rattle.outside.specs.Files.{untold_files};
 ghost use Rattle.outside.specs.Feed.{IsFedFrom};
 
 use super::slow::{Slow, pattern, stand_at};
@@ -34,8 +34,8 @@ fn is_filled(filled: Result<usize, Failed>, bytes: &[u8], reads: u64, case: &Cas
 }
 
 fn expect(rt: &impl Abort, feed: &mut Feed, folder: &mut Slow, name: &str, case: &Case)
-    requires fed { IsFedFrom feed.old untold name.now }
-    ensures fed { IsFedFrom feed.new untold name.now }
+    requires fed { IsFedFrom feed.old untold_files name.now }
+    ensures fed { IsFedFrom feed.new untold_files name.now }
 {
     assert!(rt; case.n <= 4096 && case.at <= 1_000_000);
     let filled = feed.fill(folder, name, case.at, case.n);
@@ -44,8 +44,8 @@ fn expect(rt: &impl Abort, feed: &mut Feed, folder: &mut Slow, name: &str, case:
 }
 
 fn expect_each(rt: &impl Abort, feed: &mut Feed, folder: &mut Slow, name: &str, cases: &[Case])
-    requires fed { IsFedFrom feed.old untold name.now }
-    ensures fed { IsFedFrom feed.new untold name.now }
+    requires fed { IsFedFrom feed.old untold_files name.now }
+    ensures fed { IsFedFrom feed.new untold_files name.now }
 {
     for case in cases {
         expect(rt, feed, folder, name, case);

@@ -68,9 +68,9 @@ pub fn pattern(alloc: Global, length: usize) -> Result<Vec<u8>, AllocError> {
 }
 
 impl Folder for Slow {
-    ghost use Rattle.outside.specs.Files.{untold};
+    ghost use Rattle.outside.specs.Files.{untold_files};
 
-    ghost seen = { λ folder. record { files = untold; counts = folder.tally } };
+    ghost seen = { λ folder. record { files = untold_files; counts = folder.tally } };
 
     fn find(&mut self, _name: &str) -> Result<u64, FindFault> {
         Ok(self.content.len() as u64)
@@ -90,13 +90,13 @@ impl Folder for Slow {
         Ok(got)
     }
 
-    #[tactic(auto, unfolding(outside::specs::Files::emptied))]
+    #[tactic(auto, unfolding(outside::specs::Files::with_empty_file))]
     fn create(&mut self, _name: &str) -> Result<(), Failed> {
         self.content.clear();
         Ok(())
     }
 
-    #[tactic(auto, unfolding(outside::specs::Files::appended))]
+    #[tactic(auto, unfolding(outside::specs::Files::with_appended_bytes))]
     fn write(&mut self, name: &str, bytes: &[u8]) -> Result<usize, Failed> {
         if self.calls.next_fails() {
             self.tally.count_write_fault(name);

@@ -1,8 +1,8 @@
 //! Whether the functions that plan may be called.
 ghost use Rattle.std.specs.Prelude.{ℕ, ◌+◌, ◌≡◌, ◌<◌, ◌≤◌, AllPairs, All, IsTrue, length, slice_index, map};
-ghost use Rattle.slot_plan.specs.Layouts.{IsFeasible};
-ghost use Rattle.slot_plan.specs.Parts.{own_frame, parts_of, AreOfOneClass, ArePartsFeasible};
-ghost use Rattle.slot_plan.specs.Behind.{FitBehindFree, FitBehindWindow, CanJoin};
+ghost use Rattle.slot_plan.specs.Layouts.{HasLayout};
+ghost use Rattle.slot_plan.specs.Parts.{own_frame, needs_in_parts, AreNeedsOfOneClass, ArePartsFeasible};
+ghost use Rattle.slot_plan.specs.FreeBytes.{FitBehindFree, FitBehindWindow, CanJoinBehind};
 
 use slot_plan::{Need, end_of, free_behind};
 
@@ -32,7 +32,7 @@ pub fn are_within(places: &[u32], count: usize) -> bool
 
 pub fn are_of_one_class(needs: &[Need]) -> bool
     requires { 0 < length needs.now }
-    ensures { IsTrue result → AreOfOneClass needs.now }
+    ensures { IsTrue result → AreNeedsOfOneClass needs.now }
 {
     let class = needs[0].header.class();
     for need in needs {
@@ -47,7 +47,7 @@ pub fn are_of_one_class(needs: &[Need]) -> bool
 pub fn fit(window: u32, before: u32, part: &[Need]) -> bool
     requires window { window ≤ 511 }
     requires before { before ≤ window }
-    ensures { IsTrue result → IsFeasible window before (map own_frame part.now) }
+    ensures { IsTrue result → HasLayout window before (map own_frame part.now) }
 {
     let mut free = before;
     for need in part {
@@ -66,7 +66,7 @@ pub fn fit_behind(needs: &[Need], free: u32) -> bool
     requires some { 0 < length needs.now }
     ensures free { IsTrue result → FitBehindFree free needs.now }
     ensures window { IsTrue result → FitBehindWindow needs.now }
-    ensures join { IsTrue result → (left : ℕ) → left ≤ free → CanJoin left needs.now }
+    ensures join { IsTrue result → (left : ℕ) → left ≤ free → CanJoinBehind left needs.now }
 {
     let class = needs[0].header.class();
     let window = class.window();
@@ -84,7 +84,7 @@ pub fn all_fit(window: u32, needs: &[Need], parts: &[u32]) -> bool
     requires window { window ≤ 511 }
     requires ascending { AllPairs (λ m n. m < n) parts.now }
     requires within { All (λ place. place < length needs.now) parts.now }
-    ensures { IsTrue result → ArePartsFeasible window (parts_of needs.now parts.now) }
+    ensures { IsTrue result → ArePartsFeasible window (needs_in_parts needs.now parts.now) }
 {
     for (at, from) in parts.iter().enumerate() {
         if !fit(

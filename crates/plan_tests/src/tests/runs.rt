@@ -1,7 +1,7 @@
 //! What becomes of an input behind another one, worked out by hand.
 ghost use Rattle.std.specs.Prelude.{◌≡◌, IsTrue, IfSome};
 ghost use Rattle.exact_span.specs.PlayedPositions.{AreCounted};
-ghost use Rattle.seam_plan.specs.Decisions.{CanBeJoined};
+ghost use Rattle.seam_plan.specs.Decisions.{IsJoinableInput};
 
 use crate::tests::asked::{Asked, STEREO, needs_of};
 use crate::tests::checked::{are_of_one_class, fit, fit_behind};
@@ -72,7 +72,7 @@ fn are_counted(class: Class, frames: u32, played: Option<Played>) -> bool
 
 /// Whether an input may be joined: its frames are of this class and fit behind no bytes, and its head counts as heads do.
 fn can_be_joined(class: Class, input: &Input<'_>) -> bool
-    ensures { IsTrue result → CanBeJoined class input.now }
+    ensures { IsTrue result → IsJoinableInput class input.now }
 {
     let needs = input.needs;
     if needs.is_empty() || needs.len() > 9 {

@@ -1,6 +1,6 @@
 //! The gains that move, of small files: their side information was worked out bit by bit from the standard's tables.
-ghost use Rattle.sync_survey.specs.Faults.{tells};
-ghost use Rattle.sync_survey.specs.Survey.{IsLaidOut};
+ghost use Rattle.sync_survey.specs.Faults.{survey_view};
+ghost use Rattle.sync_survey.specs.Survey.{IsSurveyLaidOut};
 
 use moved_gains::{Gains, gains_of, joined};
 use outside::{Folder, MemFolder};
@@ -64,7 +64,7 @@ static CASES: [Case; 9] = table! {
 
 /// The least and the greatest gain of a channel that move, where any does.
 fn moving(survey: &Survey, channel: u8) -> Option<(u8, u8)>
-    requires { IsLaidOut (tells survey.now) }
+    requires { IsSurveyLaidOut (survey_view survey.now) }
 {
     if channel >= survey.class().channels {
         return None;

@@ -1,6 +1,6 @@
 //! A folder that tells nothing.
 ghost use Rattle.std.specs.Prelude.{◌≡◌, ◌-◌, length, drop, min};
-ghost use Rattle.outside.specs.Files.{untold, Untold};
+ghost use Rattle.outside.specs.Files.{untold_files, Untold};
 
 use outside::{Failed, FindFault, Folder, Tally};
 
@@ -46,7 +46,7 @@ fn copy_from(content: &[u8], at: u64, into: &mut [u8]) -> usize
 }
 
 impl<'a> Folder for Untold<'a> {
-    ghost seen = { λ folder. record { files = untold; counts = folder.tally } };
+    ghost seen = { λ folder. record { files = untold_files; counts = folder.tally } };
 
     fn find(&mut self, _name: &str) -> Result<u64, FindFault> {
         Ok(self.found)

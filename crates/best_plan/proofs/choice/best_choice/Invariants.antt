@@ -1,5 +1,5 @@
 -- The least over the areas so far.
-use Rattle.best_plan.proofs.RowLaws.{IsChoiceTo}
+use Rattle.best_plan.proofs.RowLemmas.{IsChoiceTo}
 use Rattle.best_plan.proofs.choice.best_choice.Given as goal
 
 abbrev pub invariant-loop-place : goal.invariant-loop-place

@@ -1,6 +1,6 @@
 -- The bounds of the sums so far.
 use Rattle.std.proofs.Common.{◌≡◌}
-use Rattle.best_plan.proofs.RowLaws.{AreBoundsTo}
+use Rattle.best_plan.proofs.RowLemmas.{AreBoundsTo}
 use Rattle.best_plan.proofs.choice.bounds_of.Given as goal
 
 abbrev pub invariant-loop-free : goal.invariant-loop-free

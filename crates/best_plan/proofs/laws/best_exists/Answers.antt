@@ -1,5 +1,5 @@
 -- The list of the plan is one of those among which the best is.
-use Rattle.best_plan.proofs.ExistsLaw.{best-exists}
+use Rattle.best_plan.proofs.BestExistsLemmas.{best-exists}
 use Rattle.best_plan.proofs.laws.best_exists.Goals as goal
 
 pub returns : goal.returns

@@ -1,6 +1,6 @@
 -- One number of free bytes more.
 use Rattle.std.proofs.Common.{arith, subst, sym, [], ◌++◌, ◌+◌, ◌∷◌}
-use Rattle.best_plan.proofs.RowLaws.{IsRowTo, row-more}
+use Rattle.best_plan.proofs.RowLemmas.{IsRowTo, row-more}
 use Rattle.best_plan.proofs.rows.append_row.Goals as goal
 
 pub loop-free-preserved : goal.loop-free-preserved

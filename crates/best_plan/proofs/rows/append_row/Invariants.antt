@@ -1,6 +1,6 @@
 -- The row so far, and a place of an area.
 use Rattle.std.proofs.Common.{length, ◌≤◌}
-use Rattle.best_plan.proofs.RowLaws.{IsRowTo}
+use Rattle.best_plan.proofs.RowLemmas.{IsRowTo}
 use Rattle.best_plan.proofs.rows.append_row.Given as goal
 
 abbrev pub invariant-loop-free : goal.invariant-loop-free

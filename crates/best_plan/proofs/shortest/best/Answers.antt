@@ -1,9 +1,9 @@
 -- The list that the table gives, after the lead-in that its sums give.
 use Rattle.std.proofs.Common.{ap, arith, get_or, length, map, subst, sym, [], ◌++◌, ◌∙◌, ◌∷◌}
-use Rattle.best_plan.proofs.PlanLaws.{first-sum, plan-behind, plan-without, whole-sum}
-use Rattle.best_plan.{proofs.WalkLaws.table-width, specs.{Best.IsBestPlan, Table.IsLeadInBy}}
-use Rattle.slot_plan.{proofs.PartLaws.{one-class, window-first}, specs.Layouts.IsFeasible}
-use Rattle.slot_plan.specs.{Parts.own_frame, Plans.entries, Reserve.free_behind}
+use Rattle.best_plan.proofs.PlanLemmas.{first-sum, plan-behind, plan-without, whole-sum}
+use Rattle.best_plan.{proofs.WalkLemmas.table-width, specs.{Best.IsBestPlan, Table.IsLeadInOfSums}}
+use Rattle.slot_plan.{proofs.PartLemmas.{one-class, window-first}, specs.Layouts.HasLayout}
+use Rattle.slot_plan.specs.{Parts.own_frame, Plans.entries, Reserve.free_bytes_behind}
 use Rattle.best_plan.proofs.shortest.best.Goals as goal
 
 pub table_of-requires-clause-class : goal.table_of-requires-clause-class
@@ -54,7 +54,7 @@ lead_in-frame-requires-clause-some g c =
     window-first needs c.index-needs-0.result c.class-class.result c.window-window.result
     c.requires.class c.requires.some c.class-class.ensures c.window-window.ensures.window in
     let feasible =
-    subst (λ n. IsFeasible n n (map own_frame needs)) (sym window) c.requires.feasible in
+    subst (λ n. HasLayout n n (map own_frame needs)) (sym window) c.requires.feasible in
     let whole = whole-sum c.window-window.result (g.P.Policy.choices_of c.args.policy.now) needs
     c.in_ok-table.table.sums.items c.in_ok-table.table.places.items c.requires.few feasible
     c.in_ok-table.ensures in
@@ -71,7 +71,7 @@ returns g c =
     c.requires.class c.requires.some c.class-class.ensures c.window-window.ensures.window in
     let first = first-sum c.window-window.result choices needs sums places
     c.index.result.now c.in_ok-table.ensures c.index.ensures in
-    let by = subst (λ l. IsLeadInBy c.window-window.result c.class-class.result l
+    let by = subst (λ l. IsLeadInOfSums c.window-window.result c.class-class.result l
     c.lead_in-frame.result) c.as_slice.ensures.value c.lead_in-frame.ensures in
     let old = c.in_ok-push.ensures.items
     ∙ ap (λ l. l ++ c.lead_in-frame.result ∷ []) c.in_ok-placed.ensures.items in
@@ -81,5 +81,5 @@ returns g c =
     c.walk-2.new.placed.items (entries c.from_placed-2.result)
     c.requires.some c.requires.few c.class-class.ensures c.in_ok-table.ensures
     (omega (arith, first, c.if-index-lt-NOTHING.false)) by
-    (c.free_behind-free.ensures.free ∙ ap (λ n. free_behind c.window-window.result 0 0 n)
+    (c.free_behind-free.ensures.free ∙ ap (λ n. free_bytes_behind c.window-window.result 0 0 n)
     c.area_of-area.ensures.area) old c.in_ok-walk-2.ensures c.from_placed-2.ensures)

@@ -1,14 +1,14 @@
 -- The slots of a lead-in are all slots, and with the largest a whole window is free.
 use Rattle.std.proofs.Common.{All, ap, arith, false, length, refl, rules, subst, sym, ◌∙◌, ◌≤◌}
-use Rattle.best_plan.proofs.PlanLaws.{lead-by, lead-ready, lead-within}
-use Rattle.slot_plan.{proofs.AreaLaws.{Ascend, lead-ascend}, specs.Parts.areas_with}
+use Rattle.best_plan.proofs.PlanLemmas.{lead-by, lead-ready, lead-within}
+use Rattle.slot_plan.{proofs.AreaLemmas.{Ascend, lead-ascend}, specs.Parts.slot_areas}
 use Rattle.best_plan.proofs.shortest.lead_in.Goals as goal
 
 pub best_choice-choice-requires-clause-row : goal.best_choice-choice-requires-clause-row
 best_choice-choice-requires-clause-row c =
     let ascending =
     subst Ascend (sym (c.as_slice-2.ensures.value ∙ (c.areas_among-areas.ensures.areas
-    ∙ ap (λ k. areas_with k false c.as_slice.result.now) c.new-lengths.ensures.class)))
+    ∙ ap (λ k. slot_areas k false c.as_slice.result.now) c.new-lengths.ensures.class)))
     (lead-ascend c.args.class c.as_slice.result.now (c.as_slice.ensures.value
     ∙ c.slots-slots.ensures.slots) (c.slots-slots.ensures.ascending false)) in
     record {
@@ -28,7 +28,7 @@ bounds-as_slice-choice c =
     c.best_choice-choice.result.place
     (c.window-room.ensures.window ∙ sym c.requires.window)
     (c.as_slice-2.ensures.value ∙ (c.areas_among-areas.ensures.areas
-    ∙ ap (λ k. areas_with k false c.as_slice.result.now) c.new-lengths.ensures.class))
+    ∙ ap (λ k. slot_areas k false c.as_slice.result.now) c.new-lengths.ensures.class))
     (c.as_slice.ensures.value ∙ c.slots-slots.ensures.slots)
     c.window-room.ensures.spanned (subst (All (λ n. n ≤ 1441)) (sym c.as_slice-2.ensures.value)
     c.areas_among-areas.ensures.most) c.requires.some c.best_choice-choice.ensures in
@@ -46,7 +46,7 @@ returns c =
     c.best_choice-choice.result.place
     (c.window-room.ensures.window ∙ sym c.requires.window)
     (c.as_slice-2.ensures.value ∙ (c.areas_among-areas.ensures.areas
-    ∙ ap (λ k. areas_with k false c.as_slice.result.now) c.new-lengths.ensures.class))
+    ∙ ap (λ k. slot_areas k false c.as_slice.result.now) c.new-lengths.ensures.class))
     (c.as_slice.ensures.value ∙ c.slots-slots.ensures.slots)
     c.window-room.ensures.spanned (subst (All (λ n. n ≤ 1441)) (sym c.as_slice-2.ensures.value)
     c.areas_among-areas.ensures.most) c.requires.some c.best_choice-choice.ensures in

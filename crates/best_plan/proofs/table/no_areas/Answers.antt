@@ -1,6 +1,6 @@
 -- One sum more, and all.
 use Rattle.std.proofs.{Common.{ap, arith, get_or, length, refl, ◌+◌, ◌∙◌}, lemmas.List.length_push}
-use Rattle.best_plan.proofs.RowLaws.{zero-more}
+use Rattle.best_plan.proofs.RowLemmas.{zero-more}
 use Rattle.best_plan.proofs.table.no_areas.Goals as goal
 
 pub loop-init : goal.loop-init

@@ -1,8 +1,8 @@
 -- One frame more, from the last to the first.
 use Rattle.std.proofs.Common.{All, arith, drop, rules, subst, ◌+◌, ◌-◌, ◌∙◌, ◌≡◌, ◌≤◌}
-use Rattle.best_plan.{proofs.WalkLaws.{table-more, table-none, table-width}, specs.Rows.AppendsRow}
-use Rattle.best_plan.specs.Table.{IsTable}
-use Rattle.slot_plan.proofs.PartLaws.{same-class}
+use Rattle.best_plan.proofs.WalkLemmas.{table-more, table-none, table-width}
+use Rattle.best_plan.specs.{Rows.AppendsRow, Table.IsTable}
+use Rattle.slot_plan.proofs.PartLemmas.{same-class}
 use Rattle.best_plan.proofs.table.table_of.Goals as goal
 
 pub loop-i-init : goal.loop-i-init

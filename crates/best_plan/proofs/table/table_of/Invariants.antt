@@ -1,11 +1,11 @@
 -- The table of the frames from i on, and whether each free byte spares one.
 use Rattle.std.proofs.Common.{drop}
-use Rattle.best_plan.specs.{Rows.AreKnown, Table.IsTable}
+use Rattle.best_plan.specs.{Rows.AreKnownSlopes, Table.IsTable}
 use Rattle.best_plan.proofs.table.table_of.Given as goal
 
 abbrev pub invariant-loop-i : goal.invariant-loop-i
 invariant-loop-i g l = record {
   table : IsTable l.window (g.P.Policy.choices_of l.policy)
       (drop l.i l.needs) l.sums.by_free.items l.places.items;
-  known : AreKnown l.sums;
+  known : AreKnownSlopes l.sums;
 }

@@ -1,9 +1,9 @@
 -- One frame more, and the last.
 use Rattle.std.proofs.Common.{ap, arith, drop, length, take, ◌+◌, ◌-◌, ◌∙◌, ◌≡◌}
-use Rattle.best_plan.proofs.WalkLaws.{area-is, goes-all, goes-begun, goes-more, place-is, walk-next}
-use Rattle.best_plan.proofs.WalkLaws.{walk-open}
-use Rattle.slot_plan.{proofs.PartLaws.same-class, specs.Parts.{area_in, item_of}}
-use Rattle.slot_plan.specs.Reserve.{free_behind}
+use Rattle.best_plan.proofs.WalkLemmas.{area-is, goes-all, goes-begun, goes-more, place-is}
+use Rattle.best_plan.proofs.WalkLemmas.{walk-next, walk-open}
+use Rattle.slot_plan.{proofs.PartLemmas.same-class, specs.Parts.{item_area, need_item}}
+use Rattle.slot_plan.specs.Reserve.{free_bytes_behind}
 use Rattle.best_plan.proofs.walk.walk.Goals as goal
 
 pub overflow_sub-from : goal.overflow_sub-from
@@ -47,7 +47,7 @@ free_behind-free-requires-clause-fits g c =
     let at = area-is front c.loop-need.invariant.free c.len.result c.index-place.result.now (omega (
       arith,
       c.len.ensures,
-    )) c.index-place.ensures (area_in (item_of (g.P.Policy.choices_of c.args.policy.now)
+    )) c.index-place.ensures (item_area (need_item (g.P.Policy.choices_of c.args.policy.now)
     c.need-item.result) c.frame_at-frame.result.slot) c.frame_at-frame.ensures.area in
     omega (arith, front.choice.fits front.some, c.area_with-area.ensures.area, at)
 
@@ -58,15 +58,16 @@ loop-need-preserved g c =
     let at = area-is front c.loop-need.invariant.free c.len.result c.index-place.result.now (omega (
       arith,
       c.len.ensures,
-    )) c.index-place.ensures (area_in (item_of (g.P.Policy.choices_of c.args.policy.now)
+    )) c.index-place.ensures (item_area (need_item (g.P.Policy.choices_of c.args.policy.now)
     c.need-item.result) c.frame_at-frame.result.slot) c.frame_at-frame.ensures.area in
     let choices = g.P.Policy.choices_of c.args.policy.now in
     let need = c.need-item.result in
     let slot = c.frame_at-frame.result.slot in
-    let free : c.free_behind-free.result ≡ free_behind c.args.room.window c.loop-need.free
-    need.bytes (area_in (item_of choices need) slot) =
+    let free : c.free_behind-free.result ≡ free_bytes_behind c.args.room.window c.loop-need.free
+    need.bytes (item_area (need_item choices need) slot) =
     c.free_behind-free.ensures.free ∙ ap (λ n.
-    free_behind c.args.room.window c.loop-need.free need.bytes n) c.area_with-area.ensures.area in
+    free_bytes_behind c.args.room.window c.loop-need.free need.bytes n)
+    c.area_with-area.ensures.area in
     let taken : c.truncate.new.self.items
     ≡ take (length c.loop-need.places.items - (c.args.room.window + 1)) c.loop-need.places.items =
     c.truncate.ensures.items ∙ ap (λ n. take (n - (c.args.room.window + 1))
@@ -74,7 +75,7 @@ loop-need-preserved g c =
     record {
       free = c.free_behind-free.ensures.within;
       can = walk-next c.args.room.window choices
-          c.loop-need.free c.free_behind-free.result (area_in (item_of choices need) slot) need
+          c.loop-need.free c.free_behind-free.result (item_area (need_item choices need) slot) need
           (drop (c.loop-need.need-index + 1) c.args.needs.now)
           c.loop-need.places.items c.truncate.new.self.items front at free taken;
       goes = rw c.in_ok-push.ensures.items

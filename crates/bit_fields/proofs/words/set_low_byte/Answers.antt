@@ -1,5 +1,5 @@
 -- One byte is set.
-use Rattle.bit_fields.proofs.WordLaws.{bits-set}
+use Rattle.bit_fields.proofs.WordLemmas.{bits-set}
 use Rattle.bit_fields.proofs.words.set_low_byte.Goals as goal
 
 pub returns : goal.returns

@@ -1,6 +1,6 @@
 -- Eight bytes are written again.
 use Rattle.std.proofs.Common.{ap, arith, take, ◌++◌, ◌+◌, ◌∙◌}
-use Rattle.bit_fields.proofs.{BitsLaws.bits-to_be_bytes_8, WordLaws.put_bytes}
+use Rattle.bit_fields.proofs.{BitsLemmas.bits-to_be_bytes_8, WordLemmas.put_bytes}
 use Rattle.bit_fields.specs.Bits.{bits, bits_of}
 use borrow.Rule.Slice.PartMut.{Post-is}
 use Rattle.bit_fields.proofs.words.set_word.Goals as goal

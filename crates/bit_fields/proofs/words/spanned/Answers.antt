@@ -1,6 +1,6 @@
 -- Both parts are put together.
 use Rattle.std.proofs.Common.{arith}
-use Rattle.bit_fields.proofs.WordLaws.{spanned_below, spanned_bits}
+use Rattle.bit_fields.proofs.WordLemmas.{spanned_below, spanned_bits}
 use Rattle.bit_fields.proofs.words.spanned.Goals as goal
 
 pub overflow_add-result : goal.overflow_add-result

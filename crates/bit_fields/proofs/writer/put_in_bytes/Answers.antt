@@ -1,7 +1,7 @@
 -- The bytes that the group reaches are written again.
 use Rattle.std.proofs.Common.{arith, drop, length, take, ◌*◌, ◌+◌, ◌-◌, ◌/◌, ◌<◌, ◌^◌, ◌≡◌}
-use Rattle.bit_fields.proofs.BitsLaws.{number-bits-below}
-use Rattle.bit_fields.proofs.WindowLaws.{reached, whole_small, write_group}
+use Rattle.bit_fields.proofs.BitsLemmas.{number-bits-below}
+use Rattle.bit_fields.proofs.GroupBytesLemmas.{reached, whole_small, write_group}
 use Rattle.bit_fields.proofs.writer.put_in_bytes.Goals.{After-number_of}
 use Rattle.bit_fields.proofs.writer.put_in_bytes.Goals as goal
 

@@ -1,7 +1,7 @@
 -- The eight bytes are written again.
 use Rattle.std.proofs.Common.{ap, ap₂, arith, drop, length, length-drop, sym, take, ◌*◌, ◌++◌, ◌+◌}
 use Rattle.std.proofs.{Common.{◌-◌, ◌∙◌, ◌≡◌, ◌≤◌}, lemmas.List.{drop-drop, length-take-le}}
-use Rattle.bit_fields.proofs.{BitsLaws.bits-to_be_bytes_8, WindowLaws.write_group}
+use Rattle.bit_fields.proofs.{BitsLemmas.bits-to_be_bytes_8, GroupBytesLemmas.write_group}
 use Rattle.bit_fields.specs.Bits.{bits, bits_of}
 use borrow.Rule.Slice.PartMut.{Post-is}
 use Rattle.bit_fields.proofs.writer.put_in_word.Goals as goal

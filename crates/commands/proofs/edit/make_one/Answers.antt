@@ -1,9 +1,10 @@
 -- A clash of names, what was met before the output is created, and the second pass.
 use Rattle.std.proofs.Common.{ap₂, IfErr, List, OnOk, rules, subst, sym, ℕ, [], ◌∷◌, ◌≡◌, ◌≢◌}
-use Rattle.commands.proofs.MakeLaws.{clash_is, clash_left, early_left, numbers_early, one_done}
-use Rattle.commands.proofs.MakeLaws.{one_left, one_streams, proper_holds, refused_run, source_apart}
-use Rattle.commands.{proofs.MakeLaws.source_is, specs.One.{holding, IsPassFault, one_command}}
-use Rattle.outside.{proofs.CountsLaws.none_fell_by_reads, specs.{Files.Holds, Seen.seen}}
+use Rattle.commands.proofs.MakeLemmas.{clash_is, clash_left, early_left, numbers_early, one_done}
+use Rattle.commands.proofs.MakeLemmas.{one_left, one_streams, proper_holds, refused_run}
+use Rattle.commands.proofs.MakeLemmas.{source_apart, source_is}
+use Rattle.commands.specs.SingleOutput.{files_holding, IsPassFault, one_command}
+use Rattle.outside.{proofs.CountsLemmas.none_fell_by_reads, specs.{Files.Holds, Seen.seen_folder}}
 use Rattle.commands.proofs.edit.make_one.Goals as goal
 
 pub returns-in-Some : goal.returns-in-Some
@@ -62,11 +63,12 @@ returns g c =
     source_is c.inputs-inputs.result task c.inputs-inputs.ensures c.requires.proper.first in
     let mid = g.D.Folder.seen c.prepare.new.folder in
     let new = g.D.Folder.seen c.write_output.new.folder in
-    let same = ap₂ seen c.prepare.ensures.files c.in_ok-work.ensures.done in
+    let same = ap₂ seen_folder c.prepare.ensures.files c.in_ok-work.ensures.done in
     let making = c.in_ok-work.ensures.making in
     let wrote =
     subst (λ source. OnOk c.write_output.result ((bytes : List ℕ) → Holds mid.files source bytes
-    → new.files ≡ holding mid.files output (file bytes))) source c.write_output.ensures.written in
+    → new.files ≡ files_holding mid.files output (file bytes))) source
+    c.write_output.ensures.written in
     let stopped = subst (λ source. IfErr c.write_output.result (IsPassFault file
     (source ∷ []) output mid new)) source c.write_output.ensures.left in
     record {

@@ -1,8 +1,8 @@
 -- The output is created, and then written by a pass over the source, which stays.
 use Rattle.std.proofs.Common.{refl, subst, sym, [], ◌∷◌}
-use Rattle.commands.proofs.OutputLaws.{not_begun, output_whole, pass_fault, touches_prefix}
-use Rattle.commands.{proofs.OutputLaws.touches_whole, specs.One.IsPassFault}
-use Rattle.outside.proofs.FilesLaws.{fails_touches}
+use Rattle.commands.proofs.OutputLemmas.{not_begun, output_whole, pass_fault, touches_prefix}
+use Rattle.commands.{proofs.OutputLemmas.touches_whole, specs.SingleOutput.IsPassFault}
+use Rattle.outside.proofs.FilesLemmas.{fails_touches}
 use Rattle.commands.proofs.output.write_output.Goals as goal
 
 pub returns-in-Ok-append-clause-written : goal.returns-in-Ok-append-clause-written

@@ -1,7 +1,7 @@
 -- All bytes of the sheet come, or the cause is that of the read.
 use Rattle.std.proofs.Common.{rules, subst, sym}
-use Rattle.commands.proofs.SheetLaws.{read-fault, read-number}
-use Rattle.commands.specs.Sheet.{IsOfSheet, IsSheetFault}
+use Rattle.commands.proofs.SheetLemmas.{read-fault, read-number}
+use Rattle.commands.specs.Sheet.{HasSheetNumbers, IsSheetFault}
 use Rattle.commands.specs.declared.fault.EditFault.TheVariants.{Input}
 use Rattle.outside.specs.Files.{Holds}
 use Rattle.commands.proofs.sheet.sheet_bytes.Goals as goal
@@ -26,7 +26,7 @@ returns-in-Err-clause-sheet g c =
           c.sheet_length.ensures.sheet.reads.files c.read_exact.ensures.files
           c.in_ok-length.ensures.sheet.reads.done c.in-Err.fault c.in-Err.ensures.cause);
       numbers =
-          subst (λ f. IsOfSheet (Input 1 f)) (sym c.into.ensures)
+          subst (λ f. HasSheetNumbers (Input 1 f)) (sym c.into.ensures)
           (read-number c.args.sheet.now (seen c.args.folder.now).files
           (seen c.sheet_length.new.folder).files (seen c.read_exact.new.folder).files
           (seen c.args.folder.now).counts (seen c.sheet_length.new.folder).counts

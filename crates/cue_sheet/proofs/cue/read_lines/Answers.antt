@@ -1,20 +1,20 @@
 -- A line more without a fault, a fault, and the end.
 use Rattle.std.proofs.{Common.{arith, inr, subst, sym, ◌∙◌}, lemmas.Bool.{eqb-false, eqb-true}}
-use Rattle.cue_sheet.proofs.CuesLaws.{are_starts, ends, goes_on, HaveRead, none_are, refused}
-use Rattle.cue_sheet.proofs.{CuesLaws.some_are, LinesLaws.first_said, StartsLaws.starts-few}
-use Rattle.cue_sheet.specs.Cues.{entries_from, entry_in}
+use Rattle.cue_sheet.proofs.CuesLemmas.{are_starts, ends, goes_on, HaveRead, none_are, refused}
+use Rattle.cue_sheet.proofs.{CuesLemmas.some_are, LinesLemmas.first_said, StartsLemmas.starts-few}
+use Rattle.cue_sheet.specs.Cues.{cue_entries_from, cue_entry_in}
 use Rattle.cue_sheet.proofs.cue.read_lines.Goals as goal
 
 pub returns-in-Some-clause-cue : goal.returns-in-Some-clause-cue
 returns-in-Some-clause-cue c =
     inr (refused c.args.text.now c.loop-at.at c.loop-at.seen c.loop-at.starts.items _ _
-    c.in-Some.fault c.loop-at.invariant.0 (first_said entry_in c.args.text.now c.loop-at.at
+    c.in-Some.fault c.loop-at.invariant.0 (first_said cue_entry_in c.args.text.now c.loop-at.at
     c.line_at-line.result.next _ _ c.line_at-line.ensures.line c.read_entry-entry.ensures)
     (λ before seen. sym c.in-Some.is ∙ c.fault.ensures before seen))
 
 pub loop-at-preserved : goal.loop-at-preserved
 loop-at-preserved c =
-    let line = first_said entry_in c.args.text.now c.loop-at.at c.line_at-line.result.next _ _
+    let line = first_said cue_entry_in c.args.text.now c.loop-at.at c.line_at-line.result.next _ _
     c.line_at-line.ensures.line c.read_entry-entry.ensures in
     let read = goes_on c.args.text.now c.loop-at.at c.line_at-line.result.next c.loop-at.seen
     c.behind-seen.result c.loop-at.starts.items _ c.loop-at.invariant.0 line
@@ -40,7 +40,7 @@ returns c =
     let cue = ends c.args.text.now c.loop-at.at c.loop-at.seen c.loop-at.starts.items read
     c.loop-at-test.false
     ∙ some_are c.loop-at.starts.items (omega (arith, c.loop-at.starts.ok.0, some)) in
-    let few = starts-few (entries_from c.args.text.now 0) c.loop-at.starts.items cue in
+    let few = starts-few (cue_entries_from c.args.text.now 0) c.loop-at.starts.items cue in
     record {
       cue = cue;
       rising = are_starts c.args.text.now c.loop-at.at c.loop-at.seen c.loop-at.starts.items read;

@@ -1,6 +1,6 @@
 -- The lines so far have no fault and these starts, and the others are after them.
 use Rattle.std.proofs.Common.{length, ◌+◌, ◌-◌, ◌≤◌}
-use Rattle.cue_sheet.proofs.CuesLaws.{HaveRead}
+use Rattle.cue_sheet.proofs.CuesLemmas.{HaveRead}
 use Rattle.cue_sheet.proofs.cue.read_lines.Given as goal
 
 abbrev pub invariant-loop-at : goal.invariant-loop-at

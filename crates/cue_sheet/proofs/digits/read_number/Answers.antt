@@ -3,8 +3,8 @@ use Rattle.std.proofs.Common.{ap, arith, get_or, Some, subst, sym, ◌+◌, ◌�
 use Rattle.std.proofs.lemmas.{Int.Digits.{digits_more, digits_value_more}, List.take_all}
 use Rattle.std.{proofs.lemmas.Str.digit_value_digit, specs.Char.digit_value}
 use Rattle.std.specs.Str.Parse.{AllDigits, digits_value}
-use Rattle.cue_sheet.proofs.NumbersLaws.{number_of_digits, number_of_few, number_of_great}
-use Rattle.cue_sheet.proofs.NumbersLaws.{number_of_many, number_of_others, value_of_few}
+use Rattle.cue_sheet.proofs.NumbersLemmas.{number_of_digits, number_of_few, number_of_great}
+use Rattle.cue_sheet.proofs.NumbersLemmas.{number_of_many, number_of_others, value_of_few}
 use Rattle.cue_sheet.proofs.digits.read_number.Goals.{then-digits-least-via-else-digits-least+then-digits-most}
 use Rattle.cue_sheet.proofs.digits.read_number.Goals.{then-digits-least-via-then-digits-least}
 use Rattle.cue_sheet.proofs.digits.read_number.Goals as goal

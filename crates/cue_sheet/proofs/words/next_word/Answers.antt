@@ -1,7 +1,7 @@
 -- The word after the blanks.
 use Rattle.std.proofs.Common.{ap, ap₂, arith, drop, length, sym, take, ◌-◌, ◌∙◌, ◌∷◌}
 use Rattle.std.proofs.lemmas.{Bool.{eqb-false, eqb-true}, List.take_rest}
-use Rattle.cue_sheet.{proofs.WordsLaws.{next_word_is, no_next_word}, specs.Lines.words_of}
+use Rattle.cue_sheet.{proofs.WordsLemmas.{next_word_is, no_next_word}, specs.Lines.words_of}
 use Rattle.cue_sheet.proofs.words.next_word.Goals as goal
 
 pub returns-then-is_empty : goal.returns-then-is_empty

@@ -1,6 +1,6 @@
 -- What the one body asks of the command.
-use Rattle.cut_edits.proofs.ChosenLaws.{edit_proper}
-use Rattle.cut_edits.specs.declared.choice.Choice.TheVariants.{Between}
+use Rattle.cut_edits.proofs.ChosenLemmas.{edit_proper}
+use Rattle.cut_edits.specs.declared.choice.FrameChoice.TheVariants.{Between}
 use Rattle.cut_edits.proofs.calls.cut.Goals as goal
 
 pub make_one-requires-clause-proper : goal.make_one-requires-clause-proper

@@ -1,5 +1,5 @@
 -- What the one body asks of the command.
-use Rattle.cut_edits.proofs.PieceLaws.{exact-proper}
+use Rattle.cut_edits.proofs.PieceLemmas.{exact-proper}
 use Rattle.cut_edits.proofs.calls.cut_exact.Goals as goal
 
 pub make_one-requires-clause-proper : goal.make_one-requires-clause-proper

@@ -1,10 +1,10 @@
 -- All frames, with the quality and extension of the head.
 use Rattle.std.proofs.Common.{ap, length, List, Ok, Option, refl, rules, sym, true, ℕ, ◌&&◌, ◌<◌}
 use Rattle.std.{proofs.Common.◌≡◌, specs.Prelude.{nat_le, nat_lt}}
-use Rattle.commands.specs.One.{most_frames}
+use Rattle.commands.specs.SingleOutput.{most_frames}
 use Rattle.cut_edits.specs.Chosen.{all_choice}
-use Rattle.laying.{proofs.ChosenFrames.survey-had, specs.Written.head_info}
-use Rattle.sync_survey.specs.Faults.{SurveyFields, tells}
+use Rattle.laying.{proofs.SurveyFrameLemmas.survey-had, specs.Written.head_info}
+use Rattle.sync_survey.specs.Faults.{survey_view, SurveyFields}
 use Rattle.cut_edits.proofs.choice.all_choice.Goals as goal
 
 inside : (n : ℕ) → 0 < n → (nat_lt 0 n && nat_le n n) ≡ true
@@ -20,10 +20,10 @@ with_all bytes s quality extension n some same kept count =
 
 pub kept_fields-requires-clause-exact : goal.kept_fields-requires-clause-exact
 kept_fields-requires-clause-exact g c = λ file holds. survey-had file most_frames
-    (tells c.args.survey.now) (c.requires.surveyed file holds)
+    (survey_view c.args.survey.now) (c.requires.surveyed file holds)
 
 pub returns-clause-chosen : goal.returns-clause-chosen
 returns-clause-chosen g c bytes holds =
     let kept = c.in-Ok.ensures.kept bytes holds in
-    with_all bytes (tells c.args.survey.now) c.in-Ok.kept.quality c.in-Ok.kept.extension _
+    with_all bytes (survey_view c.args.survey.now) c.in-Ok.kept.quality c.in-Ok.kept.extension _
     c.requires.laid.some kept.0 kept.1 (sym (ap length c.frames.ensures))

@@ -1,5 +1,5 @@
 -- Each piece plays its samples.
-use Rattle.cut_edits.proofs.PlayLaws.{pieces-play}
+use Rattle.cut_edits.proofs.PlayLemmas.{pieces-play}
 use Rattle.cut_edits.proofs.laws.pieces_play_their_samples.Goals as goal
 
 pub returns : goal.returns

@@ -1,14 +1,14 @@
 -- The Info frame can be sealed, and then it is that of the sealed fields.
 use Rattle.std.proofs.Common.{ap, ◌∙◌}
-use Rattle.cut_edits.proofs.SealedLaws.{info-room, sealed-is, sealed-room}
-use Rattle.exact_span.specs.TagWord.{sealed}
+use Rattle.cut_edits.proofs.SealedLemmas.{info-room, sealed-is, sealed-room}
+use Rattle.exact_span.specs.TagWord.{sealed_frame}
 use Rattle.frame_header.specs.Fields.{ClassFields}
-use Rattle.sync_survey.specs.Faults.{tells}
+use Rattle.sync_survey.specs.Faults.{survey_view}
 use Rattle.cut_edits.proofs.pieces.sealed_info.Goals as goal
 
 pub seal-requires : goal.seal-requires
 seal-requires c =
-    let s = tells c.args.survey.now in
+    let s = survey_view c.args.survey.now in
     let kept = c.args.kept.now in
     rw (c.class.ensures)
     (info-room s c.requires.well c.args.from c.requires.within c.args.placed.now kept.quality
@@ -16,18 +16,18 @@ seal-requires c =
 
 pub returns-clause-room : goal.returns-clause-room
 returns-clause-room c =
-    let s = tells c.args.survey.now in
+    let s = survey_view c.args.survey.now in
     let kept = c.args.kept.now in
     sealed-room s c.requires.well c.args.from c.requires.within c.args.placed.now kept.quality
     kept.extension c.has_all.ensures c.info_bytes-info.result.items c.info_bytes-info.ensures
     c.seal.new.frame.items (c.seal.ensures
-    ∙ ap (λ (k : ClassFields). sealed k c.info_bytes-info.result.items) c.class.ensures)
+    ∙ ap (λ (k : ClassFields). sealed_frame k c.info_bytes-info.result.items) c.class.ensures)
 
 pub returns-clause-bytes : goal.returns-clause-bytes
 returns-clause-bytes c =
-    let s = tells c.args.survey.now in
+    let s = survey_view c.args.survey.now in
     let kept = c.args.kept.now in
     sealed-is s c.requires.well c.args.from c.requires.within c.args.placed.now kept.quality
     kept.extension c.has_all.ensures c.info_bytes-info.result.items c.info_bytes-info.ensures
     c.seal.new.frame.items (c.seal.ensures
-    ∙ ap (λ (k : ClassFields). sealed k c.info_bytes-info.result.items) c.class.ensures)
+    ∙ ap (λ (k : ClassFields). sealed_frame k c.info_bytes-info.result.items) c.class.ensures)

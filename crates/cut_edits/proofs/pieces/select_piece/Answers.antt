@@ -1,17 +1,17 @@
 -- The frames of the span have their plan, and a place at most more than they are.
 use Rattle.std.proofs.Common.{ap, ap₂, arith, length, List, None, Option, refl, subst, sym, ◌∙◌}
 use Rattle.std.{proofs.Common.◌≡◌, specs.Prelude.option_copied}
-use Rattle.cut_edits.proofs.PieceLaws.{span_chosen}
-use Rattle.cut_edits.proofs.SpanLaws.{with-few, with-fitting, with-leads, with-many}
-use Rattle.cut_edits.specs.Chosen.{needs_of}
-use Rattle.cut_edits.specs.Exact.{laid_span, needs_in, numbered, piece_of, plan_with, quality_of}
-use Rattle.cut_edits.specs.Exact.{sealed_laid}
+use Rattle.cut_edits.proofs.PieceLemmas.{span_chosen}
+use Rattle.cut_edits.proofs.SpanLemmas.{with-few, with-fitting, with-leads, with-many}
+use Rattle.cut_edits.specs.Chosen.{chosen_needs}
+use Rattle.cut_edits.specs.Exact.{quality_of, sealed_part, span_extension, span_needs, span_part}
+use Rattle.cut_edits.specs.Exact.{span_piece, span_plan}
 use Rattle.exact_span.specs.declared.span.Span.{Span}
 use Rattle.frame_header.specs.{Fields.ClassFields, Tables.window_of}
 use Rattle.info_header.specs.declared.fields.Info.{Info}
-use Rattle.laying.specs.{Fits.IsFitting, Laid.{Laid, laid_between}, declared.info.Kept.Kept}
+use Rattle.laying.specs.{Fits.IsFittingPlan, Laid.{laid_part, LaidPart}, declared.info.Kept.Kept}
 use Rattle.slot_plan.specs.{Plans.entries, declared.needs.Placed.Placed}
-use Rattle.sync_survey.specs.Faults.{SurveyFields, tells}
+use Rattle.sync_survey.specs.Faults.{survey_view, SurveyFields}
 use Rattle.cut_edits.proofs.pieces.select_piece.Goals as goal
 
 pub plan_piece-requires : goal.plan_piece-requires
@@ -29,7 +29,7 @@ kept_of-kept-requires-clause-span c = rw (c.class.ensures) c.requires.there.is
 
 pub kept_of-kept-requires-clause-leads : goal.kept_of-kept-requires-clause-leads
 kept_of-kept-requires-clause-leads c =
-    let s = tells c.args.survey.now in
+    let s = survey_view c.args.survey.now in
     let chosen = span_chosen None c.args.span.now in
     rw (c.placed.ensures, c.in_ok-plan.ensures)
     (with-leads chosen s
@@ -37,7 +37,7 @@ kept_of-kept-requires-clause-leads c =
 
 pub kept_of-kept-requires-clause-many : goal.kept_of-kept-requires-clause-many
 kept_of-kept-requires-clause-many c =
-    let s = tells c.args.survey.now in
+    let s = survey_view c.args.survey.now in
     let chosen = span_chosen None c.args.span.now in
     rw (c.placed.ensures, c.in_ok-plan.ensures)
     (with-many chosen s
@@ -45,7 +45,7 @@ kept_of-kept-requires-clause-many c =
 
 pub select_sealed-requires-clause-few : goal.select_sealed-requires-clause-few
 select_sealed-requires-clause-few c =
-    let s = tells c.args.survey.now in
+    let s = survey_view c.args.survey.now in
     let chosen = span_chosen None c.args.span.now in
     omega (
       arith,
@@ -58,30 +58,33 @@ select_sealed-requires-clause-few c =
 
 pub select_sealed-requires-clause-fitting : goal.select_sealed-requires-clause-fitting
 select_sealed-requires-clause-fitting c =
-    let s = tells c.args.survey.now in
+    let s = survey_view c.args.survey.now in
     let chosen = span_chosen None c.args.span.now in
-    subst (IsFitting (window_of s.class.version) (needs_of chosen s)) (sym c.in_ok-plan.ensures)
+    subst (IsFittingPlan (window_of s.class.version) (chosen_needs chosen s))
+    (sym c.in_ok-plan.ensures)
     (with-fitting chosen s
     c.requires.laid.placed c.requires.there.some c.requires.there.within c.args.span.now.led)
 
 same_laid : (head : Option Info) (span : Span) (s : SurveyFields) (kept : Kept)
     (placed given : List Placed) (class : ClassFields)
-    → kept ≡ record { quality = quality_of head; extension = numbered head class span given }
-    → class ≡ s.class → given ≡ placed → placed ≡ plan_with span.led s.class (needs_in span s)
-    → laid_between span.first span.last kept placed ≡ laid_span head span s
+    → kept ≡ record { quality = quality_of head; extension = span_extension head class span given }
+    → class ≡ s.class → given ≡ placed → placed ≡ span_plan span.led s.class (span_needs span s)
+    → laid_part span.first span.last kept placed ≡ span_part head span s
 same_laid head span s kept placed given class is same own planned =
-    ap (λ (k : Kept). laid_between span.first span.last k placed) is
-    ∙ ap₂ (λ (c : ClassFields) (g : List Placed). laid_between span.first span.last
-    (record { quality = quality_of head; extension = numbered head c span g }) placed) same own
-    ∙ ap (λ (p : List Placed). laid_between span.first span.last
-    (record { quality = quality_of head; extension = numbered head s.class span p }) p) planned
+    ap (λ (k : Kept). laid_part span.first span.last k placed) is
+    ∙ ap₂ (λ (c : ClassFields) (g : List Placed). laid_part span.first span.last
+    (record { quality = quality_of head; extension = span_extension head c span g }) placed) same
+    own
+    ∙ ap (λ (p : List Placed). laid_part span.first span.last
+    (record { quality = quality_of head; extension = span_extension head s.class span p }) p)
+    planned
 
 pub returns-clause-laid : goal.returns-clause-laid
-unfolding piece_of
+unfolding span_piece
 returns-clause-laid c = λ file has.
-    let s = tells c.args.survey.now in
+    let s = survey_view c.args.survey.now in
     c.select_sealed.ensures.laid file has
-    ∙ ap (λ (l : Laid). sealed_laid l file s)
+    ∙ ap (λ (l : LaidPart). sealed_part l file s)
     (same_laid (option_copied c.args.head) c.args.span.now s
     c.kept_of-kept.result (entries c.in_ok-plan.plan) c.placed.result.now c.class.result
     c.kept_of-kept.ensures c.class.ensures c.placed.ensures c.in_ok-plan.ensures)

@@ -1,14 +1,14 @@
 -- The extension that is kept is that of the sealed
 -- fields, so the bytes are those of the Info frame.
 use Rattle.std.proofs.Common.{ap, ap₂, arith, drop, List, map, Option, sym, take, ℕ, ◌+◌, ◌∙◌}
-use Rattle.cut_edits.{proofs.SealedLaws.{for-whole, sealed-read}, specs.Exact.sealed_from}
+use Rattle.cut_edits.{proofs.SealedLemmas.{for-whole, sealed-read}, specs.Exact.row_sealed_part}
 use Rattle.exact_span.specs.TagWord.{text_place}
 use Rattle.frame_header.specs.Fields.{ClassFields}
 use Rattle.info_header.specs.InfoFrame.{info_frame}
-use Rattle.laying.proofs.LaidLaws.{first-there, laid-slots}
-use Rattle.laying.specs.{Laid.{frames_laid, info_laid, laid_between}, Written.info_for}
+use Rattle.laying.proofs.LaidLemmas.{first-there, laid-slots}
+use Rattle.laying.specs.{Laid.{frames_laid, info_laid, laid_part}, Written.info_for}
 use Rattle.slot_plan.specs.{Plans.entries, declared.needs.Placed.Placed}
-use Rattle.sync_survey.specs.{Faults.tells, Row.Row}
+use Rattle.sync_survey.specs.{Faults.survey_view, Row.Row}
 use Rattle.cut_edits.proofs.pieces.select_sealed.Goals as goal
 
 abbrev kept_at : ClassFields → List ℕ → List ℕ
@@ -16,8 +16,8 @@ kept_at class bytes = take 36 (drop (text_place class + 120) bytes)
 
 pub returns-clause-laid : goal.returns-clause-laid
 returns-clause-laid c = λ file has.
-    let s = tells c.args.survey.now in
-    let plain = laid_between c.args.from c.args.to c.args.kept (entries c.args.plan) in
+    let s = survey_view c.args.survey.now in
+    let plain = laid_part c.args.from c.args.to c.args.kept (entries c.args.plan) in
     let there =
     first-there s.frames c.args.from (omega (arith, c.requires.some, c.requires.within)) in
     let first = there.0 in
@@ -38,7 +38,7 @@ returns-clause-laid c = λ file has.
       extension =
           e;
     }) read
-    ∙ sym (ap (λ (o : Option Row). sealed_from o plain file s) there.1)
+    ∙ sym (ap (λ (o : Option Row). row_sealed_part o plain file s) there.1)
 
 pub returns-clause-writable : goal.returns-clause-writable
 returns-clause-writable c = record {
@@ -46,8 +46,8 @@ returns-clause-writable c = record {
   within = c.requires.within;
   fits = c.requires.fitting.fits;
   info = λ file has first found.
-      let s = tells c.args.survey.now in
-      let plain = laid_between c.args.from c.args.to c.args.kept (entries c.args.plan) in
+      let s = survey_view c.args.survey.now in
+      let plain = laid_part c.args.from c.args.to c.args.kept (entries c.args.plan) in
       let frames = frames_laid plain file s in
       let slots = laid-slots plain file s has c.requires.some c.requires.within c.requires.fitting
       ∙ sym (ap (map (λ (p : Placed). p.slot)) c.placed.ensures) in

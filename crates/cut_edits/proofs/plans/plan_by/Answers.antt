@@ -1,20 +1,20 @@
 -- What the planner answers of the chosen frames is their plan.
 use Rattle.std.proofs.lemmas.Result.{IfOk-weaker}
-use Rattle.cut_edits.{proofs.ChosenLaws.{plan_is, rows-fit}, specs.Chosen.chosen_in}
+use Rattle.cut_edits.{proofs.ChosenLemmas.{plan_is, rows-fit}, specs.Chosen.chosen_in}
 use Rattle.slot_plan.specs.Plans.{entries}
-use Rattle.sync_survey.specs.Faults.{tells}
+use Rattle.sync_survey.specs.Faults.{survey_view}
 use Rattle.cut_edits.proofs.plans.plan_by.Goals as goal
 
 pub plan-requires-clause-planned : goal.plan-requires-clause-planned
 plan-requires-clause-planned g c =
     rw (c.needs.ensures, c.places.ensures, c.in_ok-parts.ensures.parts)
-    (rows-fit (chosen_in c.args.chosen.now) (tells c.args.survey.now)
+    (rows-fit (chosen_in c.args.chosen.now) (survey_view c.args.survey.now)
     c.requires.there.laid.placed c.requires.there.some c.requires.there.within).planned
 
 pub returns : goal.returns
 returns g c =
     let there = c.requires.there in
     IfOk-weaker c.plan.result _ _
-    (λ plan is. plan_is (chosen_in c.args.chosen.now) (tells c.args.survey.now)
+    (λ plan is. plan_is (chosen_in c.args.chosen.now) (survey_view c.args.survey.now)
     there.laid.placed there.some there.within _ c.requires.policy (entries plan) is.plan)
     (rw (c.needs.ensures, c.places.ensures, c.in_ok-parts.ensures.parts) at c.plan.ensures)

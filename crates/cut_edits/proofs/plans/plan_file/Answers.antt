@@ -1,19 +1,19 @@
 -- The plan of the chosen frames can be laid, and has at most one place more than they are.
 use Rattle.std.proofs.Common.{ap, arith, drop, length, subst, sym, ◌-◌, ◌∙◌}
 use Rattle.std.proofs.lemmas.List.{length-map, length-take}
-use Rattle.cut_edits.proofs.ChosenLaws.{by_usual, plan-few, plan-fitting}
-use Rattle.cut_edits.specs.Chosen.{choices_by, chosen_in, chosen_rows, laid_by, needs_of}
+use Rattle.cut_edits.proofs.ChosenLemmas.{by_usual, plan-few, plan-fitting}
+use Rattle.cut_edits.specs.Chosen.{chosen_in, chosen_needs, chosen_rows, placed_part, slot_choices}
 use Rattle.frame_header.specs.Tables.{window_of}
-use Rattle.laying.specs.{Fits.IsFitting, Needs.need_of}
-use Rattle.sync_survey.specs.Faults.{tells}
+use Rattle.laying.specs.{Fits.IsFittingPlan, Needs.need_of}
+use Rattle.sync_survey.specs.Faults.{survey_view}
 use Rattle.cut_edits.proofs.plans.plan_file.Goals as goal
 
 pub new-requires-clause-few : goal.new-requires-clause-few
 new-requires-clause-few c =
-    let s = tells c.args.survey.now in
+    let s = survey_view c.args.survey.now in
     let chosen = chosen_in c.args.chosen.now in
     let few = plan-few chosen s c.requires.laid.placed c.requires.some c.requires.within
-    (choices_by c.args.least) (by_usual c.args.least) in
+    (slot_choices c.args.least) (by_usual c.args.least) in
     omega (
       arith,
       few,
@@ -26,14 +26,15 @@ new-requires-clause-few c =
 
 pub new-requires-clause-fitting : goal.new-requires-clause-fitting
 new-requires-clause-fitting c =
-    let s = tells c.args.survey.now in
+    let s = survey_view c.args.survey.now in
     let chosen = chosen_in c.args.chosen.now in
-    subst (IsFitting (window_of s.class.version) (needs_of chosen s)) (sym c.in_ok-plan.ensures)
+    subst (IsFittingPlan (window_of s.class.version) (chosen_needs chosen s))
+    (sym c.in_ok-plan.ensures)
     (plan-fitting chosen s c.requires.laid.placed c.requires.some c.requires.within
-    (choices_by c.args.least) (by_usual c.args.least))
+    (slot_choices c.args.least) (by_usual c.args.least))
 
 pub returns : goal.returns
 returns c = record {
-  laid = c.new.ensures.laid ∙ ap (laid_by (chosen_in c.args.chosen.now)) c.in_ok-plan.ensures;
+  laid = c.new.ensures.laid ∙ ap (placed_part (chosen_in c.args.chosen.now)) c.in_ok-plan.ensures;
   writable = c.new.ensures.writable;
 }

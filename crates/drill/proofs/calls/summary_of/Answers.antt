@@ -1,8 +1,8 @@
 -- What a survey tells of the packed file, and the length of the stream.
 use Rattle.std.proofs.Common.{ap, arith, length, ◌*◌, ◌-◌, ◌<◌, ◌∙◌, ◌≡◌}
-use Rattle.drill.proofs.PackedLaws.{no-lead_ins, packed-frames, packed-length}
+use Rattle.drill.proofs.PackedLemmas.{no-lead_ins, packed-frames, packed-length}
 use Rattle.drill.specs.{Drill.drill_stream, Drilled.{lead_ins_in, packed_file, packed_plan}}
-use Rattle.sync_survey.specs.Faults.{tells}
+use Rattle.sync_survey.specs.Faults.{survey_view}
 use Rattle.drill.proofs.calls.summary_of.Goals as goal
 
 pub overflow_sub-result : goal.overflow_sub-result
@@ -10,7 +10,7 @@ overflow_sub-result c =
     let some : 0 < c.args.count = omega (arith, c.requires.some) in
     let found : length c.frames.result.now ≡ c.args.count =
     ap length c.frames.ensures ∙ packed-frames c.args.seed c.args.count some
-    c.requires.few (tells c.in_ok-survey.survey) c.in_ok-survey.ensures in
+    c.requires.few (survey_view c.in_ok-survey.survey) c.in_ok-survey.ensures in
     omega (arith, found, c.from-frames.ensures)
 
 pub returns : goal.returns
@@ -18,7 +18,7 @@ returns c =
     let some : 0 < c.args.count = omega (arith, c.requires.some) in
     let found : length c.frames.result.now ≡ c.args.count =
     ap length c.frames.ensures ∙ packed-frames c.args.seed c.args.count some
-    c.requires.few (tells c.in_ok-survey.survey) c.in_ok-survey.ensures in
+    c.requires.few (survey_view c.in_ok-survey.survey) c.in_ok-survey.ensures in
     let none : length c.frames.result.now - c.from-frames.result
     ≡ lead_ins_in (packed_plan c.args.seed c.args.count) =
     omega
@@ -28,5 +28,5 @@ returns c =
     omega (arith, c.from-frames.ensures, c.streams_are_long.ensures c.args.seed c.args.count) in
     let size : c.length.result ≡ length (packed_file c.args.seed c.args.count) =
     c.length.ensures ∙ packed-length (packed_file c.args.seed c.args.count)
-    (tells c.in_ok-survey.survey) c.in_ok-survey.ensures in
+    (survey_view c.in_ok-survey.survey) c.in_ok-survey.ensures in
     cc

@@ -1,6 +1,6 @@
 -- The packed file is there, and it was surveyed.
 use Rattle.std.proofs.Common.{arith, ◌<◌}
-use Rattle.drill.{proofs.PackedLaws.packed-there, specs.Drilled.packed_file}
+use Rattle.drill.{proofs.PackedLemmas.packed-there, specs.Drilled.packed_file}
 use Rattle.outside.specs.{Files.Told, Memory.contents_of}
 use Rattle.drill.proofs.calls.survey_packed.Goals as goal
 

@@ -2,9 +2,9 @@
 use Rattle.std.proofs.Common.{ap, arith, bytes_eq, List, max, Option, refl, Some, subst, sym}
 use Rattle.std.proofs.{Common.{unwrap_or, ℕ, ◌*◌, ◌+◌, ◌∙◌, ◌≡◌}, lemmas.Map.update_same}
 use Rattle.drill.specs.Drill.{drill_stream}
-use Rattle.outside.proofs.FilesLaws.{bytes_eq_same, written_holds}
+use Rattle.outside.proofs.FilesLemmas.{bytes_eq_same, written_holds}
 use Rattle.outside.specs.Files.{Contents, Files, Holds, Told}
-use Rattle.outside.specs.Memory.{contents_of, room_of, rooms_of}
+use Rattle.outside.specs.Memory.{contents_of, mem_room, rooms_of}
 use Rattle.drill.proofs.folder.stream_folder.Goals as goal
 
 pub returns-clause-stream : goal.returns-clause-stream
@@ -21,7 +21,7 @@ returns-clause-room c =
     let name = c.args.packed.now in
     let bytes = 1441 * (c.from-count_of.result + 2) in
     let old = unwrap_or (rooms_of c.write_stream.new.folder name) 0 in
-    let room : room_of c.reserve-2.new.self name ≡ max old bytes =
+    let room : mem_room c.reserve-2.new.self name ≡ max old bytes =
     ap (λ (f : List ℕ → Option ℕ). unwrap_or (f name) 0) c.in_ok-reserve-2.ensures.rooms
     ∙ ap (λ (o : Option ℕ). unwrap_or o 0) (update_same bytes_eq
     (rooms_of c.write_stream.new.folder) name (Some (max old bytes)) name (bytes_eq_same name)) in

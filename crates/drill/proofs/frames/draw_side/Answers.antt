@@ -1,6 +1,7 @@
 -- Eight draws are the side information.
 use Rattle.std.proofs.Common.{ap, ◌∙◌}
-use Rattle.drill.{proofs.DrawnSide.{behind-twice, side-drawn}, specs.Draws.{draws, state_behind}}
+use Rattle.drill.proofs.DrawnSideLemmas.{behind-twice, side-drawn}
+use Rattle.drill.specs.Draws.{draws, state_after}
 use Rattle.side_info.specs.declared.side.Side.{Side}
 use Rattle.drill.proofs.frames.draw_side.Goals as goal
 
@@ -21,4 +22,4 @@ returns-clause-side c =
 
 pub returns-clause-state : goal.returns-clause-state
 returns-clause-state c = c.four-gains.ensures.state
-    ∙ ap (state_behind 4) c.four-lengths.ensures.state ∙ behind-twice c.args.draws.now.state
+    ∙ ap (state_after 4) c.four-lengths.ensures.state ∙ behind-twice c.args.draws.now.state

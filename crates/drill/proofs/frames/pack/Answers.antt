@@ -1,6 +1,6 @@
 -- What is packed out of the whole window.
 use Rattle.std.proofs.Common.{arith, length, [], ◌-◌}
-use Rattle.drill.proofs.DrawsLaws.{packed-first}
+use Rattle.drill.proofs.DrawsLemmas.{packed-first}
 use Rattle.drill.proofs.frames.pack.Goals as goal
 
 pub returns-clause-payload : goal.returns-clause-payload

@@ -1,5 +1,5 @@
 -- No place of the plan is a lead-in's.
-use Rattle.drill.proofs.PackedLaws.{drills-no_lead_in}
+use Rattle.drill.proofs.PackedLemmas.{drills-no_lead_in}
 use Rattle.drill.proofs.laws.drills_have_no_lead_in.Goals as goal
 
 pub returns : goal.returns

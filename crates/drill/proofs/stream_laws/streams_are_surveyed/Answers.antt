@@ -1,5 +1,5 @@
 -- The stream is frames alone.
-use Rattle.drill.proofs.DrillLaws.{first-own, streams-surveyed}
+use Rattle.drill.proofs.DrillLemmas.{first-own, streams-surveyed}
 use Rattle.drill.proofs.stream_laws.streams_are_surveyed.Goals as goal
 
 pub returns-clause-surveyed : goal.returns-clause-surveyed

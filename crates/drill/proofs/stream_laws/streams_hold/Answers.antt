@@ -1,5 +1,5 @@
 -- The stream is frames alone.
-use Rattle.drill.proofs.DrillLaws.{streams-hold}
+use Rattle.drill.proofs.DrillLemmas.{streams-hold}
 use Rattle.drill.proofs.stream_laws.streams_hold.Goals as goal
 
 pub returns : goal.returns

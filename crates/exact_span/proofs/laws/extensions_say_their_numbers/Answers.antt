@@ -1,5 +1,5 @@
 -- The bytes 21 to 23 are those of both numbers.
-use Rattle.exact_span.proofs.ExtensionLaws.{extension-says}
+use Rattle.exact_span.proofs.ExtensionLemmas.{extension-says}
 use Rattle.exact_span.proofs.laws.extensions_say_their_numbers.Goals as goal
 
 pub returns : goal.returns

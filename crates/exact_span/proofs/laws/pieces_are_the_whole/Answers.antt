@@ -1,5 +1,5 @@
 -- By the points one after the other.
-use Rattle.exact_span.proofs.SplitLaws.{pieces-whole}
+use Rattle.exact_span.proofs.SplitLemmas.{pieces-whole}
 use Rattle.exact_span.proofs.laws.pieces_are_the_whole.Goals as goal
 
 pub returns : goal.returns

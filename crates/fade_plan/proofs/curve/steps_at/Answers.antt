@@ -1,8 +1,8 @@
 -- The points around the frame.
 use Rattle.std.{proofs.Common.{ap, sym, ◌∙◌}, specs.Option.option_copied}
-use Rattle.fade_plan.proofs.CurveLaws.{first_kept, first_none, first_some, last_kept, last_none}
-use Rattle.fade_plan.proofs.CurveLaws.{last_some, parted_as, steps_of_first, steps_of_last}
-use Rattle.fade_plan.proofs.{CurveLaws.{steps_of_none, steps_of_two}, StepsLaws.small_fits}
+use Rattle.fade_plan.proofs.CurveLemmas.{first_kept, first_none, first_some, last_kept, last_none}
+use Rattle.fade_plan.proofs.CurveLemmas.{last_some, parted_as, steps_of_first, steps_of_last}
+use Rattle.fade_plan.proofs.{CurveLemmas.{steps_of_none, steps_of_two}, StepsLemmas.small_fits}
 use Rattle.fade_plan.proofs.curve.steps_at.Goals as goal
 
 pub steps_of_both-requires : goal.steps_of_both-requires

@@ -1,11 +1,11 @@
 -- The sum is no more than the greatest steps times all the frames.
 use Rattle.std.proofs.Common.{ap, arith, int_div, pos, subst, sym, unsigned_abs, ◌*ℤ◌, ◌+ℤ◌, ◌*◌}
 use Rattle.std.proofs.Common.{◌+◌, ◌-◌, ◌<◌, ◌^◌, ◌∙◌, ◌≡◌, ◌≤◌}
-use Rattle.fade_plan.proofs.StepsLaws.{size_of_weighted, small_fits, weighted_sum}
+use Rattle.fade_plan.proofs.StepsLemmas.{size_of_weighted, small_fits, weighted_sum}
 use Rattle.fade_plan.proofs.curve.steps_of_both.Goals as goal
 
-pub even-requires-clause-small : goal.even-requires-clause-small
-even-requires-clause-small c =
+pub rounded_steps-requires-clause-small : goal.rounded_steps-requires-clause-small
+rounded_steps-requires-clause-small c =
     let p = c.args.before.now in
     let q = c.args.behind.now in
     let left = q.frame - c.args.frame in
@@ -33,7 +33,7 @@ returns-clause-steps c =
     omega (arith, c.requires.before, c.requires.behind, c.requires.behind_kept.frame) in
     let small = c.requires.kept.sound.1 in
     let other = c.requires.behind_kept.sound.1 in
-    small_fits c.even.result c.even.ensures.most ∙ c.even.ensures.steps
+    small_fits c.rounded_steps.result c.rounded_steps.ensures.most ∙ c.rounded_steps.ensures.steps
     ∙ ap (λ n. int_div n (pos (q.frame - p.frame)))
     (weighted_sum p.steps q.steps _ _ left passed small other
     (c.weighted-left.ensures ∙ ap (λ s. s *ℤ pos left) (small_fits p.steps small))

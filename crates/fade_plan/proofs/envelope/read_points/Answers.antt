@@ -1,9 +1,9 @@
 -- A line more, a fault, and the end.
 use Rattle.std.proofs.Common.{ap, arith, inr, length, subst, sym, ◌∙◌}
 use Rattle.std.proofs.lemmas.Bool.{eqb-false, eqb-true}
-use Rattle.cue_sheet.proofs.LinesLaws.{first_said}
-use Rattle.fade_plan.proofs.SheetLaws.{at_front, ends, goes_on, HaveRead, none_are, refused}
-use Rattle.fade_plan.{proofs.SheetLaws.some_are, specs.Sheets.{entry_in, is_at_fault}}
+use Rattle.cue_sheet.proofs.LinesLemmas.{first_said}
+use Rattle.fade_plan.proofs.SheetLemmas.{at_front, ends, goes_on, HaveRead, none_are, refused}
+use Rattle.fade_plan.{proofs.SheetLemmas.some_are, specs.Sheets.{fade_entry_in, is_at_fault}}
 use Rattle.fade_plan.proofs.envelope.read_points.Goals as goal
 
 pub loop-at-init : goal.loop-at-init
@@ -19,7 +19,7 @@ pub loop-at-preserved : goal.loop-at-preserved
 loop-at-preserved c =
     let at = c.loop-at in
     let entry = c.read_entry-entry.result in
-    let said = first_said entry_in c.args.text.now at.at c.line_at-here.result.next _ entry
+    let said = first_said fade_entry_in c.args.text.now at.at c.line_at-here.result.next _ entry
     c.line_at-here.ensures.line c.read_entry-entry.ensures.entry in
     let right = ap (λ n. is_at_fault n entry) (sym (c.len.ensures ∙ at.points.ok.0))
     ∙ sym c.if-is_at_fault.ensures in (
@@ -34,7 +34,7 @@ pub returns-then-is_at_fault-clause-envelope : goal.returns-then-is_at_fault-cla
 returns-then-is_at_fault-clause-envelope c =
     let at = c.loop-at in
     let entry = c.read_entry-entry.result in
-    let said = first_said entry_in c.args.text.now at.at c.line_at-here.result.next _ entry
+    let said = first_said fade_entry_in c.args.text.now at.at c.line_at-here.result.next _ entry
     c.line_at-here.ensures.line c.read_entry-entry.ensures.entry in
     let wrong = ap (λ n. is_at_fault n entry) (sym (c.len.ensures ∙ at.points.ok.0))
     ∙ sym c.if-is_at_fault.ensures in

@@ -1,5 +1,5 @@
 -- Each frame has steps of points, or steps between theirs.
-use Rattle.fade_plan.proofs.WithinLaws.{steps_of_one, steps_within}
+use Rattle.fade_plan.proofs.WithinLemmas.{steps_of_one, steps_within}
 use Rattle.fade_plan.proofs.laws.curves_stay_within.Goals as goal
 
 pub returns : goal.returns

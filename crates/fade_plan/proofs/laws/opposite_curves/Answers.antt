@@ -1,5 +1,5 @@
 -- Each frame has the opposite steps.
-use Rattle.fade_plan.proofs.OppositeLaws.{opposite-curves}
+use Rattle.fade_plan.proofs.OppositeLemmas.{opposite-curves}
 use Rattle.fade_plan.proofs.laws.opposite_curves.Goals as goal
 
 pub returns : goal.returns

@@ -1,6 +1,6 @@
 -- A point more has its frame.
 use Rattle.std.proofs.{Common.{arith, length, ◌<◌}, lemmas.List.Elements.All-set}
-use Rattle.fade_plan.{proofs.LowLaws.placed_step, specs.Points.IsKept}
+use Rattle.fade_plan.{proofs.LowLemmas.placed_step, specs.Points.IsKeptPoint}
 use Rattle.fade_plan.proofs.point.place_all.Goals as goal
 
 pub loop-point-preserved : goal.loop-point-preserved
@@ -10,7 +10,7 @@ loop-point-preserved c =
     omega (arith, c.loop-point-test.true, at.auto.points) in (
       placed_step c.args.class c.args.frames c.args.points.now at.points at.point-index
           c.frame_of-point.result _ within at.invariant.0 c.frame_of-point.ensures.frame,
-      All-set IsKept at.points at.point-index _ (record {
+      All-set IsKeptPoint at.points at.point-index _ (record {
         sound = (at.invariant.1 at.point-index _ (omega (arith, within, at.auto.points))).sound;
         frame = c.frame_of-point.ensures.most;
       }) at.invariant.1,

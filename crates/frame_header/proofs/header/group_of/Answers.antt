@@ -1,6 +1,6 @@
 -- The shift and the remainder are the group.
 use Rattle.std.proofs.{Common.{arith, sym, ◌%◌, ◌*◌, ◌^◌, ◌≡◌}, lemmas.Nat.one_shl}
-use Rattle.frame_header.proofs.HeaderLaws.{group-bits_of}
+use Rattle.frame_header.proofs.HeaderLemmas.{group-bits_of}
 use Rattle.frame_header.proofs.header.group_of.Goals as goal
 
 pub returns-clause-group : goal.returns-clause-group

@@ -1,7 +1,7 @@
 -- The fields are the groups.
 use Rattle.std.proofs.Common.{ap, arith, eqb, Ok, sym, ◌∙◌}
 use Rattle.bit_fields.specs.Bits.{bits_of}
-use Rattle.frame_header.proofs.HeaderLaws.{header_fields-groups, header_in-good}
+use Rattle.frame_header.proofs.HeaderLemmas.{header_fields-groups, header_in-good}
 use Rattle.frame_header.proofs.header.header_of.Goals as goal
 
 pub returns : goal.returns

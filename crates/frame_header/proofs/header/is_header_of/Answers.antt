@@ -1,7 +1,7 @@
 -- All groups are those of a header of the class.
 use Rattle.std.proofs.{Common.{ap, arith, sym, ◌∙◌}, lemmas.Bool.{and_from, eq-eqb, le-leb}}
-use Rattle.bit_fields.proofs.BitsLaws.{AreBits-bits_of}
-use Rattle.frame_header.{proofs.HeaderLaws.says_class, specs.Fields.{ClassFields, version_number}}
+use Rattle.bit_fields.proofs.BitsLemmas.{AreBits-bits_of}
+use Rattle.frame_header.{proofs.HeaderLemmas.says_class, specs.Fields.{ClassFields, version_number}}
 use Rattle.frame_header.proofs.header.is_header_of.Goals as goal
 
 pub returns-clause-all : goal.returns-clause-all

@@ -1,9 +1,9 @@
 -- What is before the area, and the area.
 use Rattle.std.proofs.Common.{ap, ap₂, List, rules, take, ℕ, ◌++◌, ◌≡◌}
-use Rattle.frame_writer.proofs.WritingLaws.{err-map, ok-map, passed-two, prefix-piece, prefix-two}
-use Rattle.frame_writer.{proofs.frames.add_frame.Goals.In_ok-push_first, specs.Frames.area_in}
-use Rattle.outside.proofs.PassedLaws.{on_err, passed_there}
-use Rattle.side_info.specs.Frame.{front_of}
+use Rattle.frame_writer.proofs.WritingLemmas.{err-map, ok-map, passed-two, prefix-piece, prefix-two}
+use Rattle.frame_writer.{proofs.frames.add_frame.Goals.In_ok-push_first, specs.Frames.frame_area}
+use Rattle.outside.proofs.BufferOutputLemmas.{on_err, passed_there}
+use Rattle.side_info.specs.Frame.{frame_front_bytes}
 use Rattle.frame_writer.proofs.frames.add_frame.Given as given
 use Rattle.frame_writer.proofs.frames.add_frame.Goals as goal
 
@@ -12,8 +12,8 @@ returns-in_err-push_first g c = record {
   passed = search rules;
   prefix = on_err c.from_residual.result
       (prefix-piece c.args.name.now c.args.unsent.now _ _
-      (take (area_in c.args.first.now) c.args.areas.now.bytes) _ _
-      (ap (λ (xs : List ℕ). xs ++ take (area_in c.args.first.now) c.args.areas.now.bytes)
+      (take (frame_area c.args.first.now) c.args.areas.now.bytes) _ _
+      (ap (λ (xs : List ℕ). xs ++ take (frame_area c.args.first.now) c.args.areas.now.bytes)
       c.put_in-size.ensures.front) c.in_err-push_first.ensures.prefix);
   failed = search rules;
   done = search rules;
@@ -24,10 +24,10 @@ pub add_first-requires-clause-there : goal.add_first-requires-clause-there
 add_first-requires-clause-there g c = passed_there c.in_ok-push_first.ensures.passed
 
 -- that and the area are the bytes of the frame
-both_are : (g : given.Over) (c : In_ok-push_first g) (n : ℕ) → n ≡ area_in c.args.first.now
+both_are : (g : given.Over) (c : In_ok-push_first g) (n : ℕ) → n ≡ frame_area c.args.first.now
     → take c.put_in-size.result c.put_in-size.new.room ++ take n c.args.areas.now.bytes
-    ≡ front_of c.args.first.now.header c.args.first.now.side
-    ++ take (area_in c.args.first.now) c.args.areas.now.bytes
+    ≡ frame_front_bytes c.args.first.now.header c.args.first.now.side
+    ++ take (frame_area c.args.first.now) c.args.areas.now.bytes
 both_are g c n is =
     ap₂ (λ (xs : List ℕ) m. xs ++ take m c.args.areas.now.bytes) c.put_in-size.ensures.front is
 

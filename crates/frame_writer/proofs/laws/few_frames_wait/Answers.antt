@@ -1,5 +1,5 @@
 -- The least area of each version, as often as the window spans it.
-use Rattle.frame_writer.proofs.FrameLaws.{few-wait}
+use Rattle.frame_writer.proofs.FrameLemmas.{few-wait}
 use Rattle.frame_writer.proofs.laws.few_frames_wait.Goals as goal
 
 pub returns : goal.returns

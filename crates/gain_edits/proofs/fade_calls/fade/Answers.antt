@@ -1,5 +1,5 @@
 -- What the one body asks of the command.
-use Rattle.gain_edits.proofs.FadeProper.{fade_proper}
+use Rattle.gain_edits.proofs.FadeProperLemmas.{fade_proper}
 use Rattle.gain_edits.proofs.fade_calls.fade.Goals as goal
 
 pub make_one-requires-clause-proper : goal.make_one-requires-clause-proper

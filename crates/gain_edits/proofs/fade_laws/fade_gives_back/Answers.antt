@@ -1,5 +1,5 @@
 -- The law, by what both fades together make of the file: no step.
-use Rattle.gain_edits.proofs.TakenBack.{back_again, command_back}
+use Rattle.gain_edits.proofs.TakenBackLemmas.{back_again, command_back}
 use Rattle.gain_edits.proofs.fade_laws.fade_gives_back.Goals as goal
 
 pub returns-clause-bytes : goal.returns-clause-bytes

@@ -1,5 +1,5 @@
 -- The law, by that of every change.
-use Rattle.gain_edits.proofs.KeptFade.{fade_kept}
+use Rattle.gain_edits.proofs.KeptFadeLemmas.{fade_kept}
 use Rattle.gain_edits.proofs.fade_laws.fade_keeps_all.Goals as goal
 
 pub returns : goal.returns

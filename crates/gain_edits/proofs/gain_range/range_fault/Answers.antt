@@ -1,29 +1,30 @@
 -- The frames of a survey have their numbers.
 use Rattle.std.proofs.Common.{ap, arith, length, subst, sym, ◌∙◌}
 use Rattle.gain_edits.specs.GainRange.{range_fault}
-use Rattle.moved_gains.proofs.CourseLaws.{out_classed, out_few, out_numbered}
-use Rattle.moved_gains.specs.{Course.{AreNumbered, steps_over}, Moving.AreOfClass}
-use Rattle.sync_survey.specs.Faults.{tells}
+use Rattle.moved_gains.proofs.CourseLemmas.{out_classed, out_few, out_numbered}
+use Rattle.moved_gains.specs.{Course.{AreRowsNumbered, steps_at_offset}, Moving.AreFramesOfClass}
+use Rattle.sync_survey.specs.Faults.{survey_view}
 use Rattle.gain_edits.proofs.gain_range.range_fault.Goals as goal
 
 pub first_fault-requires-clause-classed : goal.first_fault-requires-clause-classed
 first_fault-requires-clause-classed c =
-    let s = tells c.args.survey.now in
-    subst (λ class. AreOfClass class c.frames.result.now) (sym c.class.ensures)
-    (subst (AreOfClass s.class) (sym c.frames.ensures) (out_classed s c.requires))
+    let s = survey_view c.args.survey.now in
+    subst (λ class. AreFramesOfClass class c.frames.result.now) (sym c.class.ensures)
+    (subst (AreFramesOfClass s.class) (sym c.frames.ensures) (out_classed s c.requires))
 
 pub first_fault-requires-clause-numbered : goal.first_fault-requires-clause-numbered
 first_fault-requires-clause-numbered c =
-    subst AreNumbered (sym c.frames.ensures) (out_numbered (tells c.args.survey.now) c.requires)
+    subst AreRowsNumbered (sym c.frames.ensures)
+    (out_numbered (survey_view c.args.survey.now) c.requires)
 
 pub first_fault-requires-clause-few : goal.first_fault-requires-clause-few
 first_fault-requires-clause-few c = omega (
   arith,
   ap length c.frames.ensures,
-  out_few (tells c.args.survey.now) c.requires,
+  out_few (survey_view c.args.survey.now) c.requires,
   c.requires.few,
 )
 
 pub returns : goal.returns
 returns c = c.first_fault.ensures
-    ∙ ap (λ rows. range_fault (steps_over c.args.course.now rows) rows) c.frames.ensures
+    ∙ ap (λ rows. range_fault (steps_at_offset c.args.course.now rows) rows) c.frames.ensures

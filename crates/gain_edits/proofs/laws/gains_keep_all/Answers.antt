@@ -1,5 +1,5 @@
 -- The law, by that of every change.
-use Rattle.gain_edits.proofs.KeptGains.{gain_kept, undo_kept}
+use Rattle.gain_edits.proofs.KeptGainLemmas.{gain_kept, undo_kept}
 use Rattle.gain_edits.proofs.laws.gains_keep_all.Goals as goal
 
 pub returns-clause-gain : goal.returns-clause-gain

@@ -1,5 +1,5 @@
 -- The law, by what the file is after each gain.
-use Rattle.gain_edits.proofs.UndoneGains.{gains_undone}
+use Rattle.gain_edits.proofs.UndoneGainLemmas.{gains_undone}
 use Rattle.gain_edits.proofs.laws.undo_gives_back.Goals as goal
 
 pub returns : goal.returns

@@ -1,5 +1,5 @@
 -- The law, by the gains that leave the range.
-use Rattle.gain_edits.proofs.ExactLaws.{exact-steps}
+use Rattle.gain_edits.proofs.ExactLemmas.{exact-steps}
 use Rattle.gain_edits.proofs.steps_laws.steps_are_exact.Goals as goal
 
 pub returns : goal.returns

@@ -1,15 +1,15 @@
 -- The item is within the tag, and the tag within the file.
 use Rattle.std.proofs.Common.{arith, sym, ◌∙◌}
-use Rattle.gain_edits.proofs.Refusals.{bad_place}
-use Rattle.moved_gains.proofs.TagEnds.{tag_end-most}
-use Rattle.sync_survey.specs.Faults.{tells}
+use Rattle.gain_edits.proofs.RefusalLemmas.{bad_place}
+use Rattle.moved_gains.proofs.TagEndLemmas.{tag_end-most}
+use Rattle.sync_survey.specs.Faults.{survey_view}
 use Rattle.gain_edits.proofs.undo_item.undo_or.Goals as goal
 
 pub overflow_add-at : goal.overflow_add-at
 overflow_add-at c =
     omega (
       arith,
-      tag_end-most (tells c.args.survey.now) c.requires,
+      tag_end-most (survey_view c.args.survey.now) c.requires,
       c.tag_place-at.ensures.offset,
       c.length.ensures.length,
       c.length.ensures.most,

@@ -1,6 +1,6 @@
 -- The next place.
 use Rattle.std.proofs.Common.{sym, ◌∙◌}
-use Rattle.info_header.proofs.InfoLaws.{place-set}
+use Rattle.info_header.proofs.InfoLemmas.{place-set}
 use Rattle.info_header.proofs.fields.place_behind.Goals as goal
 
 pub returns-then-is_set-clause-place : goal.returns-then-is_set-clause-place

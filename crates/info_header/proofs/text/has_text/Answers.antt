@@ -1,6 +1,6 @@
 -- Past the end there is no text.
 use Rattle.std.proofs.Common.{arith, inl, inr, length, sym, ℕ, ◌+◌, ◌<◌, ◌⊎◌}
-use Rattle.info_header.proofs.HeadTextLaws.{has_text-short}
+use Rattle.info_header.proofs.HeadTextLemmas.{has_text-short}
 use Rattle.info_header.proofs.text.has_text.Goals as goal
 
 past : (at end : ℕ) → (at + 4 < at) ⊎ (end < at + 4) → end < at + 4

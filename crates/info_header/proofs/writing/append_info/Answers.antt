@@ -1,5 +1,5 @@
 -- One field after the other.
-use Rattle.info_header.{proofs.InfoLaws.piece-before, specs.Info.info_bytes}
+use Rattle.info_header.{proofs.InfoLemmas.piece-before, specs.Info.info_bytes}
 use Rattle.info_header.proofs.writing.append_info.Goals as goal
 
 pub returns-clause-bytes : goal.returns-clause-bytes

@@ -1,6 +1,6 @@
 -- The first that has room is found.
 use Rattle.std.proofs.Common.{arith, sym, ◌∙◌}
-use Rattle.info_header.proofs.FrameLaws.{first-here, first-later, first-none}
+use Rattle.info_header.proofs.FrameLemmas.{first-here, first-later, first-none}
 use Rattle.info_header.proofs.writing.first_with_room.Goals as goal
 
 pub returns-then-area_of-ge-FIELDS : goal.returns-then-area_of-ge-FIELDS

@@ -1,7 +1,7 @@
 -- It is the first in the order of the areas.
 use Rattle.std.proofs.Common.{ap, false, subst, sym, ◌∙◌, ◌≡◌, ◌≤◌}
 use Rattle.frame_header.specs.{Fields.IsClass, Tables.area_of}
-use Rattle.info_header.proofs.FrameLaws.{info_slot-least, info_slot-room}
+use Rattle.info_header.proofs.FrameLemmas.{info_slot-least, info_slot-room}
 use Rattle.info_header.specs.InfoFrame.{first_with_room, info_slot_of}
 use Rattle.info_header.proofs.writing.info_slot.Goals as goal
 

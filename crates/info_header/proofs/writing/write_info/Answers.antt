@@ -2,8 +2,8 @@
 use Rattle.std.proofs.Common.{ap, ap₂, arith, false, length, ◌+◌, ◌-◌, ◌∙◌, ◌≡◌}
 use Rattle.bit_fields.specs.Bits.{bytes}
 use Rattle.frame_header.specs.{HeaderBits.header_bits, Tables.{area_of, class_of, side_size_of}}
-use Rattle.info_header.proofs.FrameLaws.{fields-fit, frame-is, header_bytes-is, zeros-left}
-use Rattle.info_header.proofs.InfoLaws.{piece-before}
+use Rattle.info_header.proofs.FrameLemmas.{fields-fit, frame-is, header_bytes-is, zeros-left}
+use Rattle.info_header.proofs.InfoLemmas.{piece-before}
 use Rattle.info_header.specs.InfoFrame.{info_header_of, info_slot_of}
 use Rattle.info_header.proofs.writing.write_info.Goals as goal
 

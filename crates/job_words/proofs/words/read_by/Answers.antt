@@ -3,40 +3,44 @@
 use Rattle.std.proofs.Common.{ap, arith, Err, get_or, List, map, max, string_bytes, subst, sym}
 use Rattle.std.proofs.{Common.{take, ◌∙◌, ◌≡◌}, lemmas.Grind.common_steps}
 use Rattle.std.proofs.lemmas.List.{get_or-map, length-map, take_all}
-use Rattle.job_words.proofs.{Reading.{accepted, reading_more}, words.read_by.Goals.After-read}
-use Rattle.job_words.specs.Code.{answer, form_given}
-use Rattle.job_words.specs.{Forms.{Form, help, IsReadable, shapes, shapes_of}, Words.reading}
+use Rattle.job_words.proofs.{ReadingLemmas.{accepted, reading_more}, words.read_by.Goals.After-read}
+use Rattle.job_words.specs.Code.{form_given, request_result}
+use Rattle.job_words.specs.Forms.{Form, help_form, IsReadable, shapes, shapes_of}
+use Rattle.job_words.specs.Words.{table_reading}
 use Rattle.job_words.proofs.words.read_by.Goals as goal
 
 pub read-requires : goal.read-requires
 read-requires c =
     subst IsReadable
-    (get_or-map form_given c.args.forms.now c.loop-form.form-index _ help c.loop-form-test.true)
-    (c.requires c.loop-form.form-index help (rw length-map c.loop-form-test.true))
+    (get_or-map form_given c.args.forms.now c.loop-form.form-index _ help_form
+    c.loop-form-test.true)
+    (c.requires c.loop-form.form-index help_form (rw length-map c.loop-form-test.true))
 
 -- the answer of the form
-here : (c : After-read) → answer c.read.result
-    ≡ reading (shapes_of (get_or (map form_given c.args.forms.now) c.loop-form.form-index help))
+here : (c : After-read) → request_result c.read.result
+    ≡ table_reading
+    (shapes_of (get_or (map form_given c.args.forms.now) c.loop-form.form-index help_form))
     (map string_bytes c.args.words.now)
 here c = c.read.ensures.answer
-    ∙ ap (λ (form : Form). reading (shapes_of form) (map string_bytes c.args.words.now)) (sym
-    (get_or-map form_given c.args.forms.now c.loop-form.form-index _ help c.loop-form-test.true))
+    ∙ ap (λ (form : Form). table_reading (shapes_of form) (map string_bytes c.args.words.now)) (sym
+    (get_or-map form_given c.args.forms.now c.loop-form.form-index _ help_form
+    c.loop-form-test.true))
 
 pub returns-in-Ok : goal.returns-in-Ok
 returns-in-Ok c =
     accepted (map form_given c.args.forms.now)
-    (map string_bytes c.args.words.now) c.loop-form.form-index help
+    (map string_bytes c.args.words.now) c.loop-form.form-index help_form
     c.loop-form.place (rw length-map c.loop-form-test.true) c.loop-form.invariant.0 _
-    (sym (ap answer c.in-Ok.is) ∙ here (goal.at.returns-in-Ok c).After-read)
+    (sym (ap request_result c.in-Ok.is) ∙ here (goal.at.returns-in-Ok c).After-read)
 
 pub loop-form-preserved : goal.loop-form-preserved
 loop-form-preserved c =
     let max-is : c.max-place.result ≡ max c.loop-form.place c.in-Err.bad =
     grind (arith, common_steps) in (
       reading_more (map form_given c.args.forms.now)
-          (map string_bytes c.args.words.now) c.loop-form.form-index help
+          (map string_bytes c.args.words.now) c.loop-form.form-index help_form
           c.loop-form.place (rw length-map c.loop-form-test.true) c.loop-form.invariant.0 _
-          (sym (ap answer c.in-Err.is) ∙ here (goal.at.loop-form-preserved c).After-read)
+          (sym (ap request_result c.in-Err.is) ∙ here (goal.at.loop-form-preserved c).After-read)
           ∙ sym (ap Err max-is),
       omega (arith, max-is, c.in-Err.ensures.few, c.loop-form.invariant.1),
       c.loop-form.invariant.2,
@@ -48,4 +52,5 @@ returns c =
     let whole : take c.loop-form.form-index table ≡ table =
     take_all c.loop-form.form-index table (rw length-map c.loop-form-test.false) in
     sym c.loop-form.invariant.0
-    ∙ ap (λ (table : List Form). reading (shapes table) (map string_bytes c.args.words.now)) whole
+    ∙ ap (λ (table : List Form). table_reading (shapes table) (map string_bytes c.args.words.now))
+    whole

@@ -1,9 +1,9 @@
 -- No form so far is that of the words, and the place of the bad word by those.
 use Rattle.std.{proofs.Common.{Err, map, string_bytes, take, ◌≡◌, ◌≤◌}, specs.List.All}
-use Rattle.job_words.specs.{Code.form_given, Forms.{IsReadable, shapes}, Words.reading}
+use Rattle.job_words.specs.{Code.form_given, Forms.{IsReadable, shapes}, Words.table_reading}
 use Rattle.job_words.proofs.words.read_by.Given as goal
 
 abbrev pub invariant-loop-form : goal.invariant-loop-form
 invariant-loop-form l =
-    (reading (shapes (take l.form-index (map form_given l.forms))) (map string_bytes l.words)
+    (table_reading (shapes (take l.form-index (map form_given l.forms))) (map string_bytes l.words)
     ≡ Err l.place) × (l.place ≤ 113) × All IsReadable (map form_given l.forms)

@@ -1,9 +1,9 @@
 -- One byte after another.
 use Rattle.std.proofs.Common.{ap, arith, get_or, length, sym, take, true, ◌<◌, ◌==◌, ◌∙◌}
 use Rattle.std.{proofs.lemmas.List.take_more, specs.List.list_all}
-use Rattle.bit_fields.proofs.BitsLaws.{AreBytes-from_slice, bits-nil, places_below}
+use Rattle.bit_fields.proofs.BitsLemmas.{AreBytes-from_slice, bits-nil, places_below}
 use Rattle.bit_fields.specs.Bits.{bits}
-use Rattle.join_edits.proofs.KnownLaws.{zeros-next, zeros-not}
+use Rattle.join_edits.proofs.KnownLemmas.{zeros-next, zeros-not}
 use Rattle.join_edits.proofs.beginnings.are_zeros.Goals as goal
 
 pub loop-byte-init : goal.loop-byte-init

@@ -2,12 +2,12 @@
 use Rattle.std.proofs.Common.{ap, ap₂, arith, length, map, refl, string_bytes, subst, sym, take}
 use Rattle.std.proofs.{Common.{◌<◌, ◌∙◌, ◌≤◌}, lemmas.List.{length-map, take_all}}
 use Rattle.std.proofs.lemmas.Slice.Zip.{AllZip-long}
-use Rattle.commands.proofs.RefusingLaws.{err_with}
-use Rattle.join_edits.proofs.{InputLaws.take-next, KnownLaws.{begun-more, known-here, named-at}}
-use Rattle.join_edits.proofs.ReadFaults.{fault-later, stops-among, stops-fault, stops-numbers}
-use Rattle.join_edits.specs.{Beginnings.IsBegun, Seamless.begins_blank}
-use Rattle.outside.specs.{Files.{Holds, IsThere}, Seen.seen}
-use Rattle.sync_survey.specs.Faults.{tells}
+use Rattle.commands.proofs.RefusingLemmas.{err_with}
+use Rattle.join_edits.proofs.{InputLemmas.take-next, KnownLemmas.{begun-more, known-here, named-at}}
+use Rattle.join_edits.proofs.ReadFaultLemmas.{fault-later, stops-among, stops-fault, stops-numbers}
+use Rattle.join_edits.specs.{Beginnings.IsBeginning, Seamless.begins_blank}
+use Rattle.outside.specs.{Files.{Holds, IsFileThere}, Seen.seen_folder}
+use Rattle.sync_survey.specs.Faults.{survey_view}
 use Rattle.join_edits.proofs.beginnings.beginnings_of.Given as given
 use Rattle.join_edits.proofs.beginnings.beginnings_of.Goals as goal
 
@@ -22,12 +22,12 @@ known_at-survey-requires g c =
       c.loop-place-test.true,
       AllZip-long _ _ _ c.requires.held,
       length-map c.args.inputs.now string_bytes,
-      length-map c.args.surveys.now tells,
+      length-map c.args.surveys.now survey_view,
     )
 
 pub head_of-requires-clause-there : goal.head_of-requires-clause-there
 head_of-requires-clause-there g c =
-    subst (λ f. IsThere f c.name_at.result.now) (sym c.loop-place.invariant.files)
+    subst (λ f. IsFileThere f c.name_at.result.now) (sym c.loop-place.invariant.files)
     (known-here _ _ _
     c.loop-place.place c.requires.held c.name_at.ensures c.known_at-survey.ensures).there
 
@@ -47,7 +47,8 @@ returns-in_err-head-clause-refused g c =
     let within : c.loop-place.place < length names =
     omega (arith, c.loop-place-test.true, length-map c.args.inputs.now string_bytes) in
     err_with _ _ c.from_residual.ensures.1
-    (fault-later names _ _ _ _ (ap₂ seen c.loop-place.invariant.files c.loop-place.invariant.counts)
+    (fault-later names _ _ _ _
+    (ap₂ seen_folder c.loop-place.invariant.files c.loop-place.invariant.counts)
     (stops-fault names _ _ _ c.head_of.ensures.reads.files
     (stops-among names c.loop-place.place c.name_at.result.now _ _ _ _ within
     (named-at names c.loop-place.place c.name_at.ensures) c.in_err-head.ensures.stopped)))
@@ -66,11 +67,11 @@ returns-in_err-head-clause-numbers g c =
 pub loop-place-preserved : goal.loop-place-preserved
 loop-place-preserved g c =
     let names = map string_bytes c.args.inputs.now in
-    let ss = map tells c.args.surveys.now in
+    let ss = map survey_view c.args.surveys.now in
     let place = c.loop-place.place in
     let inv = c.loop-place.invariant in
-    let begun : IsBegun (g.D.Folder.seen c.args.folder.now).files c.name_at.result.now
-    (tells c.known_at-survey.result.now)
+    let begun : IsBeginning (g.D.Folder.seen c.args.folder.now).files c.name_at.result.now
+    (survey_view c.known_at-survey.result.now)
     (record { head = c.in_ok-head.head; blank = c.begins_blank-blank.result }) =
     record {
       head = λ file holds. c.in_ok-head.ensures.head file
@@ -93,7 +94,7 @@ loop-place-preserved g c =
 pub returns-clause-begun : goal.returns-clause-begun
 returns-clause-begun g c =
     let names = map string_bytes c.args.inputs.now in
-    let ss = map tells c.args.surveys.now in
+    let ss = map survey_view c.args.surveys.now in
     let many = AllZip-long _ _ _ c.requires.held in
     let all : length names ≤ c.loop-place.place =
     omega (arith, c.loop-place-test.false, length-map c.args.inputs.now string_bytes) in

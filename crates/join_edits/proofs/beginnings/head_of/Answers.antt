@@ -1,6 +1,6 @@
 -- Only a read can fail.
 use Rattle.std.proofs.Common.{ap, Err, refl}
-use Rattle.join_edits.proofs.KnownLaws.{reads-only}
+use Rattle.join_edits.proofs.KnownLemmas.{reads-only}
 use Rattle.join_edits.proofs.beginnings.head_of.Goals as goal
 
 pub returns-in-Err-clause-stopped : goal.returns-in-Err-clause-stopped

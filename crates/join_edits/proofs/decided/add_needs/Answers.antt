@@ -3,15 +3,16 @@ use Rattle.std.proofs.Common.{ap, append_assoc, ap₂, arith, drop, length, leng
 use Rattle.std.proofs.Common.{Option, refl, Some, sym, take, ℕ, ◌++◌, ◌-◌, ◌∙◌, ◌≡◌, ◌≤◌}
 use Rattle.std.proofs.lemmas.List.{drop_at, length-drop, take_all, take_at}
 use Rattle.frame_header.specs.Fields.{SlotFields}
-use Rattle.seam_plan.{proofs.SeamLaws.length-moved, specs.{Decisions.moved_first, Seams.left_out}}
-use Rattle.slot_plan.specs.{Behind.first_in, declared.needs.Need.Need}
+use Rattle.seam_plan.{proofs.SeamLemmas.length-moved, specs.Decisions.joined_needs}
+use Rattle.seam_plan.specs.Seams.{left_out_count}
+use Rattle.slot_plan.specs.{FreeBytes.needs_with_first_slot, declared.needs.Need.Need}
 use Rattle.join_edits.proofs.decided.add_needs.Goals as goal
 
 -- the last of them were borrowed, and came back with the first in another slot
 back : (old new part items : List Need) (at len : ℕ) (slot : SlotFields)
     (put behind rest : List Need) → at ≡ length old → items ≡ old ++ new → part ≡ items
-    → len ≡ length items → put ≡ first_in slot (take (length part - at) (drop at part))
-    → take len ((take at part ++ (put ++ behind)) ++ rest) ≡ old ++ first_in slot new
+    → len ≡ length items → put ≡ needs_with_first_slot slot (take (length part - at) (drop at part))
+    → take len ((take at part ++ (put ++ behind)) ++ rest) ≡ old ++ needs_with_first_slot slot new
 back old new part items at len slot put behind rest at_is items_is part_is len_is put_is =
     let all : part ≡ old ++ new = part_is ∙ items_is in
     let front : take at part ≡ old =
@@ -20,9 +21,9 @@ back old new part items at len slot put behind rest at_is items_is part_is len_i
     ap₂ (λ n (l : List Need). drop n l) at_is all ∙ drop_at old new (length old) refl in
     let count : length new ≤ length part - at =
     omega (arith, ap length all, length-append old new, at_is) in
-    let puts : put ≡ first_in slot new =
-    put_is ∙ ap (λ (l : List Need). first_in slot (take (length part - at) l)) last
-    ∙ ap (first_in slot) (take_all (length part - at) new count) in
+    let puts : put ≡ needs_with_first_slot slot new =
+    put_is ∙ ap (λ (l : List Need). needs_with_first_slot slot (take (length part - at) l)) last
+    ∙ ap (needs_with_first_slot slot) (take_all (length part - at) new count) in
     let long : length (old ++ put) ≡ len =
     omega (
       arith,
@@ -42,7 +43,7 @@ back old new part items at len slot put behind rest at_is items_is part_is len_i
 pub returns-in-Some : goal.returns-in-Some
 returns-in-Some c =
     let old = c.args.run.now.items in
-    let new = drop (left_out c.args.joint.now.seam) c.args.needs.now in
+    let new = drop (left_out_count c.args.joint.now.seam) c.args.needs.now in
     let items : c.extend_from_slice.new.self.items ≡ old ++ new =
     c.in_ok-extend_from_slice.ensures.items
     ∙ ap (λ (l : List Need). old ++ l)
@@ -55,5 +56,5 @@ returns-in-Some c =
           c.extend_from_slice.new.self.len c.in-Some.slot c.put_slot.new.needs _ _
           (c.len-at.ensures ∙ c.args.run.now.ok.0) items
           c.as_mut_slice.ensures.value c.extend_from_slice.new.self.ok.0 c.put_slot.ensures
-          ∙ ap (λ (o : Option SlotFields). old ++ moved_first o new) (sym c.in-Some.is);
+          ∙ ap (λ (o : Option SlotFields). old ++ joined_needs o new) (sym c.in-Some.is);
     }

@@ -1,12 +1,12 @@
 -- The first input begins, and each of the others is decided after those before it.
 use Rattle.std.proofs.Common.{ap₂, arith, false, length, map, None, refl, string_bytes, ◌<◌, ◌∙◌}
 use Rattle.std.proofs.{Common.◌≡◌, lemmas.{List.length-map, Slice.Zip.AllZip-long}}
-use Rattle.commands.proofs.RefusingLaws.{err_with}
-use Rattle.join_edits.proofs.DecideAll.{at-end, begun-at, can-begin-at, get-here}
-use Rattle.join_edits.proofs.{KnownLaws.get-at, PlanLaws.can-some, ReadFaults.fault-later}
+use Rattle.commands.proofs.RefusingLemmas.{err_with}
+use Rattle.join_edits.proofs.DecideAllLemmas.{at-end, begun-at, can-begin-at, get-here}
+use Rattle.join_edits.proofs.{KnownLemmas.get-at, PlanLemmas.can-some, ReadFaultLemmas.fault-later}
 use Rattle.join_edits.specs.declared.beginnings.Beginning.{Beginning}
-use Rattle.outside.specs.Seen.{seen}
-use Rattle.sync_survey.specs.Faults.{tells}
+use Rattle.outside.specs.Seen.{seen_folder}
+use Rattle.sync_survey.specs.Faults.{survey_view}
 use Rattle.join_edits.proofs.decided.decide_all.Goals as goal
 
 abbrev no-beginning : Beginning
@@ -17,7 +17,7 @@ begin-requires g c = can-begin-at _ _ _ _ c.requires.can c.known_at-first.ensure
 
 pub loop-number-init : goal.loop-number-init
 loop-number-init g c =
-    let ss = map tells c.args.sources.now.surveys.now in
+    let ss = map survey_view c.args.sources.now.surveys.now in
     let some = can-some ss c.requires.can.joined in
     let within : 0 < length c.args.beginnings.now = omega (arith, some, c.requires.can.begun) in
     record {
@@ -28,7 +28,7 @@ loop-number-init g c =
         length-map c.args.sources.now.inputs.now string_bytes,
       );
       decided = begun-at _ (map string_bytes c.args.sources.now.inputs.now) ss c.args.beginnings.now
-          (tells c.known_at-first.result.now) _ c.in_ok-deciding.deciding c.requires.can
+          (survey_view c.known_at-first.result.now) _ c.in_ok-deciding.deciding c.requires.can
           (get-at ss 0 c.known_at-first.ensures)
           (get-here c.args.beginnings.now 0 _ within) c.in_ok-deciding.ensures;
       files = refl;
@@ -48,7 +48,7 @@ overflow_cast-number g c =
 pub returns-in_err-add-clause-refused : goal.returns-in_err-add-clause-refused
 returns-in_err-add-clause-refused g c =
     err_with _ _ c.from_residual-in_err-add.ensures.1
-    (fault-later (map string_bytes c.args.sources.now.inputs.now) _ _ _ _ (ap₂ seen
+    (fault-later (map string_bytes c.args.sources.now.inputs.now) _ _ _ _ (ap₂ seen_folder
     c.loop-number.invariant.files c.loop-number.invariant.counts) c.in_err-add.ensures.refused)
 
 pub front_of-front-requires-clause-begin : goal.front_of-front-requires-clause-begin
@@ -57,7 +57,7 @@ front_of-front-requires-clause-begin g c =
 
 pub front_of-front-requires-clause-fits : goal.front_of-front-requires-clause-fits
 front_of-front-requires-clause-fits g c =
-    let ss = map tells c.args.sources.now.surveys.now in
+    let ss = map survey_view c.args.sources.now.surveys.now in
     let bs = c.args.beginnings.now in
     let count : c.loop-number.number ≡ length ss =
     omega (
@@ -75,7 +75,7 @@ front_of-front-requires-clause-fits g c =
 
 pub front_of-front-requires-clause-first : goal.front_of-front-requires-clause-first
 front_of-front-requires-clause-first g c =
-    let ss = map tells c.args.sources.now.surveys.now in
+    let ss = map survey_view c.args.sources.now.surveys.now in
     let bs = c.args.beginnings.now in
     let count : c.loop-number.number ≡ length ss =
     omega (
@@ -93,7 +93,7 @@ front_of-front-requires-clause-first g c =
 
 pub returns-clause-decided : goal.returns-clause-decided
 returns-clause-decided g c =
-    let ss = map tells c.args.sources.now.surveys.now in
+    let ss = map survey_view c.args.sources.now.surveys.now in
     let bs = c.args.beginnings.now in
     let count : c.loop-number.number ≡ length ss =
     omega (

@@ -2,17 +2,19 @@
 use Rattle.std.proofs.Common.{ap, false, get_or, length, List, nat_eq, refl, slice_set, sym, []}
 use Rattle.std.proofs.{Common.{◌∙◌, ◌∷◌, ◌≡◌}, lemmas.{Bool.eqb-true, List.nil_from_length}}
 use Rattle.frame_header.specs.Fields.{SlotFields}
-use Rattle.slot_plan.specs.{Behind.{first_in, in_slot}, declared.needs.Need.Need}
+use Rattle.slot_plan.specs.FreeBytes.{need_in_slot, needs_with_first_slot}
+use Rattle.slot_plan.specs.declared.needs.Need.{Need}
 use Rattle.join_edits.proofs.decided.put_slot.Goals as goal
 
 set-first : (slot : SlotFields) (needs : List Need) (d : Need) → false ≡ nat_eq (length needs) 0
-    → slice_set needs 0 (in_slot slot (get_or needs 0 d)) ≡ first_in slot needs
-unfolding first_in
+    → slice_set needs 0 (need_in_slot slot (get_or needs 0 d)) ≡ needs_with_first_slot slot needs
+unfolding needs_with_first_slot
 set-first slot [] d some = absurd cc
 set-first slot (m ∷ needs) d some = refl
 
-none-first : (slot : SlotFields) (needs : List Need) → needs ≡ [] → needs ≡ first_in slot needs
-unfolding first_in
+none-first : (slot : SlotFields) (needs : List Need) → needs ≡ []
+    → needs ≡ needs_with_first_slot slot needs
+unfolding needs_with_first_slot
 none-first slot [] none = refl
 none-first slot (n ∷ needs) none = absurd cc
 

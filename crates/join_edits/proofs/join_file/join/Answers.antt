@@ -2,18 +2,20 @@
 use Rattle.std.proofs.Common.{append-nil, ap₂, arith, length, List, map, None, refl, rules}
 use Rattle.std.proofs.Common.{string_bytes, sym, ℕ, [], ◌∙◌, ◌∷◌, ◌≡◌, ◌≤◌}
 use Rattle.std.{proofs.lemmas.{List.length-map, Result.IfErr-weaker}, specs.Prelude.replicate}
-use Rattle.commands.proofs.MakeLaws.{all_left, clash_left, early_left, one_done, one_streams}
-use Rattle.commands.{proofs.RefusingLaws.err_with, specs.Command.clash_from}
-use Rattle.commands.specs.{One.{IsMaking, most_frames}, declared.fault.EditFault.TheVariants.Memory}
-use Rattle.join_edits.proofs.BehindLaws.{parts-whole, rows-whole, within-whole}
-use Rattle.join_edits.proofs.InputLaws.{found-input, inputs-join, join-late}
-use Rattle.join_edits.proofs.SourceLaws.{inputs-hold, inputs-making, join-numbers, ready-written}
-use Rattle.join_edits.proofs.{SourceLaws.written-making, join_file.join.Goals.In_ok-surveys}
-use Rattle.join_edits.specs.Behind.{CanBeWritten, written_of}
-use Rattle.join_edits.specs.{Inputs.{AreInputs, CanBeJoined, told_in}, Join.join_task}
-use Rattle.join_edits.specs.{Laying.IsReady, declared.planned.Work.Work}
-use Rattle.outside.specs.{Files.Files, Seen.seen}
-use Rattle.sync_survey.specs.{Faults.{SurveyFields, tells}, declared.surveys.Survey.Survey}
+use Rattle.commands.proofs.MakeLemmas.{all_left, clash_left, early_left, one_done, one_streams}
+use Rattle.commands.{proofs.RefusingLemmas.err_with, specs.Command.clash_from}
+use Rattle.commands.specs.SingleOutput.{IsMaking, most_frames}
+use Rattle.commands.specs.declared.fault.EditFault.TheVariants.{Memory}
+use Rattle.join_edits.proofs.BehindLemmas.{parts-whole, rows-whole, within-whole}
+use Rattle.join_edits.proofs.InputLemmas.{found-input, inputs-join, join-late}
+use Rattle.join_edits.proofs.SourceLemmas.{inputs-hold, inputs-making, join-numbers, ready-written}
+use Rattle.join_edits.proofs.{SourceLemmas.written-making, join_file.join.Goals.In_ok-surveys}
+use Rattle.join_edits.specs.Inputs.{AreJoinInputs, CanInputsBeJoined, told_contents}
+use Rattle.join_edits.specs.{Join.join_task, Laying.IsJoinReady}
+use Rattle.join_edits.specs.RestOfInputs.{CanJoinBeWritten, join_bytes}
+use Rattle.join_edits.specs.declared.planned.JoinWork.{JoinWork}
+use Rattle.outside.specs.{Files.Files, Seen.seen_folder}
+use Rattle.sync_survey.specs.{Faults.{survey_view, SurveyFields}, declared.surveys.Survey.Survey}
 use Rattle.join_edits.proofs.join_file.join.Given as given
 use Rattle.join_edits.proofs.join_file.join.Goals as goal
 
@@ -57,41 +59,42 @@ module _ (g : given.Over) (c : In_ok-surveys g) where
   names = map string_bytes c.args.inputs.now
 
   abbrev ss : List SurveyFields
-  ss = map tells c.in_ok-surveys.surveys.items
+  ss = map survey_view c.in_ok-surveys.surveys.items
 
-  are : AreInputs None most_frames old names ss
+  are : AreJoinInputs None most_frames old names ss
   are = c.in_ok-surveys.ensures.inputs
 
   some : 1 ≤ length names
   some = omega (arith, c.requires.some, length-map c.args.inputs.now string_bytes)
 
-  can : CanBeJoined ss
+  can : CanInputsBeJoined ss
   can =
       inputs-join old names _ are some
       (omega (arith, c.requires.few, length-map c.args.inputs.now string_bytes))
 
   -- what is written of the inputs, by what is known of them after the survey
   module _ (mid : Files) (known : List Survey) (same : mid ≡ old)
-      (items : known ≡ c.in_ok-surveys.surveys.items) (work : Work)
-      (ready : IsReady (map tells known) work) where
-    now-ready : IsReady ss work
+      (items : known ≡ c.in_ok-surveys.surveys.items) (work : JoinWork)
+      (ready : IsJoinReady (map survey_view known) work) where
+    now-ready : IsJoinReady ss work
     now-ready = rw items at ready
 
     none : clash_from (c.args.output.now ∷ []) 0 names ≡ None
     none = sym c.clash.ensures ∙ c.in_default.is
 
-    writable : CanBeWritten c.args.output.now mid names (map tells known) (replicate 64 0) work
+    writable : CanJoinBeWritten c.args.output.now mid names (map survey_view known)
+        (replicate 64 0) work
     writable =
         rw (same, items)
         (ready-written c.args.output.now old names ss (replicate 64 0) work none are now-ready
         (within-whole 64 ss can.few) (rows-whole 64 ss can.few))
 
     making : IsMaking (join_task names)
-        (written_of mid names (map tells known) (replicate 64 0) work) old
+        (join_bytes mid names (map survey_view known) (replicate 64 0) work) old
     making =
         rw (same, items)
         (written-making c.args.output.now old names ss (replicate 64 0) work some none are now-ready
-        (parts-whole 64 (told_in old) names ss can.few))
+        (parts-whole 64 (told_contents old) names ss can.few))
 
 pub prepare-requires : goal.prepare-requires
 prepare-requires g c =
@@ -102,7 +105,8 @@ returns-in_err-work g c =
     let names = map string_bytes c.args.inputs.now in
     let at = (goal.at.returns-in_err-work g c).In_ok-surveys in
     let none = sym c.clash.ensures ∙ c.in_default.is in
-    let stays = ap₂ seen c.survey_all.ensures.reads.files c.in_ok-surveys.ensures.reads.done in
+    let stays =
+    ap₂ seen_folder c.survey_all.ensures.reads.files c.in_ok-surveys.ensures.reads.done in
     let found = rw append-nil at
     (found-input most_frames names [] _ _ _ c.in_ok-surveys.ensures.inputs (some g at) stays) in
     record {
@@ -129,7 +133,8 @@ returns g c =
     let at = (goal.at.returns g c).In_ok-surveys in
     let none = sym c.clash.ensures ∙ c.in_default.is in
     let mid = g.D.Folder.seen c.survey_all.new.folder in
-    let same = ap₂ seen c.survey_all.ensures.reads.files c.in_ok-surveys.ensures.reads.done in
+    let same =
+    ap₂ seen_folder c.survey_all.ensures.reads.files c.in_ok-surveys.ensures.reads.done in
     let made = making g at _ _ c.survey_all.ensures.reads.files c.as_slice-known.ensures.value _
     c.in_ok-work.ensures in
     let wrote = c.write_joined.ensures in

@@ -4,14 +4,15 @@ use Rattle.std.proofs.Common.{take, ℕ, ◌+◌, ◌-◌, ◌∙◌}
 use Rattle.std.proofs.lemmas.List.{drop-drop, drop_all, length-drop, length-map, take_rest}
 use Rattle.std.proofs.lemmas.Slice.Zip.{AllZip-long}
 use Rattle.frame_writer.specs.Frames.{Frame}
-use Rattle.join_edits.proofs.StepLaws.{both-fit, cause-named, laid-all, laid-none, next-class}
-use Rattle.join_edits.proofs.StepLaws.{next-laid, next-part, next-source, next-within, source-ready}
-use Rattle.join_edits.proofs.{StepLaws.within-long, laid.lay_all.Goals.After-finish}
-use Rattle.join_edits.specs.Behind.{all_laid}
-use Rattle.laying.proofs.EndLaws.{lays-prefix, lays-written, new-behind, part-prefix}
-use Rattle.laying.specs.Passing.{Lays, writing_in}
-use Rattle.outside.{proofs.PassLaws.cause_later, specs.Files.Files}
-use Rattle.sync_survey.specs.Faults.{tells}
+use Rattle.join_edits.proofs.StepLemmas.{both-fit, cause-named, laid-all, laid-none, next-class}
+use Rattle.join_edits.proofs.StepLemmas.{next-laid, next-part, next-source, next-within}
+use Rattle.join_edits.proofs.StepLemmas.{source-ready, within-long}
+use Rattle.join_edits.proofs.laid.lay_all.Goals.{After-finish}
+use Rattle.join_edits.specs.RestOfInputs.{placed_rest_frames}
+use Rattle.laying.proofs.EndLemmas.{lays-prefix, lays-written, new-behind, part-prefix}
+use Rattle.laying.specs.Passing.{LaysFrames, writing_in}
+use Rattle.outside.{proofs.PassLemmas.cause_later, specs.Files.Files}
+use Rattle.sync_survey.specs.Faults.{survey_view}
 use Rattle.join_edits.proofs.laid.lay_all.Given as given
 use Rattle.join_edits.proofs.laid.lay_all.Goals as goal
 
@@ -31,7 +32,7 @@ known_at-survey-requires g c =
       c.loop-i-test.true,
       AllZip-long _ _ _ c.requires.join.sources,
       length-map c.args.sources.now.inputs.now string_bytes,
-      length-map c.args.sources.now.surveys.now tells,
+      length-map c.args.sources.now.surveys.now survey_view,
     )
 
 pub from_at-requires : goal.from_at-requires
@@ -72,8 +73,8 @@ returns-in-Err g c =
     let pass = c.args.first.now.pass in
     let seen = g.D.Folder.seen in
     let old = (seen c.args.folder.now).files in
-    let frames = all_laid old (map string_bytes c.args.sources.now.inputs.now)
-    (map tells c.args.sources.now.surveys.now)
+    let frames = placed_rest_frames old (map string_bytes c.args.sources.now.inputs.now)
+    (map survey_view c.args.sources.now.surveys.now)
     c.args.laid.now.froms.now c.args.laid.now.placed.now in
     let part = next-part c.name_at.ensures c.known_at-survey.ensures c.from_at.ensures
     (sym (take_rest c.args.laid.now.placed.now c.loop-i.at)) c.loop-i.invariant.laid
@@ -125,11 +126,11 @@ module _ (g : given.Over) (c : After-finish g) where
   old = (g.D.Folder.seen c.args.folder.now).files
 
   abbrev frames : List ℕ → List Frame
-  frames = all_laid old (map string_bytes c.args.sources.now.inputs.now)
-      (map tells c.args.sources.now.surveys.now)
+  frames = placed_rest_frames old (map string_bytes c.args.sources.now.inputs.now)
+      (map survey_view c.args.sources.now.surveys.now)
       c.args.laid.now.froms.now c.args.laid.now.placed.now
 
-  laid_all : Lays c.args.first.now.pass.input.now c.args.first.now.pass.output.now frames
+  laid_all : LaysFrames c.args.first.now.pass.input.now c.args.first.now.pass.output.now frames
       (writing_in c.args.buffers.now) (writing_in c.loop-i.buffers) old
       (g.D.Folder.seen c.loop-i.folder).files
   laid_all =

@@ -1,6 +1,6 @@
 -- The name, and then the rest of the line.
 use Rattle.std.proofs.{Common.◌∙◌, lemmas.Result.{on_err_weaker, on_ok_weaker}}
-use Rattle.join_edits.proofs.LineLaws.{line-on, line-part}
+use Rattle.join_edits.proofs.LineLemmas.{line-on, line-part}
 use Rattle.join_edits.proofs.lines.push_line.Goals as goal
 
 pub returns-clause-passed : goal.returns-clause-passed

@@ -1,11 +1,11 @@
 -- One line after another, then what waits.
 use Rattle.std.proofs.Common.{arith, drop, map, refl, string_bytes, subst, sym, zip, ◌++◌, ◌+◌, ◌∙◌}
-use Rattle.join_edits.proofs.LineLaws.{left-from, left-next, left-none, line_of}
+use Rattle.join_edits.proofs.LineLemmas.{left-from, left-next, left-none, line_of}
 use Rattle.join_edits.specs.Seamless.{seam_line}
-use Rattle.laying.proofs.RelayLaws.{item-next}
-use Rattle.list_edits.proofs.ListingLaws.{all_lines, line_failed, prefix_behind, said_more}
-use Rattle.list_edits.proofs.ListingLaws.{said_none, sent_behind}
-use Rattle.outside.{proofs.PassedLaws.on_err, specs.Passed.{SentOn, SentPrefix}}
+use Rattle.laying.proofs.RelayLemmas.{item-next}
+use Rattle.list_edits.proofs.ListingLemmas.{all_lines, line_failed, prefix_behind, said_more}
+use Rattle.list_edits.proofs.ListingLemmas.{said_none, sent_behind}
+use Rattle.outside.{proofs.BufferOutputLemmas.on_err, specs.BufferOutput.{SendsWaiting, SentPrefix}}
 use Rattle.seam_plan.specs.declared.run.Joint.{Joint}
 use Rattle.join_edits.proofs.lines.send_lines.Goals as goal
 
@@ -37,7 +37,7 @@ loop-place-preserved g c =
           (left-from inputs joints (i + 1)) (name, joint)
           c.loop-place.buffer c.push_line.new.buffer _ _ _ c.loop-place.invariant.said
           (left-next inputs joints i name joint c.name_at-name.ensures next) (subst
-          (λ (j : Joint). SentOn (c.loop-place.buffer ++ seam_line name j.seam)
+          (λ (j : Joint). SendsWaiting (c.loop-place.buffer ++ seam_line name j.seam)
           c.push_line.new.buffer
           (g.T.Sink.heard c.loop-place.out).sent (g.T.Sink.heard c.push_line.new.out).sent)
           (sym c.index-joints-place.is) c.in_ok-push_line.ensures.passed);

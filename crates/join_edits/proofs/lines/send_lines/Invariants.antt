@@ -1,7 +1,7 @@
 -- The lines so far wait or were sent, and no write failed.
 use Rattle.std.{proofs.Common.{drop, length, map, string_bytes, ◌≡◌, ◌≤◌}, specs.List.zip}
-use Rattle.join_edits.proofs.LineLaws.{left-from, line_of}
-use Rattle.list_edits.proofs.ListingLaws.{IsSaidTo}
+use Rattle.join_edits.proofs.LineLemmas.{left-from, line_of}
+use Rattle.list_edits.proofs.ListingLemmas.{IsSaidTo}
 use Rattle.join_edits.proofs.lines.send_lines.Given as goal
 
 abbrev pub invariant-loop-place : goal.invariant-loop-place

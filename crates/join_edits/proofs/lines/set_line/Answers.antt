@@ -1,6 +1,6 @@
 -- The text is put together from its end.
 use Rattle.std.{proofs.Common.{ap, ap₂, codes, List, sym, ℕ, ◌++◌, ◌∙◌}, specs.Prelude.decimal}
-use Rattle.join_edits.{proofs.LineLaws.follows-line, specs.Seamless.seam_text}
+use Rattle.join_edits.{proofs.LineLemmas.follows-line, specs.Seamless.seam_text}
 use Rattle.join_edits.proofs.lines.set_line.Goals as goal
 
 pub returns-in-Follows : goal.returns-in-Follows

@@ -5,9 +5,10 @@ use Rattle.std.proofs.lemmas.List.{take_all}
 use Rattle.cut_edits.specs.Exact.{quality_of}
 use Rattle.exact_span.specs.Extensions.{extension_of}
 use Rattle.info_header.specs.declared.fields.Info.{Info}
-use Rattle.join_edits.proofs.NumberLaws.{first-head, last-head}
-use Rattle.join_edits.specs.Numbers.{delay_in, first_head, gains_kept, kept_with, last_head}
-use Rattle.join_edits.specs.{Numbers.padding_in, declared.beginnings.Beginning.Beginning}
+use Rattle.join_edits.proofs.NumberLemmas.{first-head, last-head}
+use Rattle.join_edits.specs.Numbers.{counted_delay, ends_padding, first_head, gains_kept}
+use Rattle.join_edits.specs.Numbers.{kept_with_delay, last_head}
+use Rattle.join_edits.specs.declared.beginnings.Beginning.{Beginning}
 use Rattle.join_edits.proofs.numbers.kept_of.Goals as goal
 
 pub returns : goal.returns
@@ -21,7 +22,7 @@ returns c =
     let last : option_copied c.as_ref-last.result ≡ last_head bs =
     c.as_ref-last.ensures.value ∙ last-head bs (length bs - 1) _ count in
     let padding = c.padding_of-padding.ensures.padding
-    ∙ ap (λ (h : Option Info). padding_in ends.class h ends.last) last in
+    ∙ ap (λ (h : Option Info). ends_padding ends.class h ends.last) last in
     let extension =
     c.extension-kept.ensures ∙ ap₂ (λ (h : Option Info) p. extension_of h delay p) first padding in
     let rest : take (length bs - 1) (drop 1 bs) ≡ drop 1 bs =
@@ -30,5 +31,5 @@ returns c =
     ∙ ap₂ (λ (e : List ℕ) (l : List Beginning). gains_kept e l) extension rest in
     let quality = c.quality_of.ensures ∙ ap quality_of first in
     ap₂ (λ (q : Option ℕ) (e : List ℕ). Some (record { quality = q; extension = e })) quality gains
-    ∙ ap (option_map (kept_with bs ends)) (c.in_ok-delay.ensures.delay
-    ∙ ap (λ (h : Option Info). delay_in ends.class h ends.first c.args.moved) first)
+    ∙ ap (option_map (kept_with_delay bs ends)) (c.in_ok-delay.ensures.delay
+    ∙ ap (λ (h : Option Info). counted_delay ends.class h ends.first c.args.moved) first)

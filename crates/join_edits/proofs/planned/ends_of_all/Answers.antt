@@ -1,14 +1,14 @@
 -- The first input and the last.
 use Rattle.std.proofs.Common.{ap, arith, drop, length, List, map, suc, sym, zero, ℕ, [], ◌+◌, ◌-◌}
 use Rattle.std.proofs.{Common.{◌∙◌, ◌∷◌, ◌≡◌, ◌≤◌}, lemmas.List.length-map}
-use Rattle.join_edits.{proofs.PlanLaws.can-some, specs.Inputs.frames_of}
+use Rattle.join_edits.{proofs.PlanLemmas.can-some, specs.Inputs.frames_together}
 use Rattle.join_edits.specs.{RunReady.{AreEnds, last_length}, declared.numbers.Ends.Ends}
-use Rattle.sync_survey.specs.{Faults.{SurveyFields, tells}, Row.Row}
+use Rattle.sync_survey.specs.{Faults.{survey_view, SurveyFields}, Row.Row}
 use Rattle.join_edits.proofs.planned.ends_of_all.Goals as goal
 
 frames-most : (ss : List SurveyFields) (n : ℕ) {s : SurveyFields} {rest : List SurveyFields}
-    → drop n ss ≡ s ∷ rest → length s.frames ≤ frames_of ss
-unfolding frames_of
+    → drop n ss ≡ s ∷ rest → length s.frames ≤ frames_together ss
+unfolding frames_together
 frames-most [] zero e = absurd cc
 frames-most [] (suc n) e = absurd cc
 frames-most (t ∷ ss) zero {s} {rest} e =
@@ -45,7 +45,7 @@ overflow_cast-result c =
     omega (
       arith,
       ap (λ (l : List Row). length l) c.frames.ensures,
-      frames-most (map tells c.args.surveys.now) 0 c.known_at-first.ensures,
+      frames-most (map survey_view c.args.surveys.now) 0 c.known_at-first.ensures,
       c.requires.frames,
     )
 
@@ -54,17 +54,17 @@ overflow_cast-result-2 c =
     omega (
       arith,
       ap (λ (l : List Row). length l) c.frames-2.ensures,
-      frames-most (map tells c.args.surveys.now)
+      frames-most (map survey_view c.args.surveys.now)
           (length c.args.surveys.now - 1) c.known_at-last.ensures,
       c.requires.frames,
     )
 
 pub returns : goal.returns
 returns c =
-    let some = can-some (map tells c.args.surveys.now) c.requires in
-    let long : length c.args.surveys.now - 1 + 1 ≡ length (map tells c.args.surveys.now) =
-    omega (arith, some, length-map c.args.surveys.now tells) in
-    ends-are (map tells c.args.surveys.now) (length c.args.surveys.now - 1) _
+    let some = can-some (map survey_view c.args.surveys.now) c.requires in
+    let long : length c.args.surveys.now - 1 + 1 ≡ length (map survey_view c.args.surveys.now) =
+    omega (arith, some, length-map c.args.surveys.now survey_view) in
+    ends-are (map survey_view c.args.surveys.now) (length c.args.surveys.now - 1) _
     c.known_at-first.ensures c.known_at-last.ensures long (λ i. record {
       class = c.class.ensures i;
       first = ap (λ (l : List Row). length l) c.frames.ensures i;

@@ -1,7 +1,7 @@
 -- What the planner answers is the plan.
 use Rattle.std.proofs.{Common.{ap, arith, length}, lemmas.Result.IfOk-weaker}
-use Rattle.join_edits.proofs.PlanLaws.{all-fit, needs-few, places-few, plan-is}
-use Rattle.laying.specs.Needs.{Asked}
+use Rattle.join_edits.proofs.PlanLemmas.{all-fit, needs-few, places-few, plan-is}
+use Rattle.laying.specs.Needs.{PlanInput}
 use Rattle.slot_plan.specs.Plans.{entries}
 use Rattle.join_edits.proofs.planned.plan_all.Goals as goal
 
@@ -14,7 +14,7 @@ plan-requires-clause-needs c = omega (
   arith,
   needs-few _ c.requires,
   ap length c.needs.ensures,
-  ap (λ (a : Asked). length a.needs) c.in_ok-parts.ensures,
+  ap (λ (a : PlanInput). length a.needs) c.in_ok-parts.ensures,
 )
 
 pub plan-requires-clause-few : goal.plan-requires-clause-few
@@ -22,7 +22,7 @@ plan-requires-clause-few c = omega (
   arith,
   places-few _ c.requires,
   ap length c.places.ensures,
-  ap (λ (a : Asked). length a.places) c.in_ok-parts.ensures,
+  ap (λ (a : PlanInput). length a.places) c.in_ok-parts.ensures,
 )
 
 pub returns : goal.returns

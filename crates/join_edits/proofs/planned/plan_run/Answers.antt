@@ -1,8 +1,8 @@
 -- The plan of the run.
 use Rattle.std.proofs.{Common.{subst, sym}, lemmas.Result.IfOk-weaker}
-use Rattle.frame_header.{proofs.HeaderLaws.IsClass-class_of, specs.Fields.{IsClass, IsHeader}}
-use Rattle.join_edits.proofs.RunPlanLaws.{can-plan, fits-in, plan-fits, plan-is}
-use Rattle.slot_plan.{proofs.PartLaws.same-class, specs.{Plans.entries, declared.needs.Need.Need}}
+use Rattle.frame_header.{proofs.HeaderLemmas.IsClass-class_of, specs.Fields.{IsClass, IsHeader}}
+use Rattle.join_edits.proofs.RunPlanLemmas.{can-plan, fits-in, plan-fits, plan-is}
+use Rattle.slot_plan.{proofs.PartLemmas.same-class, specs.{Plans.entries, declared.needs.Need.Need}}
 use Rattle.join_edits.proofs.planned.plan_run.Goals as goal
 
 pub plan-requires-clause-planned : goal.plan-requires-clause-planned

@@ -2,15 +2,15 @@
 use Rattle.std.proofs.Common.{ap, arith, length, map, subst, sym, ◌∙◌, ◌≡◌}
 use Rattle.std.{proofs.lemmas.List.length-map, specs.Prelude.{slice_get, Some}}
 use Rattle.info_header.specs.InfoFrame.{info_frame}
-use Rattle.join_edits.proofs.PlanLaws.{alike-first, can-some, plan-few}
+use Rattle.join_edits.proofs.PlanLemmas.{alike-first, can-some, plan-few}
 use Rattle.laying.specs.{Written.{info_for, plain_info}, declared.info.Kept.Kept}
 use Rattle.slot_plan.specs.declared.needs.Placed.{Placed}
-use Rattle.sync_survey.specs.{Faults.{SurveyFields, tells}, Row.Row}
+use Rattle.sync_survey.specs.{Faults.{survey_view, SurveyFields}, Row.Row}
 use Rattle.join_edits.proofs.planned.prepare.Goals as goal
 
 pub known_at-first-requires : goal.known_at-first-requires
 known_at-first-requires c =
-    omega (arith, can-some _ c.requires, length-map c.args.surveys.now tells)
+    omega (arith, can-some _ c.requires, length-map c.args.surveys.now survey_view)
 
 pub info_bytes-info-requires-clause-within : goal.info_bytes-info-requires-clause-within
 info_bytes-info-requires-clause-within c =
@@ -22,7 +22,7 @@ info_bytes-info-requires-clause-few c =
 
 pub returns : goal.returns
 returns c =
-    let s = tells c.known_at-first.result.now in
+    let s = survey_view c.known_at-first.result.now in
     record {
       joined = c.requires;
       plan = c.in_ok-plan.ensures;

@@ -1,10 +1,9 @@
 -- A clash of names, what was met before the output is created, and what follows.
 use Rattle.std.proofs.{Common.{map, string_bytes, subst, sym, ◌∙◌}, lemmas.List.length-map}
-use Rattle.commands.proofs.{MakeLaws.run-before, RefusingLaws.err_with}
-use Rattle.commands.specs.Said.{fault_of, Says}
-use Rattle.join_edits.proofs.SeamlessCommand.{left-clash, left-early, seamless-numbers}
-use Rattle.join_edits.specs.{Seamless.seamless_command, SeamlessReady.IsReady}
-use Rattle.outside.specs.Seen.{seen}
+use Rattle.commands.proofs.{MakeLemmas.run-before, RefusingLemmas.err_with}
+use Rattle.commands.specs.SentText.{answer_fault, SaysText}
+use Rattle.join_edits.proofs.SeamlessCommandLemmas.{left-clash, left-early, seamless-numbers}
+use Rattle.join_edits.specs.{Seamless.seamless_command, SeamlessReady.IsSeamlessReady}
 use Rattle.join_edits.proofs.seamless_file.join_seamless.Given as given
 use Rattle.join_edits.proofs.seamless_file.join_seamless.Goals as goal
 
@@ -30,7 +29,7 @@ write_and_tell-requires-clause-free g c = sym c.clash.ensures ∙ c.in_default.i
 
 pub write_and_tell-requires-clause-ready : goal.write_and_tell-requires-clause-ready
 write_and_tell-requires-clause-ready g c =
-    subst (λ f. IsReady (map string_bytes c.args.inputs.now) f c.in_ok-ready.ready)
+    subst (λ f. IsSeamlessReady (map string_bytes c.args.inputs.now) f c.in_ok-ready.ready)
     (sym c.prepare_all.ensures.reads.files) c.in_ok-ready.ensures.ready
 
 -- it ran from the moment before
@@ -47,8 +46,8 @@ returns g c =
     record {
       done = run.done;
       left = run.left;
-      says = subst (λ f. Says command f (g.T.Sink.heard c.args.out.now)
-          (g.T.Sink.heard c.write_and_tell.new.out) (fault_of answer)) reads.files
+      says = subst (λ f. SaysText command f (g.T.Sink.heard c.args.out.now)
+          (g.T.Sink.heard c.write_and_tell.new.out) (answer_fault answer)) reads.files
           c.write_and_tell.ensures.says;
       numbers = run.numbers;
       names = run.names;

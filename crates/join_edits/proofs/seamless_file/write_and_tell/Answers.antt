@@ -1,15 +1,16 @@
 -- The second pass, and the text.
 use Rattle.std.proofs.Common.{ap, ap₂, arith, drop, length, List, map, refl, string_bytes, subst}
 use Rattle.std.proofs.{Common.{sym, ℕ, ◌∙◌, ◌≡◌, ◌≤◌}, lemmas.List.length-map}
-use Rattle.commands.proofs.{MakeLaws.{done-run, refused_run}, TellingLaws.{says-all, says-prefix}}
-use Rattle.commands.specs.{Left.IsDone, One.{holding, IsPassFault}, Said.IsText}
+use Rattle.commands.proofs.MakeLemmas.{done-run, refused_run}
+use Rattle.commands.{proofs.TellingLemmas.{says-all, says-prefix}, specs.AfterCall.IsCommandDone}
+use Rattle.commands.specs.{SentText.IsCommandText, SingleOutput.{files_holding, IsPassFault}}
 use Rattle.commands.specs.declared.fault.EditFault.TheVariants.{Sent}
-use Rattle.join_edits.proofs.SeamlessCommand.{joints-many, left-done, left-part, left-streams}
-use Rattle.join_edits.proofs.SeamlessCommand.{ready-text, ready-writable, seamless-numbers}
+use Rattle.join_edits.proofs.SeamlessCommandLemmas.{joints-many, left-done, left-part, left-streams}
+use Rattle.join_edits.proofs.SeamlessCommandLemmas.{ready-text, ready-writable, seamless-numbers}
 use Rattle.join_edits.proofs.seamless_file.write_and_tell.Goals.{After-send_lines}
-use Rattle.join_edits.specs.{Behind.written_of, Lines.joint_lines, Seamless.seamless_command}
+use Rattle.join_edits.specs.{Lines.joint_lines, RestOfInputs.join_bytes, Seamless.seamless_command}
 use Rattle.seam_plan.specs.declared.run.Joint.{Joint}
-use Rattle.sync_survey.specs.{Faults.tells, declared.surveys.Survey.Survey}
+use Rattle.sync_survey.specs.{Faults.survey_view, declared.surveys.Survey.Survey}
 use Rattle.join_edits.proofs.seamless_file.write_and_tell.Given as given
 use Rattle.join_edits.proofs.seamless_file.write_and_tell.Goals as goal
 
@@ -30,10 +31,10 @@ returns-in_err-write_joined-clause-run g c =
     let some : 1 ≤ length names =
     omega (arith, c.requires.some, length-map c.args.inputs.now string_bytes) in
     let left =
-    subst (λ (l : List ℕ). IsPassFault (written_of old.files names
-    (map tells ready.surveys.items) l ready.made.work) names output old new fault)
+    subst (λ (l : List ℕ). IsPassFault (join_bytes old.files names
+    (map survey_view ready.surveys.items) l ready.made.work) names output old new fault)
     (c.as_slice.ensures.value ∙ c.left_out-left_out.ensures)
-    (subst (λ (l : List Survey). IsPassFault (written_of old.files names (map tells l)
+    (subst (λ (l : List Survey). IsPassFault (join_bytes old.files names (map survey_view l)
     c.as_slice.result.now ready.made.work) names output old new fault) c.deref.ensures.value
     c.in_err-write_joined.ensures.left) in
     refused_run (seamless_command output names) old new _ fault
@@ -54,7 +55,7 @@ send_lines-requires-clause-inputs g c =
 
 -- the output is whole
 wrote : (g : given.Over) (c : After-send_lines g)
-    → IsDone (seamless_command c.args.output.now (map string_bytes c.args.inputs.now))
+    → IsCommandDone (seamless_command c.args.output.now (map string_bytes c.args.inputs.now))
     (g.D.Folder.seen c.args.folder.now) (g.D.Folder.seen c.write_joined.new.folder)
 wrote g c =
     let old = g.D.Folder.seen c.args.folder.now in
@@ -67,8 +68,8 @@ wrote g c =
     c.write_joined.ensures.touches
     (λ bytes holds.
     c.in_ok-write_joined.ensures.written bytes holds
-    ∙ ap₂ (λ (l : List Survey) (m : List ℕ). holding old.files output
-    (written_of old.files names (map tells l) m ready.made.work bytes)) c.deref.ensures.value
+    ∙ ap₂ (λ (l : List Survey) (m : List ℕ). files_holding old.files output
+    (join_bytes old.files names (map survey_view l) m ready.made.work bytes)) c.deref.ensures.value
     (c.as_slice.ensures.value ∙ c.left_out-left_out.ensures))
     c.in_ok-write_joined.ensures.done
 
@@ -85,7 +86,7 @@ returns-in-Ok-clause-run g c =
 
 -- the text of the command is that of what was decided
 told : (g : given.Over) (c : After-send_lines g) (all : List ℕ)
-    → IsText (seamless_command c.args.output.now (map string_bytes c.args.inputs.now))
+    → IsCommandText (seamless_command c.args.output.now (map string_bytes c.args.inputs.now))
     (g.D.Folder.seen c.args.folder.now).files all
     → joint_lines (drop 1 (map string_bytes c.args.inputs.now)) c.as_slice-2.result.now ≡ all
 told g c all is =

@@ -1,7 +1,7 @@
 -- In one slot they are the same where they are in any other.
 use Rattle.std.proofs.Common.{ap, ◌∙◌}
 use Rattle.frame_header.specs.{Fields.HeaderFields, HeaderBits.header_bits}
-use Rattle.join_edits.proofs.SoundLaws.{header-alike}
+use Rattle.join_edits.proofs.SoundLemmas.{header-alike}
 use Rattle.join_edits.proofs.sounds.same_header.Goals as goal
 
 pub returns : goal.returns

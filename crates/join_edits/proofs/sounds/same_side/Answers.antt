@@ -1,7 +1,7 @@
 -- The bytes are the same where the bits are.
 use Rattle.std.proofs.Common.{ap, bytes_eq, subst, sym, take, ◌∙◌}
 use Rattle.frame_header.specs.Tables.{side_size_of}
-use Rattle.join_edits.{proofs.SoundLaws.{bare-fits, bits-tested}, specs.Sounds.bare}
+use Rattle.join_edits.{proofs.SoundLemmas.{bare-fits, bits-tested}, specs.Sounds.compared_side}
 use Rattle.side_info.specs.Side.{side_bits, SideFits}
 use Rattle.join_edits.proofs.sounds.same_side.Goals as goal
 
@@ -23,7 +23,8 @@ returns c =
     c.eq.ensures
     ∙ ap (λ n. bytes_eq (take n one.result) (take n other.result)) c.side_size-size.ensures.size
     ∙ bits-tested (take (side_size_of class) one.result) (take (side_size_of class) other.result)
-    (side_bits class (bare c.args.first.now)) (side_bits class (bare c.args.second.now))
+    (side_bits class (compared_side c.args.first.now))
+    (side_bits class (compared_side c.args.second.now))
     (one.ensures.bits ∙ ap (side_bits class) c.bare_side.ensures)
     (other.ensures.bits ∙ ap (side_bits class) c.bare_side-2.ensures)
     one.ensures.octets other.ensures.octets

@@ -1,20 +1,22 @@
 -- What is before the frames is written whole.
 use Rattle.std.proofs.Common.{ap, append-nil, List, sym, ℕ, [], ◌++◌, ◌∙◌, ◌≡◌}
-use Rattle.frame_writer.proofs.WritingLaws.{ok-both}
-use Rattle.outside.proofs.{PassLaws.{part_behind_none, writes_behind_none}, PassedLaws.err_by}
-use Rattle.outside.specs.{Files.{appended, Files}, Pass.{Appends, Writes}, declared.pass.Pass.Pass}
+use Rattle.frame_writer.proofs.WritingLemmas.{ok-both}
+use Rattle.outside.proofs.BufferOutputLemmas.{err_by}
+use Rattle.outside.proofs.PassLemmas.{part_behind_none, writes_behind_none}
+use Rattle.outside.specs.Files.{Files, with_appended_bytes}
+use Rattle.outside.specs.{Pass.{AppendsMadeBytes, WritesMadeBytes}, declared.pass.Pass.Pass}
 use Rattle.join_edits.proofs.written.append_front.Goals as goal
 
 -- if nothing waits before and after, the bytes were appended
 all_appended : {pass : Pass} {made : List ℕ → List ℕ} {mid : List ℕ} {old new : Files}
-    → Writes pass made [] mid old new → mid ≡ [] →
-    Appends pass.input.now pass.output.now made old new
+    → WritesMadeBytes pass made [] mid old new → mid ≡ [] →
+    AppendsMadeBytes pass.input.now pass.output.now made old new
 all_appended {pass} {made} {mid} {old} {new} w none = record {
   bytes = w.piece;
   is = w.is;
   files =
       w.passed.files
-      ∙ ap (appended old pass.output.now)
+      ∙ ap (with_appended_bytes old pass.output.now)
       (sym (append-nil w.passed.passed) ∙ ap (λ (xs : List ℕ). w.passed.passed ++ xs) (sym none)
       ∙ sym w.passed.split);
 }

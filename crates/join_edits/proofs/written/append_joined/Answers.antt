@@ -2,21 +2,22 @@
 -- waits of them.
 use Rattle.std.proofs.Common.{ap, append-nil, arith, flat_map, length, List, map, refl, rules}
 use Rattle.std.{proofs.Common.{string_bytes, sym, ℕ, [], ◌++◌, ◌∷◌, ◌≡◌, ◌≢◌}, specs.List.concat}
-use Rattle.cut_edits.proofs.LaidPass.{appends-as_prefix}
-use Rattle.frame_writer.specs.Frames.{frame_bytes, reach_of}
-use Rattle.join_edits.proofs.SourceLaws.{first-source, sources-beside, told-beside}
-use Rattle.join_edits.proofs.StepLaws.{cause-named, source-ready, told_frames}
+use Rattle.cut_edits.proofs.LaidPassLemmas.{appends-as_prefix}
+use Rattle.frame_writer.specs.Frames.{bytes_of_frames, reach_of}
+use Rattle.join_edits.proofs.SourceLemmas.{first-source, sources-beside, told-beside}
+use Rattle.join_edits.proofs.StepLemmas.{cause-named, source-ready, told_frames}
 use Rattle.join_edits.proofs.written.append_joined.Goals.{After-append_front}
-use Rattle.join_edits.specs.Behind.{front_of, written_of}
-use Rattle.laying.specs.{Relaid.{frames_in, relaid}, Written.front_blocks}
-use Rattle.outside.proofs.FilesLaws.{appended_there, appended_touches, touches_none}
-use Rattle.outside.proofs.PassLaws.{cause_behind, cause_later, prefix_as, prefix_then, writes_all}
-use Rattle.outside.proofs.PassLaws.{writes_as, writes_end, writes_then}
-use Rattle.outside.proofs.PassedLaws.{err_at, passed_there}
-use Rattle.outside.specs.{Files.{Files, Holds, OnlyTouches}, Pass.{Appends, Writes, WritesPrefix}}
+use Rattle.join_edits.specs.RestOfInputs.{first_front_bytes, join_bytes}
+use Rattle.laying.specs.{Relaid.{part_frames, relaid_frames}, Written.front_blocks}
+use Rattle.outside.proofs.BufferOutputLemmas.{err_at, passed_there}
+use Rattle.outside.proofs.FilesLemmas.{appended_there, appended_touches, touches_none}
+use Rattle.outside.proofs.PassLemmas.{cause_behind, cause_later, prefix_as, prefix_then, writes_all}
+use Rattle.outside.proofs.PassLemmas.{writes_as, writes_end, writes_then}
+use Rattle.outside.specs.Files.{Files, Holds, OnlyTouches}
+use Rattle.outside.specs.Pass.{AppendsMadeBytes, WritesMadeBytes, WritesPrefix}
 use Rattle.outside.specs.declared.pass.PassFault.{PassFault}
 use Rattle.slot_plan.specs.{Plans.entries, declared.needs.Placed.Placed}
-use Rattle.sync_survey.specs.Faults.{SurveyFields, tells}
+use Rattle.sync_survey.specs.Faults.{survey_view, SurveyFields}
 use Rattle.join_edits.proofs.written.append_joined.Given as given
 use Rattle.join_edits.proofs.written.append_joined.Goals as goal
 
@@ -38,36 +39,39 @@ module _ (g : given.Over) (c : After-append_front g) where
   names = map string_bytes c.args.inputs.now
 
   abbrev known : List SurveyFields
-  known = map tells c.args.surveys.now
+  known = map survey_view c.args.surveys.now
 
   abbrev whole : List ℕ → List ℕ
-  whole = written_of old names known c.args.froms.now c.args.work.now
+  whole = join_bytes old names known c.args.froms.now c.args.work.now
 
   abbrev front : List ℕ → List ℕ
   front file =
-      concat (front_blocks file (tells c.args.first.now.survey.now)) ++ c.as_slice.result.now
+      concat (front_blocks file (survey_view c.args.first.now.survey.now)) ++ c.as_slice.result.now
 
   abbrev frames : Files → List Placed → List ℕ
-  frames mid placed = frame_bytes (relaid (told_frames mid names known c.args.froms.now) placed)
+  frames mid placed =
+      bytes_of_frames (relaid_frames (told_frames mid names known c.args.froms.now) placed)
 
   all : (mid : Files) (placed : List Placed) → placed ≡ entries c.args.work.now.plan
       → OnlyTouches (c.args.first.now.pass.output.now ∷ []) old mid
       → (file : List ℕ) → Holds old c.args.first.now.pass.input.now file
       → front file ++ frames mid placed ≡ whole file
   all mid placed is only file holds =
-      let blocks = sym (ap (front_of file) c.requires.join.known) in
+      let blocks = sym (ap (first_front_bytes file) c.requires.join.known) in
       let items = c.as_slice.ensures.value in
       let sources = c.requires.join.sources in
       let told = told-beside _ _ old mid names known c.args.froms.now only sources in
-      λ i. (blocks i ++ items i) ++ frame_bytes (relaid (flat_map frames_in (told i)) (is i))
+      λ i. (blocks i ++ items i)
+      ++ bytes_of_frames (relaid_frames (flat_map part_frames (told i)) (is i))
 
   -- the front, and then the frames, or a part of them
   module _ (mid : Files) (placed : List Placed) (is : placed ≡ entries c.args.work.now.plan)
       {waiting : List ℕ} (none : waiting ≡ [])
-      (begins : Appends c.args.first.now.pass.input.now c.args.first.now.pass.output.now front old
+      (begins : AppendsMadeBytes
+      c.args.first.now.pass.input.now c.args.first.now.pass.output.now front old
       mid)
     where
-      begun : Writes c.args.first.now.pass front [] waiting old mid
+      begun : WritesMadeBytes c.args.first.now.pass front [] waiting old mid
       begun = rw none (record {
         piece = begins.bytes;
         is = begins.is;
@@ -85,8 +89,8 @@ module _ (g : given.Over) (c : After-append_front g) where
       only = rw begins.files (appended_touches old c.args.first.now.pass.output.now begins.bytes)
 
       both : {after : List ℕ} {new : Files}
-          → Writes c.args.first.now.pass (λ file. frames mid placed) waiting after mid new
-          → Writes c.args.first.now.pass whole [] after old new
+          → WritesMadeBytes c.args.first.now.pass (λ file. frames mid placed) waiting after mid new
+          → WritesMadeBytes c.args.first.now.pass whole [] after old new
       both rest =
           let pass = c.args.first.now.pass in
           writes_as pass whole (all mid placed is only) (writes_then pass apart begun rest)

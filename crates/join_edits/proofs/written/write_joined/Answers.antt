@@ -2,19 +2,20 @@
 use Rattle.std.proofs.Common.{ap, arith, flat_map, List, map, refl, string_bytes, subst, ℕ, []}
 use Rattle.std.proofs.{Common.{◌++◌, ◌∙◌, ◌∷◌, ◌≡◌, ◌≢◌}, lemmas.List.length-map}
 use Rattle.std.proofs.lemmas.Slice.Zip.{AllZip-long}
-use Rattle.commands.proofs.OutputLaws.{not_begun, output_whole, pass_fault, touches_prefix}
-use Rattle.commands.{proofs.OutputLaws.touches_whole, specs.One.{first_input, holding}}
-use Rattle.cut_edits.proofs.LaidPass.{appends-as_prefix}
+use Rattle.commands.proofs.OutputLemmas.{not_begun, output_whole, pass_fault, touches_prefix}
+use Rattle.commands.proofs.OutputLemmas.{touches_whole}
+use Rattle.commands.specs.SingleOutput.{files_holding, first_input}
+use Rattle.cut_edits.proofs.LaidPassLemmas.{appends-as_prefix}
 use Rattle.frame_header.specs.Fields.{ClassFields}
-use Rattle.frame_writer.specs.Frames.{frame_bytes}
-use Rattle.join_edits.proofs.SourceLaws.{first-class, first-source, sources-beside, told-beside}
-use Rattle.join_edits.proofs.written.write_joined.Goals.{In-Ok}
-use Rattle.join_edits.specs.{Behind.{FitsWork, front_of, written_of}, Laying.AreSources}
-use Rattle.laying.specs.Relaid.{frames_in, Part, relaid}
-use Rattle.outside.proofs.FilesLaws.{emptied_there, emptied_touches, fails_touches}
+use Rattle.frame_writer.specs.Frames.{bytes_of_frames}
+use Rattle.join_edits.proofs.SourceLemmas.{first-class, first-source, sources-beside, told-beside}
+use Rattle.join_edits.{proofs.written.write_joined.Goals.In-Ok, specs.Laying.AreSources}
+use Rattle.join_edits.specs.RestOfInputs.{first_front_bytes, FitsWork, join_bytes}
+use Rattle.laying.specs.Relaid.{FilePart, part_frames, relaid_frames}
+use Rattle.outside.proofs.FilesLemmas.{emptied_there, emptied_touches, fails_touches}
 use Rattle.outside.specs.Files.{Files, OnlyTouches}
 use Rattle.slot_plan.specs.Plans.{entries}
-use Rattle.sync_survey.specs.Faults.{SurveyFields, tells}
+use Rattle.sync_survey.specs.Faults.{survey_view, SurveyFields}
 use Rattle.join_edits.proofs.written.write_joined.Given as given
 use Rattle.join_edits.proofs.written.write_joined.Goals as goal
 
@@ -25,7 +26,7 @@ known_at-survey-requires g c =
       c.requires.some,
       AllZip-long _ _ _ c.requires.can.sources,
       length-map c.args.inputs.now string_bytes,
-      length-map c.args.surveys.now tells,
+      length-map c.args.surveys.now survey_view,
     )
 
 module _ (g : given.Over) (c : In-Ok g) where
@@ -39,10 +40,10 @@ module _ (g : given.Over) (c : In-Ok g) where
   names = map string_bytes c.args.inputs.now
 
   abbrev known : List SurveyFields
-  known = map tells c.args.surveys.now
+  known = map survey_view c.args.surveys.now
 
   abbrev class : ClassFields
-  class = (tells c.known_at-survey.result.now).class
+  class = (survey_view c.known_at-survey.result.now).class
 
   class-is : c.requires.can.class ≡ class
   class-is = first-class c.known_at-survey.ensures c.requires.can.first
@@ -61,12 +62,13 @@ module _ (g : given.Over) (c : In-Ok g) where
   apart = (first-source _ c.name_at.ensures c.known_at-survey.ensures sources).apart
 
   -- what is written is the same beside the output that was created
-  beside : (file : List ℕ) → written_of mid names known c.args.froms.now c.args.work.now file
-      ≡ written_of old names known c.args.froms.now c.args.work.now file
+  beside : (file : List ℕ) → join_bytes mid names known c.args.froms.now c.args.work.now file
+      ≡ join_bytes old names known c.args.froms.now c.args.work.now file
   beside file =
-      let front = front_of file known ++ c.args.work.now.info.items in
+      let front = first_front_bytes file known ++ c.args.work.now.info.items in
       let placed = entries c.args.work.now.plan in
-      ap (λ (ps : List Part). front ++ frame_bytes (relaid (flat_map frames_in ps) placed))
+      ap (λ (ps : List FilePart). front
+      ++ bytes_of_frames (relaid_frames (flat_map part_frames ps) placed))
       (told-beside class c.args.output.now old mid names known c.args.froms.now only sources)
 
 pub append_joined-requires-clause-join : goal.append_joined-requires-clause-join
@@ -93,7 +95,7 @@ returns-in-Ok-append_joined-clause-written g c =
     output_whole _ c.name_at.result.now output (apart g at) (old g at) _ _
     c.in-Ok.ensures.answer.created c.in-Ok-append_joined.ensures.written bytes
     (rw c.name_at.ensures at holds)
-    ∙ ap (holding (old g at) output) (beside g at bytes)
+    ∙ ap (files_holding (old g at) output) (beside g at bytes)
 
 pub returns-in-Ok-append_joined-clause-touches : goal.returns-in-Ok-append_joined-clause-touches
 returns-in-Ok-append_joined-clause-touches g c =
@@ -131,7 +133,8 @@ returns-in_default-clause-left g c =
       record {
         rose = c.in_default.ensures.answer.failed;
         files = not_begun
-            (written_of old names (map tells c.args.surveys.now) c.args.froms.now c.args.work.now)
+            (join_bytes old names
+            (map survey_view c.args.surveys.now) c.args.froms.now c.args.work.now)
             (first_input names) c.args.output.now _ _ c.in_default.ensures.answer.kept;
       },
     )

@@ -1,8 +1,8 @@
 -- The fields of the head are those of the bytes of its frame.
 use Rattle.std.proofs.Common.{ap, arith, drop, length, List, replicate, rules, Some, sym, take, ℕ}
 use Rattle.std.proofs.{Common.{◌∙◌, ◌≡◌}, lemmas.List.{length-replicate, length-take-le}}
-use Rattle.laying.{proofs.KeptLaws.fields-some, specs.KeptFields.fields_of_head}
-use Rattle.sync_survey.specs.Faults.{tells}
+use Rattle.laying.{proofs.KeptLemmas.fields-some, specs.KeptFields.fields_of_head}
+use Rattle.sync_survey.specs.Faults.{survey_view}
 use Rattle.laying.proofs.info.head_fields.Goals as goal
 
 pub returns-in_default : goal.returns-in_default
@@ -31,7 +31,8 @@ returns g c = record {
       let bytes : c.read_exact.new.into ≡ take (length blank) (drop head.offset file) =
       c.in_ok-read_exact.ensures.bytes file holds in
       ap Some c.fields_in.ensures ∙ fields-some file
-      c.read_exact.new.into (tells c.args.survey.now).head head (sym c.head.ensures ∙ c.in-Some.is)
+      c.read_exact.new.into (survey_view c.args.survey.now).head head
+      (sym c.head.ensures ∙ c.in-Some.is)
       (bytes ∙ ap (λ n. take n (drop head.offset file)) (many ∙ c.length-length.ensures.length));
   none = search rules;
   done = search rules;

@@ -1,6 +1,6 @@
 -- By the slots alone.
 use Rattle.std.proofs.Common.{IfSome, length, List, subst, ℕ, ◌≡◌}
-use Rattle.laying.proofs.InfoLaws.{fields-are}
+use Rattle.laying.proofs.InfoLemmas.{fields-are}
 use Rattle.slot_plan.specs.declared.needs.Placed.{Placed}
 use Rattle.laying.proofs.info.info_of.Goals as goal
 

@@ -2,9 +2,9 @@
 use Rattle.std.proofs.Common.{ap, arith, drop, length, List, replicate, rules, sym, take, ℕ, ◌∙◌}
 use Rattle.std.proofs.{Common.◌≡◌, lemmas.List.{length-replicate, length-take-le}}
 use Rattle.info_header.specs.declared.fields.Info.{Info}
-use Rattle.laying.proofs.KeptLaws.{extension-none, info-some, quality-none}
+use Rattle.laying.proofs.KeptLemmas.{extension-none, info-some, quality-none}
 use Rattle.laying.specs.declared.info.Kept.{Kept}
-use Rattle.sync_survey.specs.Faults.{tells}
+use Rattle.sync_survey.specs.Faults.{survey_view}
 use Rattle.laying.proofs.info.kept_fields.Goals as goal
 
 pub returns-in_default : goal.returns-in_default
@@ -12,9 +12,9 @@ returns-in_default g c = record {
   kept = let none = sym c.head.ensures ∙ c.in_default.is in
       λ file holds. (
         ap (λ (k : Kept). k.quality) c.none.ensures
-            ∙ quality-none file (tells c.args.survey.now).head none,
+            ∙ quality-none file (survey_view c.args.survey.now).head none,
         ap (λ (k : Kept). k.extension) c.none.ensures
-            ∙ extension-none file (tells c.args.survey.now).head none,
+            ∙ extension-none file (survey_view c.args.survey.now).head none,
       );
   none = search rules;
   done = search rules;
@@ -38,7 +38,7 @@ returns g c = record {
       (omega (arith, length-replicate {A = ℕ} 1441 0, c.length-length.ensures.most)) in
       let bytes : c.read_exact.new.into ≡ take (length blank) (drop head.offset file) =
       c.in_ok-read_exact.ensures.bytes file holds in
-      let same = info-some file c.read_exact.new.into (tells c.args.survey.now).head head
+      let same = info-some file c.read_exact.new.into (survey_view c.args.survey.now).head head
       (sym c.head.ensures ∙ c.in-Some.is) (bytes
       ∙ ap (λ n. take n (drop head.offset file)) (many ∙ c.length-length.ensures.length)) in (
         c.read.ensures.quality ∙ ap (λ (i : Info). i.quality) same,

@@ -1,5 +1,5 @@
 -- The frames and blocks follow one after the other.
-use Rattle.laying.proofs.LaidFileLaws.{laid-survey}
+use Rattle.laying.proofs.LaidFileLemmas.{laid-survey}
 use Rattle.laying.proofs.laid_laws.laid_survey.Goals as goal
 
 pub returns : goal.returns

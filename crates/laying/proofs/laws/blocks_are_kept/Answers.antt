@@ -1,5 +1,5 @@
 -- Each kept block is one of the file.
-use Rattle.laying.proofs.HoldLaws.{blocks-kept}
+use Rattle.laying.proofs.HoldLemmas.{blocks-kept}
 use Rattle.laying.proofs.laws.blocks_are_kept.Goals as goal
 
 pub returns : goal.returns

@@ -1,5 +1,5 @@
 -- They are laid behind the Info frame.
-use Rattle.laying.proofs.LaidLaws.{chosen-frames-stay}
+use Rattle.laying.proofs.LaidLemmas.{chosen-frames-stay}
 use Rattle.laying.proofs.laws.chosen_frames_stay.Goals as goal
 
 pub returns : goal.returns

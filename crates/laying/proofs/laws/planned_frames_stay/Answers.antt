@@ -1,5 +1,5 @@
 -- They are laid behind the Info frame.
-use Rattle.laying.proofs.FittingFrames.{planned-frames-stay}
+use Rattle.laying.proofs.FittingFrameLemmas.{planned-frames-stay}
 use Rattle.laying.proofs.laws.planned_frames_stay.Goals as goal
 
 pub returns : goal.returns

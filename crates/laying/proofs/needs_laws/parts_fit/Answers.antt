@@ -1,5 +1,5 @@
 -- Several parts can be planned.
-use Rattle.laying.proofs.PartsLaws.{parts-fit}
+use Rattle.laying.proofs.PartsLemmas.{parts-fit}
 use Rattle.laying.proofs.needs_laws.parts_fit.Goals as goal
 
 pub returns : goal.returns

@@ -1,19 +1,19 @@
 -- The main data of a frame that isn't lost are within the window and its own area.
 use Rattle.std.proofs.Common.{ap, append_assoc, arith, cond, length, length-append, List, refl}
 use Rattle.std.proofs.Common.{subst, sym, ℕ, [], ◌++◌, ◌+◌, ◌-◌, ◌/◌, ◌∙◌, ◌≡◌}
-use Rattle.laying.proofs.ReachLaws.{area-held}
-use Rattle.laying.proofs.ReadLaws.{bits-least, bytes-are, cut-is, data-within, IsWithin, lost-is}
-use Rattle.laying.proofs.{ReadLaws.place-next, relay.cut_payload.Goals.After-from-begin}
-use Rattle.reservoir.specs.Window.{ArePacked, main_bits}
+use Rattle.laying.proofs.ReachLemmas.{area-held}
+use Rattle.laying.proofs.ReadLemmas.{bits-least, bytes-are, cut-is, data-within, IsWithin, lost-is}
+use Rattle.laying.proofs.{ReadLemmas.place-next, relay.cut_payload.Goals.After-from-begin}
+use Rattle.reservoir.specs.Window.{AreBitsPacked, main_bits}
 use Rattle.side_info.specs.Side.{payload_bytes}
-use Rattle.sync_survey.specs.Faults.{tells}
+use Rattle.sync_survey.specs.Faults.{survey_view}
 use Rattle.laying.proofs.relay.cut_payload.Goals as goal
 
 -- the main data of the frame are within the window and its own area
-within : (c : After-from-begin) → IsWithin (tells c.args.survey.now).head
-    (tells c.args.survey.now).frames c.args.i c.args.row.now
+within : (c : After-from-begin) → IsWithin (survey_view c.args.survey.now).head
+    (survey_view c.args.survey.now).frames c.args.i c.args.row.now
 within c =
-    let s = tells c.args.survey.now in
+    let s = survey_view c.args.survey.now in
     data-within s.head s.class s.frames c.args.i c.args.row.now (c.requires.placed c.args.i
     c.args.row.now c.requires.found) (sym c.lost.ensures ∙ c.if-lost.false)
 
@@ -49,7 +49,7 @@ main_data_with-requires-clause-few c =
     let row = c.args.row.now in
     omega (
       arith,
-      area-held (tells c.args.survey.now) c.args.i row
+      area-held (survey_view c.args.survey.now) c.args.i row
           (c.requires.placed c.args.i row c.requires.found),
       begin_is at,
       c.requires.area,
@@ -60,7 +60,7 @@ main_data_with-requires-clause-short c =
     let row = c.args.row.now in
     omega (
       arith,
-      area-held (tells c.args.survey.now) c.args.i row
+      area-held (survey_view c.args.survey.now) c.args.i row
           (c.requires.placed c.args.i row c.requires.found),
       c.requires.area,
       c.requires.few,
@@ -68,7 +68,7 @@ main_data_with-requires-clause-short c =
 
 pub returns-then-lost-clause-told : goal.returns-then-lost-clause-told
 returns-then-lost-clause-told c = λ file passed long is. c.empty.ensures ∙ lost-is file
-    (tells c.args.survey.now) c.args.i c.args.row.now (sym c.lost.ensures ∙ c.if-lost.true)
+    (survey_view c.args.survey.now) c.args.i c.args.row.now (sym c.lost.ensures ∙ c.if-lost.true)
 
 pub returns-then-lost-clause-size : goal.returns-then-lost-clause-size
 returns-then-lost-clause-size c = ap length c.empty.ensures ∙ ap (λ lost. cond lost 0
@@ -84,7 +84,7 @@ returns-else-lost-clause-size c =
 pub returns-else-lost-clause-told : goal.returns-else-lost-clause-told
 returns-else-lost-clause-told c = λ file passed long is.
     let at = (goal.at.returns-else-lost-clause-told c).After-from-begin in
-    let s = tells c.args.survey.now in
+    let s = survey_view c.args.survey.now in
     let row = c.args.row.now in
     let own = c.args.held.now.own.now in
     let last = c.args.held.now.before.now in
@@ -109,7 +109,7 @@ returns-else-lost-clause-told c = λ file passed long is.
       place-next s.head s.frames c.args.i row c.requires.found,
     )) is c.requires.area (begin_is at) c.requires.bits
     (omega (arith, bits-least bits, size_is at)) c.main_data_with.ensures.bytes
-    (subst (λ k. ArePacked c.main_data_with.result bits (main_bits main k bits)) start
-    (subst (λ (l : List ℕ). ArePacked c.main_data_with.result bits
+    (subst (λ k. AreBitsPacked c.main_data_with.result bits (main_bits main k bits)) start
+    (subst (λ (l : List ℕ). AreBitsPacked c.main_data_with.result bits
     (main_bits l (length held + length last - begin) bits)) (sym (append_assoc held last own))
     (c.main_data_with.ensures.payload held (passed, refl))))

@@ -1,12 +1,12 @@
 -- One frame more is before those whose areas were counted.
 use Rattle.std.proofs.Common.{ap, arith, slice_get, Some, ◌+◌, ◌-◌, ◌∙◌, ◌≡◌}
-use Rattle.laying.proofs.{ReadLaws.place-next, RelayLaws.read-at}
-use Rattle.sync_survey.specs.{Faults.tells, MainData.{own_area, place}}
+use Rattle.laying.proofs.{ReadLemmas.place-next, RelayLemmas.read-at}
+use Rattle.sync_survey.specs.{Faults.survey_view, MainData.{own_area, place}}
 use Rattle.laying.proofs.relay.first_held.Goals as goal
 
 pub loop-first-preserved : goal.loop-first-preserved
 loop-first-preserved c =
-    let s = tells c.args.survey.now in
+    let s = survey_view c.args.survey.now in
     let first = c.loop-first.first in
     let before : first - 1 + 1 ≡ first = omega (arith, c.loop-first-test.true) in
     let row = c.index-rows-first.result in

@@ -1,10 +1,10 @@
 -- One place of the plan after another.
 use Rattle.std.proofs.Common.{ap, arith, drop, length, rules, [], ◌+◌, ◌-◌, ◌<◌, ◌∙◌, ◌∷◌, ◌≡◌}
 use Rattle.std.proofs.lemmas.List.{drop_all}
-use Rattle.laying.proofs.PlacesLaws.{behind-frame, behind-lead, places-end, places-next}
-use Rattle.laying.proofs.{PlacesLaws.places-none, RelayLaws.item-next}
+use Rattle.laying.proofs.PlacesLemmas.{behind-frame, behind-lead, places-end, places-next}
+use Rattle.laying.proofs.{PlacesLemmas.places-none, RelayLemmas.item-next}
 use Rattle.laying.proofs.relay.places_for.Goals.{else-not-place, then-not-place}
-use Rattle.laying.specs.Places.{frames_behind, places_for}
+use Rattle.laying.specs.Places.{frame_count_behind, places_for}
 use Rattle.laying.proofs.relay.places_for.Goals as goal
 
 pub returns-then-left-eq0-clause-places : goal.returns-then-left-eq0-clause-places
@@ -25,7 +25,7 @@ loop-place-preserved c =
     let within : k < length c.args.placed.now = omega (arith, c.loop-place-test.true) in
     let left : drop k c.args.placed.now ≡ p ∷ more =
     item-next c.args.placed.now k p within c.place-item.is in
-    let behind : frames_behind p.lead_in (frames - 1) ≡ next =
+    let behind : frame_count_behind p.lead_in (frames - 1) ≡ next =
     elim c.if-not-place.branch [
       | then-not-place w ↦ behind-frame p.lead_in frames next (search rules) w.left-is
       | else-not-place w ↦ behind-lead p.lead_in frames next some (search rules) w.left-is

@@ -1,5 +1,5 @@
 -- Command by command.
-use Rattle.legality.proofs.LegalLaws.{legal-is-accepted}
+use Rattle.legality.proofs.LegalLemmas.{legal-is-accepted}
 use Rattle.legality.proofs.laws.legal_is_accepted.Goals as goal
 
 pub returns : goal.returns

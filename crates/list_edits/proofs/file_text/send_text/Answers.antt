@@ -1,13 +1,13 @@
 -- What the call leaves, by the survey, what was read beside it, and what was sent of the text.
 use Rattle.std.{proofs.Common.{ap₂, List, subst, sym, ℕ, ◌∙◌, ◌≡◌}, specs.Prelude.{IfErr, OnOk}}
-use Rattle.commands.specs.{Command.HoldsStreams, Left.{HasNumbers, IsDone, Leaves}}
-use Rattle.commands.specs.One.{IsFileFault, most_frames}
-use Rattle.list_edits.proofs.TextLaws.{holds_streams, is_done, no_room, refused_run, says}
-use Rattle.list_edits.proofs.TextLaws.{survey_left, told_by, unsent}
+use Rattle.commands.specs.AfterCall.{HasNumbers, IsCommandDone, IsCommandFault}
+use Rattle.commands.specs.{Command.HoldsStreams, SingleOutput.{IsFileFault, most_frames}}
+use Rattle.list_edits.proofs.TextLemmas.{holds_streams, is_done, no_room, refused_run, says}
+use Rattle.list_edits.proofs.TextLemmas.{survey_left, told_by, unsent}
 use Rattle.list_edits.{proofs.file_text.send_text.Goals.In_ok-text, specs.TextCommand.text_command}
-use Rattle.outside.{proofs.CountsLaws.only_reads_same, specs.Counts.{Counts, OnlyReads}}
-use Rattle.outside.specs.{Files.Holds, Seen.seen}
-use Rattle.sync_survey.specs.Faults.{tells}
+use Rattle.outside.{proofs.CountsLemmas.only_reads_same, specs.Counts.{Counts, OnlyReads}}
+use Rattle.outside.specs.{Files.Holds, Seen.seen_folder}
+use Rattle.sync_survey.specs.Faults.{survey_view}
 use Rattle.list_edits.proofs.file_text.send_text.Given as given
 use Rattle.list_edits.proofs.file_text.send_text.Goals as goal
 
@@ -28,7 +28,7 @@ returns-in_err-text g c =
     let files = c.survey_at.ensures.reads.files in
     let counts = c.in_ok-survey.ensures.reads.done in
     let refused = subst (λ old. IsFileFault 0 most_frames input old new fault)
-    (ap₂ seen files counts) c.in_err-text.ensures.refused in
+    (ap₂ seen_folder files counts) c.in_err-text.ensures.refused in
     let end = c.from_residual-in_err-text in
     refused_run text input _ _ _ end.result _ end.ensures.1
     (survey_left text input _ _ _ refused) c.in_err-text.ensures.numbers
@@ -38,8 +38,8 @@ returns-in_err-text g c =
 -- the text of the input's bytes, where they are told, is the one by what was read
 text_is : (g : given.Over) (c : In_ok-text g) (bytes : List ℕ)
     → Holds (g.D.Folder.seen c.args.folder.now).files c.args.input.now bytes
-    → g.K.FileText.text bytes (tells c.in_ok-survey.survey)
-    ≡ g.K.FileText.said c.in_ok-text.text (tells c.in_ok-survey.survey)
+    → g.K.FileText.text bytes (survey_view c.in_ok-survey.survey)
+    ≡ g.K.FileText.said c.in_ok-text.text (survey_view c.in_ok-survey.survey)
 text_is g c bytes holds =
     let files = c.survey_at.ensures.reads.files in
     c.in_ok-text.ensures.text bytes
@@ -64,7 +64,7 @@ pub returns-in_err-buffer : goal.returns-in_err-buffer
 returns-in_err-buffer g c =
     let known = c.in_ok-survey.ensures in
     let text = g.K.FileText.text in
-    let s = tells c.in_ok-survey.survey in
+    let s = survey_view c.in_ok-survey.survey in
     let said = g.K.FileText.said c.in_ok-text.text s in
     let h = (goal.at.returns-in_err-buffer g c).In_ok-text in
     let input = c.args.input.now in
@@ -80,7 +80,7 @@ returns g c =
     let known = c.in_ok-survey.ensures in
     let text = g.K.FileText.text in
     let input = c.args.input.now in
-    let s = tells c.in_ok-survey.survey in
+    let s = survey_view c.in_ok-survey.survey in
     let said = g.K.FileText.said c.in_ok-text.text s in
     let h = (goal.at.returns g c).In_ok-text in
     let command = text_command text input in
@@ -89,10 +89,10 @@ returns g c =
     let sink = g.T.Sink in
     let fault = c.tell.ensures.fault in
     record {
-      done = told_by (λ r. OnOk r (IsDone command old new))
+      done = told_by (λ r. OnOk r (IsCommandDone command old new))
           (λ x. is_done text input old.files s said known.there known.surveyed (text_is g h) _ _ _
           (files_stay g h) (counts_stay g h)) tt c.tell.result fault;
-      left = told_by (λ r. IfErr r (Leaves command old new)) (λ x. tt)
+      left = told_by (λ r. IfErr r (IsCommandFault command old new)) (λ x. tt)
           (unsent text input old.files s said known.there known.surveyed (text_is g h) _ _ _
           (files_stay g h) (counts_stay g h)) c.tell.result fault;
       says = says text input old.files s said known.there known.surveyed (text_is g h)

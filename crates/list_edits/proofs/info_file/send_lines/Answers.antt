@@ -1,9 +1,9 @@
 -- One line after another, then what waits.
 use Rattle.std.proofs.{Common.{arith, drop, refl, subst, ◌++◌, ◌+◌, ◌∙◌}, lemmas.List.drop_all}
-use Rattle.list_edits.proofs.InfoLaws.{line-at}
-use Rattle.list_edits.proofs.ListingLaws.{all_lines, line_failed, prefix_behind, said_more}
-use Rattle.list_edits.proofs.ListingLaws.{said_none, sent_behind}
-use Rattle.outside.{proofs.PassedLaws.on_err, specs.Passed.{SentOn, SentPrefix}}
+use Rattle.list_edits.proofs.InfoLemmas.{line-at}
+use Rattle.list_edits.proofs.ListingLemmas.{all_lines, line_failed, prefix_behind, said_more}
+use Rattle.list_edits.proofs.ListingLemmas.{said_none, sent_behind}
+use Rattle.outside.{proofs.BufferOutputLemmas.on_err, specs.BufferOutput.{SendsWaiting, SentPrefix}}
 use Rattle.list_edits.proofs.info_file.send_lines.Goals as goal
 
 pub loop-line-init : goal.loop-line-init
@@ -24,7 +24,7 @@ loop-line-preserved g c =
           (drop (i + 1) lines) line c.loop-line.buffer c.push.new.self _ _ _
           c.loop-line.invariant.said (line-at lines i line
           (omega (arith, c.loop-line-test.true)) c.line-item.is)
-          (subst (λ l. SentOn (c.loop-line.buffer ++ l) c.push.new.self
+          (subst (λ l. SendsWaiting (c.loop-line.buffer ++ l) c.push.new.self
           (g.T.Sink.heard c.loop-line.out).sent (g.T.Sink.heard c.push.new.sink).sent)
           c.bytes.ensures c.in_ok-push.ensures.passed);
     }

@@ -1,6 +1,6 @@
 -- The lines so far wait or were sent, and no write failed.
 use Rattle.std.proofs.Common.{drop, ◌≡◌}
-use Rattle.list_edits.proofs.ListingLaws.{IsSaidTo}
+use Rattle.list_edits.proofs.ListingLemmas.{IsSaidTo}
 use Rattle.list_edits.proofs.info_file.send_lines.Given as goal
 
 abbrev pub invariant-loop-line : goal.invariant-loop-line

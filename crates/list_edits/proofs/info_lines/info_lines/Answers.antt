@@ -2,20 +2,20 @@
 use Rattle.std.{proofs.Common.{ap, ap₂, length, refl, [], ◌∙◌}, specs.Option.option_copied}
 use Rattle.std.specs.Prelude.{if◌then◌else◌}
 use Rattle.frame_header.specs.Fields.{ClassFields}
-use Rattle.list_edits.proofs.InfoLaws.{all-lines, gains-said}
+use Rattle.list_edits.proofs.InfoLemmas.{all-lines, gains-said}
 use Rattle.list_edits.specs.InfoText.{but_line, class_line, frames_line, gain_lines, head_line}
 use Rattle.list_edits.specs.InfoText.{info_lines, is_as_said, main_data_line, played_line}
 use Rattle.list_edits.specs.InfoText.{rates_line}
-use Rattle.list_edits.specs.Totals.{areas_in, greatest_rate, least_rate, lost_in, main_data_in}
+use Rattle.list_edits.specs.Totals.{file_areas, greatest_rate, least_rate, lost_count, main_data_in}
 use Rattle.list_edits.specs.Totals.{stream_length}
 use Rattle.moved_gains.specs.GainExtremes.{extremes_of, extremes_of_both}
-use Rattle.sync_survey.specs.Faults.{tells}
+use Rattle.sync_survey.specs.Faults.{survey_view}
 use Rattle.list_edits.proofs.info_lines.info_lines.Goals as goal
 
 pub returns : goal.returns
 unfolding info_lines
 returns c =
-    let s = tells c.args.survey.now in
+    let s = survey_view c.args.survey.now in
     let rows = s.frames in
     let head = option_copied c.args.head in
     let count = length rows in
@@ -23,9 +23,9 @@ returns c =
     let counted = ap length c.frames-count.ensures in
     let bytes = stream_length s in
     let channels = ap (λ (k : ClassFields). k.channels) (c.class.view_is ∙ c.class-class.ensures) in
-    all-lines (class_line s.class) (frames_line s.class count (lost_in rows))
+    all-lines (class_line s.class) (frames_line s.class count (lost_count rows))
     (rates_line (least_rate rows) (greatest_rate rows))
-    (main_data_line (main_data_in rows) (areas_in s)) (head_line head)
+    (main_data_line (main_data_in rows) (file_areas s)) (head_line head)
     (is_as_said head count bytes) (but_line count bytes) (played_line head s.class count)
     (gain_lines s.class.channels (extremes_of 0 rows) (extremes_of 1 rows) (extremes_of_both rows))
     (c.class_line.ensures ∙ ap class_line c.class-class.ensures)

@@ -1,6 +1,6 @@
 -- The gains of both channels are those of the one and of the other.
 use Rattle.std.{proofs.Common.{ap, Option, ◌++◌, ◌∙◌}, specs.Prelude.codes}
-use Rattle.list_edits.{proofs.InfoLaws.three-lines, specs.InfoText.both_text}
+use Rattle.list_edits.{proofs.InfoLemmas.three-lines, specs.InfoText.both_text}
 use Rattle.moved_gains.specs.declared.gain_extremes.Gains.{Gains}
 use Rattle.list_edits.proofs.info_lines.stereo_lines.Goals as goal
 

@@ -1,6 +1,6 @@
 -- The two digits stand in the table.
 use Rattle.std.proofs.Common.{refl}
-use Rattle.list_edits.proofs.PairsLaws.{pair_at}
+use Rattle.list_edits.proofs.PairsLemmas.{pair_at}
 use Rattle.list_edits.proofs.line.pair.Goals as goal
 
 pub returns : goal.returns

@@ -1,19 +1,20 @@
 -- One line after another, then the summary, then what waits.
 use Rattle.std.proofs.Common.{ap, arith, length, refl, subst, sym, ◌++◌, ◌∙◌}
-use Rattle.list_edits.proofs.ListingLaws.{last_failed, last_more, prefix_behind, said_failed}
-use Rattle.list_edits.proofs.ListingLaws.{said_more, said_none, sent_behind}
+use Rattle.list_edits.proofs.ListingLemmas.{last_failed, last_more, prefix_behind, said_failed}
+use Rattle.list_edits.proofs.ListingLemmas.{said_more, said_none, sent_behind}
 use Rattle.list_edits.proofs.list_file.send_listing.Given.{Over}
-use Rattle.list_edits.specs.Listing.{line_of, listing, summary}
-use Rattle.list_edits.specs.Things.{in_order, left, things_of}
-use Rattle.outside.{proofs.PassedLaws.on_err, specs.Passed.{SentOn, SentPrefix}}
-use Rattle.sync_survey.specs.Faults.{tells}
+use Rattle.list_edits.specs.Listing.{listing, summary, thing_line}
+use Rattle.list_edits.specs.Things.{ordered_things, things_left, things_of}
+use Rattle.outside.{proofs.BufferOutputLemmas.on_err, specs.BufferOutput.{SendsWaiting, SentPrefix}}
+use Rattle.sync_survey.specs.Faults.{survey_view}
 use Rattle.list_edits.proofs.list_file.send_listing.Goals as goal
 
 pub loop-things-init : goal.loop-things-init
 loop-things-init g c = record {
   done = refl;
-  listed = rw c.requires.empty (said_none line_of (in_order (things_of (tells c.args.survey.now)))
-      (left c.of-things.result) (g.T.Sink.heard c.args.out.now).sent c.of-things.ensures);
+  listed = rw c.requires.empty (said_none thing_line
+      (ordered_things (things_of (survey_view c.args.survey.now)))
+      (things_left c.of-things.result) (g.T.Sink.heard c.args.out.now).sent c.of-things.ensures);
 }
 
 pub loop-things-smaller : goal.loop-things-smaller
@@ -25,11 +26,12 @@ loop-things-preserved g c =
     let next = c.set_next_line.ensures.line c.loop-things-test.true in
     record {
       done = c.in_ok-push.ensures.cause.done ∙ c.loop-things.invariant.done;
-      listed = said_more line_of (in_order (things_of (tells c.args.survey.now)))
-          (left c.loop-things.things)
-          (left c.set_next_line.new.things) next.thing c.loop-things.buffer c.push.new.self _ _ _
+      listed = said_more thing_line (ordered_things (things_of (survey_view c.args.survey.now)))
+          (things_left c.loop-things.things)
+          (things_left c.set_next_line.new.things) next.thing c.loop-things.buffer c.push.new.self _
+          _ _
           c.loop-things.invariant.listed next.first
-          (subst (λ line. SentOn (c.loop-things.buffer ++ line) c.push.new.self
+          (subst (λ line. SendsWaiting (c.loop-things.buffer ++ line) c.push.new.self
           (g.T.Sink.heard c.loop-things.out).sent (g.T.Sink.heard c.push.new.sink).sent)
           (c.bytes.ensures ∙ sym next.line) c.in_ok-push.ensures.passed);
     }
@@ -39,9 +41,10 @@ unfolding listing
 returns-in_err-push-clause-prefix g c =
     let next = c.set_next_line.ensures.line c.loop-things-test.true in
     on_err c.from_residual.result
-    (said_failed line_of (in_order (things_of (tells c.args.survey.now)))
-    (summary (tells c.args.survey.now).class (length (tells c.args.survey.now).frames))
-    (left c.loop-things.things) (left c.set_next_line.new.things) next.thing c.loop-things.buffer _
+    (said_failed thing_line (ordered_things (things_of (survey_view c.args.survey.now)))
+    (summary (survey_view c.args.survey.now).class (length (survey_view c.args.survey.now).frames))
+    (things_left c.loop-things.things)
+    (things_left c.set_next_line.new.things) next.thing c.loop-things.buffer _
     _ _ c.loop-things.invariant.listed next.first
     (subst (λ line. SentPrefix (c.loop-things.buffer ++ line)
     (g.T.Sink.heard c.loop-things.out).sent (g.T.Sink.heard c.push.new.sink).sent)
@@ -51,9 +54,9 @@ pub returns-in_err-push-2-clause-prefix : goal.returns-in_err-push-2-clause-pref
 unfolding listing
 returns-in_err-push-2-clause-prefix g c =
     on_err c.from_residual-in_err-push-2.result
-    (last_failed line_of (in_order (things_of (tells c.args.survey.now)))
-    (summary (tells c.args.survey.now).class (length (tells c.args.survey.now).frames))
-    (left c.loop-things.things) c.loop-things.buffer _ _ _
+    (last_failed thing_line (ordered_things (things_of (survey_view c.args.survey.now)))
+    (summary (survey_view c.args.survey.now).class (length (survey_view c.args.survey.now).frames))
+    (things_left c.loop-things.things) c.loop-things.buffer _ _ _
     c.loop-things.invariant.listed (c.set_next_line.ensures.none c.loop-things-test.false)
     (subst (λ line. SentPrefix (c.loop-things.buffer ++ line)
     (g.T.Sink.heard c.loop-things.out).sent (g.T.Sink.heard c.push-2.new.sink).sent)
@@ -62,15 +65,15 @@ returns-in_err-push-2-clause-prefix g c =
 
 -- all lines and the summary wait or were sent
 all_listed : (g : Over) (c : goal.After-drop-buffer-inside-2 g)
-    → SentOn (listing (tells c.args.survey.now))
+    → SendsWaiting (listing (survey_view c.args.survey.now))
     c.push-2.new.self (g.T.Sink.heard c.args.out.now).sent (g.T.Sink.heard c.push-2.new.sink).sent
 unfolding listing
 all_listed g c =
-    last_more line_of (in_order (things_of (tells c.args.survey.now)))
-    (summary (tells c.args.survey.now).class (length (tells c.args.survey.now).frames))
-    (left c.loop-things.things) c.loop-things.buffer c.push-2.new.self _ _ _
+    last_more thing_line (ordered_things (things_of (survey_view c.args.survey.now)))
+    (summary (survey_view c.args.survey.now).class (length (survey_view c.args.survey.now).frames))
+    (things_left c.loop-things.things) c.loop-things.buffer c.push-2.new.self _ _ _
     c.loop-things.invariant.listed (c.set_next_line.ensures.none c.loop-things-test.false)
-    (subst (λ line. SentOn (c.loop-things.buffer ++ line) c.push-2.new.self
+    (subst (λ line. SendsWaiting (c.loop-things.buffer ++ line) c.push-2.new.self
     (g.T.Sink.heard c.loop-things.out).sent (g.T.Sink.heard c.push-2.new.sink).sent)
     (c.bytes-2.ensures ∙ c.set_summary.ensures ∙ rw (c.class.ensures, c.frames.ensures) refl)
     c.in_ok-push-2.ensures.passed)

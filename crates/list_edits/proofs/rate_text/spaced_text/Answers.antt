@@ -2,7 +2,7 @@
 use Rattle.std.proofs.Common.{ap, arith, inl, inr, refl, ◌-◌, ◌≡◌}
 use Rattle.frame_header.specs.{Fields.SlotFields, Tables.rates}
 use Rattle.frame_header.specs.declared.version.Version.TheVariants.{One, Two}
-use Rattle.list_edits.proofs.RateLaws.{text_at}
+use Rattle.list_edits.proofs.RateLemmas.{text_at}
 use Rattle.list_edits.specs.declared.rate_text.TheConstants.{MPEG_1_TEXTS, MPEG_2_TEXTS}
 use Rattle.list_edits.proofs.rate_text.spaced_text.Goals as goal
 

@@ -1,7 +1,7 @@
 -- One frame more goes into the totals, until none is left.
 use Rattle.std.proofs.{Common.{ap, arith, subst}, lemmas.List.drop_all}
-use Rattle.list_edits.proofs.InfoLaws.{row-at}
-use Rattle.list_edits.proofs.TotalsLaws.{all-met, AreBefore, at-first, before-next}
+use Rattle.list_edits.proofs.InfoLemmas.{row-at}
+use Rattle.list_edits.proofs.TotalsLemmas.{all-met, AreBefore, at-first, before-next}
 use Rattle.list_edits.specs.declared.totals.{HeaderTotals.HeaderTotals, SideTotals.SideTotals}
 use Rattle.list_edits.proofs.totals.totals_of.Goals as goal
 

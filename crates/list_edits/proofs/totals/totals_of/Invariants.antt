@@ -1,6 +1,6 @@
 -- The frames before have these totals.
 use Rattle.std.proofs.Common.{drop, ◌*◌, ◌^◌, ◌≤◌}
-use Rattle.list_edits.proofs.TotalsLaws.{AreBefore}
+use Rattle.list_edits.proofs.TotalsLemmas.{AreBefore}
 use Rattle.list_edits.proofs.totals.totals_of.Given as goal
 
 abbrev pub invariant-loop-row : goal.invariant-loop-row

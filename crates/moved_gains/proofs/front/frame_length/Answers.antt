@@ -1,7 +1,7 @@
 -- What is before the main data fits in every frame.
 use Rattle.std.proofs.Common.{ap, ap₂, arith, sym, ◌∙◌}
 use Rattle.frame_header.specs.Tables.{class_of, length_of, side_size_of}
-use Rattle.side_info.proofs.FrameLaws.{overhead-most}
+use Rattle.side_info.proofs.FrameLemmas.{overhead-most}
 use Rattle.moved_gains.proofs.front.frame_length.Goals as goal
 
 pub returns-clause-length : goal.returns-clause-length

@@ -1,7 +1,7 @@
 -- Moved side information differs from what is in the frame in gains alone.
 use Rattle.std.proofs.Common.{ap, subst, sym, ◌∙◌, ◌≡◌}
-use Rattle.moved_gains.{proofs.MovedFrame.other_gains, specs.Gains.moved_side}
-use Rattle.side_info.{proofs.FrameLaws.shaped-side_in, specs.Frame.{frame_with, side_in}}
+use Rattle.moved_gains.{proofs.MovedFrameLemmas.other_gains, specs.Gains.moved_side}
+use Rattle.side_info.{proofs.FrameLemmas.shaped-side_in, specs.Frame.{frame_with_side, side_in}}
 use Rattle.side_info.specs.Side.{HasOtherGains}
 use Rattle.moved_gains.proofs.front.move_in_class.Goals as goal
 
@@ -17,6 +17,6 @@ returns c is =
     subst (HasOtherGains (side_in h old)) (ap (moved_side steps) is ∙ sym moved)
     (other_gains steps (side_in h old) (shaped-side_in h old)) in
     subst (λ k. HasOtherGains (side_in k old) c.moved_side.result
-    → c.put_gains.new.frame ≡ frame_with k c.moved_side.result old)
+    → c.put_gains.new.frame ≡ frame_with_side k c.moved_side.result old)
     (ap (λ f. f.header) c.front-own.ensures) c.put_gains.ensures.gains other
-    ∙ ap (λ s. frame_with h s old) moved
+    ∙ ap (λ s. frame_with_side h s old) moved

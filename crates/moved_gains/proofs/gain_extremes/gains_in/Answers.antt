@@ -1,13 +1,13 @@
 -- Those of two granules are those of both together.
 use Rattle.std.proofs.Common.{ap₂, ◌∙◌}
-use Rattle.moved_gains.proofs.ExtremesLaws.{joined-extremes}
-use Rattle.moved_gains.specs.GainExtremes.{gain_that_moves, joined}
+use Rattle.moved_gains.proofs.ExtremesLemmas.{joined-extremes}
+use Rattle.moved_gains.specs.GainExtremes.{gain_that_moves, joined_extremes}
 use Rattle.side_info.specs.Side.{granule_in}
 use Rattle.moved_gains.proofs.gain_extremes.gains_in.Goals as goal
 
 pub returns : goal.returns
 returns c =
     let s = c.args.side.now in
-    c.joined.ensures ∙ ap₂ joined c.gain_of.ensures c.gain_of-2.ensures
+    c.joined.ensures ∙ ap₂ joined_extremes c.gain_of.ensures c.gain_of-2.ensures
     ∙ joined-extremes (gain_that_moves (granule_in s 0 c.args.channel))
     (gain_that_moves (granule_in s 1 c.args.channel))

@@ -3,10 +3,11 @@
 use Rattle.std.proofs.Common.{ap, arith, drop, length, refl, sym, ◌+◌, ◌∙◌}
 use Rattle.std.{proofs.lemmas.Option.slice_get_read, specs.Option.option_copied}
 use Rattle.frame_header.specs.Tables.{class_of}
-use Rattle.moved_gains.proofs.ExtremesLaws.{extremes-behind, extremes-empty, extremes-from}
-use Rattle.moved_gains.proofs.ExtremesLaws.{joined-assoc, joined-None, moving-nil, no_extremes}
-use Rattle.moved_gains.proofs.ExtremesLaws.{no_first, some_extremes}
-use Rattle.moved_gains.specs.GainExtremes.{extremes, extremes_of, gains_at, joined, moving_gains}
+use Rattle.moved_gains.proofs.ExtremesLemmas.{extremes-behind, extremes-empty, extremes-from}
+use Rattle.moved_gains.proofs.ExtremesLemmas.{joined-assoc, joined-None, moving-nil, no_extremes}
+use Rattle.moved_gains.proofs.ExtremesLemmas.{no_first, some_extremes}
+use Rattle.moved_gains.specs.GainExtremes.{extremes, extremes_of, joined_extremes, moving_gains}
+use Rattle.moved_gains.specs.GainExtremes.{row_gains}
 use Rattle.side_info.specs.FrameFields.{FrameFields}
 use Rattle.moved_gains.proofs.gain_extremes.gains_of.Goals as goal
 
@@ -38,16 +39,16 @@ loop-row-preserved c =
     let row = c.row-item.result in
     let rest = extremes_of c.args.channel (drop (i + 1) rows) in
     c.loop-row.invariant
-    ∙ ap (joined c.loop-row.gains)
+    ∙ ap (joined_extremes c.loop-row.gains)
     (extremes-from c.args.channel rows i row (omega (arith, c.loop-row-test.true)) c.row-item.is)
-    ∙ sym (joined-assoc c.loop-row.gains (extremes (gains_at c.args.channel row)) rest)
-    ∙ sym (ap (λ g. joined g rest)
-    (c.joined-gains.ensures ∙ ap (joined c.loop-row.gains) c.gains_at.ensures))
+    ∙ sym (joined-assoc c.loop-row.gains (extremes (row_gains c.args.channel row)) rest)
+    ∙ sym (ap (λ g. joined_extremes g rest)
+    (c.joined-gains.ensures ∙ ap (joined_extremes c.loop-row.gains) c.gains_at.ensures))
 
 pub returns-clause-value : goal.returns-clause-value
 returns-clause-value c =
     sym (c.loop-row.invariant
-    ∙ ap (joined c.loop-row.gains) (extremes-behind c.args.channel c.args.rows.now
+    ∙ ap (joined_extremes c.loop-row.gains) (extremes-behind c.args.channel c.args.rows.now
     c.loop-row.row-index (omega (arith, c.loop-row-test.false)))
     ∙ joined-None c.loop-row.gains)
 
@@ -55,7 +56,7 @@ pub returns-clause-some : goal.returns-clause-some
 returns-clause-some c =
     some_extremes (moving_gains c.args.channel c.args.rows.now) c.loop-row.gains
     (sym (c.loop-row.invariant
-    ∙ ap (joined c.loop-row.gains) (extremes-behind c.args.channel c.args.rows.now
+    ∙ ap (joined_extremes c.loop-row.gains) (extremes-behind c.args.channel c.args.rows.now
     c.loop-row.row-index (omega (arith, c.loop-row-test.false)))
     ∙ joined-None c.loop-row.gains))
 
@@ -63,6 +64,6 @@ pub returns-clause-none : goal.returns-clause-none
 returns-clause-none c =
     no_extremes (moving_gains c.args.channel c.args.rows.now) c.loop-row.gains
     (sym (c.loop-row.invariant
-    ∙ ap (joined c.loop-row.gains) (extremes-behind c.args.channel c.args.rows.now
+    ∙ ap (joined_extremes c.loop-row.gains) (extremes-behind c.args.channel c.args.rows.now
     c.loop-row.row-index (omega (arith, c.loop-row-test.false)))
     ∙ joined-None c.loop-row.gains))

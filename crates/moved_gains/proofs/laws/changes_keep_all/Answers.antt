@@ -1,5 +1,5 @@
 -- The law, by the edits that make the changed file.
-use Rattle.moved_gains.proofs.KeptFile.{changes_kept}
+use Rattle.moved_gains.proofs.KeptFileLemmas.{changes_kept}
 use Rattle.moved_gains.proofs.laws.changes_keep_all.Goals as goal
 
 pub returns : goal.returns

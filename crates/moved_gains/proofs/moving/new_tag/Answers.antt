@@ -1,7 +1,7 @@
 -- The tag is within the file.
 use Rattle.std.proofs.Common.{arith}
-use Rattle.moved_gains.proofs.TagEnds.{tag_end-most}
-use Rattle.sync_survey.specs.Faults.{tells}
+use Rattle.moved_gains.proofs.TagEndLemmas.{tag_end-most}
+use Rattle.sync_survey.specs.Faults.{survey_view}
 use Rattle.moved_gains.proofs.moving.new_tag.Goals as goal
 
 pub overflow_add-result : goal.overflow_add-result
@@ -9,5 +9,5 @@ overflow_add-result c = omega (
   arith,
   c.tag_place-place.ensures.offset,
   c.tag_place-place.ensures.length,
-  tag_end-most (tells c.args.survey.now) c.requires,
+  tag_end-most (survey_view c.args.survey.now) c.requires,
 )

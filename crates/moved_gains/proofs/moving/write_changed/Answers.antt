@@ -2,20 +2,23 @@
 use Rattle.std.proofs.Common.{ap, append-nil, ap₂, arith, IfErr, length, List, Ok, Option, refl}
 use Rattle.std.proofs.Common.{rules, subst, sym, ℕ, [], ◌++◌, ◌∙◌, ◌≡◌}
 use Rattle.std.proofs.lemmas.Result.{err_from_is_err_and, on_ok_weaker}
-use Rattle.moved_gains.proofs.CourseLaws.{out_classed, out_few, out_numbered}
-use Rattle.moved_gains.proofs.MovingLaws.{survey_of-length, survey_of-rows}
-use Rattle.moved_gains.proofs.WrittenTag.{written-changed}
+use Rattle.moved_gains.proofs.CourseLemmas.{out_classed, out_few, out_numbered}
+use Rattle.moved_gains.proofs.MovingLemmas.{survey_of-length, survey_of-rows}
+use Rattle.moved_gains.proofs.WrittenTagLemmas.{written-changed}
 use Rattle.moved_gains.proofs.moving.write_changed.Goals.{In_ok-move_frames}
-use Rattle.moved_gains.specs.{Change.{change_in, changed}, Course.{AreNumbered, steps_over}}
-use Rattle.moved_gains.specs.Moving.{AreOfClass, AreRowsOf, copied, IsNewTag, written_from}
-use Rattle.moved_gains.specs.declared.{change.Change.Change as CodeChange, moving.NewTag.NewTag}
-use Rattle.outside.proofs.PassLaws.{cause_behind, causes_behind, part_behind_none, prefix_as}
-use Rattle.outside.proofs.PassLaws.{prefix_then, writes_all, writes_as, writes_behind_none}
-use Rattle.outside.proofs.PassLaws.{writes_end, writes_held, writes_then, writes_there}
-use Rattle.outside.{proofs.PassedLaws.{err_at, err_by}, specs.Pass.{HasPassCause, route, Writes}}
+use Rattle.moved_gains.specs.Change.{change_in, file_with_change}
+use Rattle.moved_gains.specs.Course.{AreRowsNumbered, steps_at_offset}
+use Rattle.moved_gains.specs.Moving.{AreFramesOfClass, AreRowsOf, bytes_written_from, copied_bytes}
+use Rattle.moved_gains.specs.{Moving.IsNewTag, declared.change.Change.Change as CodeChange}
+use Rattle.moved_gains.specs.declared.moving.NewTag.{NewTag}
+use Rattle.outside.proofs.BufferOutputLemmas.{err_at, err_by}
+use Rattle.outside.proofs.PassLemmas.{cause_behind, causes_behind, part_behind_none, prefix_as}
+use Rattle.outside.proofs.PassLemmas.{prefix_then, writes_all, writes_as, writes_behind_none}
+use Rattle.outside.proofs.PassLemmas.{writes_end, writes_held, writes_then, writes_there}
+use Rattle.outside.specs.Pass.{HasPassCause, route, WritesMadeBytes}
 use Rattle.requests.specs.declared.shift.Steps.{Steps}
-use Rattle.sync_survey.proofs.{StepLaws.laid_end, SurveyedFiles.survey_of-parts}
-use Rattle.sync_survey.specs.{Faults.{SurveyFields, tells}, Limits.most_frames, Row.Row}
+use Rattle.sync_survey.proofs.{StepLemmas.laid_end, SurveyedFileLemmas.survey_of-parts}
+use Rattle.sync_survey.specs.{Faults.{survey_view, SurveyFields}, Limits.most_frames, Row.Row}
 use Rattle.sync_survey.specs.Survey.{survey_of}
 use Rattle.moved_gains.proofs.moving.write_changed.Given as given
 use Rattle.moved_gains.proofs.moving.write_changed.Goals as goal
@@ -23,16 +26,16 @@ use Rattle.moved_gains.proofs.moving.write_changed.Goals as goal
 -- the bytes up to the junk, and those from the first frame on
 abbrev both : (ℕ → Steps) → Option NewTag → ℕ → ℕ → List Row → List ℕ → List ℕ
 both steps tag junk first rows file =
-    copied tag file 0 junk ++ written_from steps tag file first rows
+    copied_bytes tag file 0 junk ++ bytes_written_from steps tag file first rows
 
 are_changed : (change : CodeChange) (tag : Option NewTag) (file : List ℕ) (s : SurveyFields)
     (junk first : ℕ) (rows : List Row) → IsNewTag s (change_in change s) tag → junk ≡ s.junk
     → first ≡ s.first → rows ≡ s.frames → survey_of file most_frames ≡ Ok s
-    → both (steps_over change.course rows) tag junk first rows file
-    ≡ changed (change_in change s) file s
+    → both (steps_at_offset change.course rows) tag junk first rows file
+    ≡ file_with_change (change_in change s) file s
 are_changed change tag file s junk first rows new junk_is first_is rows_are surveyed =
-    ap (λ n. both (steps_over change.course rows) tag n first rows file) junk_is
-    ∙ ap₂ (λ n (l : List Row). both (steps_over change.course l) tag s.junk n l file) first_is
+    ap (λ n. both (steps_at_offset change.course rows) tag n first rows file) junk_is
+    ∙ ap₂ (λ n (l : List Row). both (steps_at_offset change.course l) tag s.junk n l file) first_is
     rows_are
     ∙ written-changed (change_in change s) tag file most_frames s new
     (survey_of-parts file most_frames s surveyed).1
@@ -42,7 +45,7 @@ copy-requires-clause-ready g c = record {
   apart = c.requires.apart;
   source = c.requires.source;
   target = c.requires.target;
-  length_is = λ file holds. survey_of-length file most_frames (tells c.args.survey.now)
+  length_is = λ file holds. survey_of-length file most_frames (survey_view c.args.survey.now)
       (c.requires.exact file holds) ∙ sym c.length.ensures;
   few = omega (arith, c.length.ensures, c.requires.laid.few);
   fed_from = c.requires.fresh.fed;
@@ -50,7 +53,7 @@ copy-requires-clause-ready g c = record {
 
 pub copy-requires-clause-within : goal.copy-requires-clause-within
 copy-requires-clause-within g c =
-    let s = tells c.args.survey.now in
+    let s = survey_view c.args.survey.now in
     omega (
       arith,
       c.length.ensures,
@@ -62,13 +65,13 @@ copy-requires-clause-within g c =
 pub returns-in_err-copy : goal.returns-in_err-copy
 returns-in_err-copy g c = record {
   written = search rules;
-  prefix = let s = tells c.args.survey.now in
+  prefix = let s = survey_view c.args.survey.now in
       let change = change_in c.args.change.now s in
       err_at c.from_residual.result _ c.from_residual.ensures.1
       (part_behind_none c.requires.fresh.none
       (prefix_as (record { input = c.args.input; output = c.args.output; length = c.length.result })
-      (λ file. changed change file s)
-      (λ file. written_from change.steps c.new_tag.result file s.first s.frames)
+      (λ file. file_with_change change file s)
+      (λ file. bytes_written_from change.steps c.new_tag.result file s.first s.frames)
       (λ file holds. sym (are_changed c.args.change.now c.new_tag.result file s
       c.junk-junk.result.0 s.first s.frames c.new_tag.ensures (ap (λ r. r.0) c.junk-junk.ensures)
       refl refl (c.requires.exact file holds)))
@@ -79,7 +82,7 @@ returns-in_err-copy g c = record {
 
 pub move_frames-requires-clause-told : goal.move_frames-requires-clause-told
 move_frames-requires-clause-told g c file holds =
-    let s = tells c.args.survey.now in
+    let s = survey_view c.args.survey.now in
     let held = writes_held _ c.requires.apart c.in_ok-copy.ensures.written file holds in
     subst (AreRowsOf file) (sym c.frames.ensures)
     (survey_of-rows file most_frames s (c.requires.exact file held))
@@ -87,16 +90,16 @@ move_frames-requires-clause-told g c file holds =
 pub returns-in_err-move_frames : goal.returns-in_err-move_frames
 returns-in_err-move_frames g c = record {
   written = search rules;
-  prefix = let s = tells c.args.survey.now in
+  prefix = let s = survey_view c.args.survey.now in
       let first = c.first.result in
       let rows = c.frames.result.now in
-      let parts = both (steps_over c.args.change.now.course rows)
+      let parts = both (steps_at_offset c.args.change.now.course rows)
       c.new_tag.result c.junk-junk.result.0 first rows in
       err_at c.from_residual-in_err-move_frames.result _
       c.from_residual-in_err-move_frames.ensures.1
       (part_behind_none c.requires.fresh.none
       (prefix_as (record { input = c.args.input; output = c.args.output; length = c.length.result })
-      (λ file. changed (change_in c.args.change.now s) file s) (λ file. [])
+      (λ file. file_with_change (change_in c.args.change.now s) file s) (λ file. [])
       (λ file holds. sym (append-nil (parts file)
       ∙ are_changed c.args.change.now _ file s _ first rows c.new_tag.ensures (ap (λ r. r.0)
       c.junk-junk.ensures) c.first.ensures c.frames.ensures (c.requires.exact file holds)))
@@ -120,15 +123,15 @@ finish-requires g c =
     (writes_there _ c.requires.apart c.in_ok-copy.ensures.written output c.requires.target)
 
 -- once the frames went on, what waits is the end of the changed file
-moved : (g : given.Over) (c : In_ok-move_frames g)
-    → Writes (record { input = c.args.input; output = c.args.output; length = c.length.result })
-    (λ file. changed (change_in c.args.change.now (tells c.args.survey.now)) file
-    (tells c.args.survey.now)) [] c.move_frames.new.buffers.waiting
+moved : (g : given.Over) (c : In_ok-move_frames g) → WritesMadeBytes
+    (record { input = c.args.input; output = c.args.output; length = c.length.result })
+    (λ file. file_with_change (change_in c.args.change.now (survey_view c.args.survey.now)) file
+    (survey_view c.args.survey.now)) [] c.move_frames.new.buffers.waiting
     (g.D.Folder.seen c.args.folder.now).files (g.D.Folder.seen c.move_frames.new.folder).files
 moved g c =
-    let s = tells c.args.survey.now in
+    let s = survey_view c.args.survey.now in
     writes_behind_none c.requires.fresh.none
-    (writes_as _ (λ file. changed (change_in c.args.change.now s) file s)
+    (writes_as _ (λ file. file_with_change (change_in c.args.change.now s) file s)
     (λ file holds. are_changed c.args.change.now c.new_tag.result file s c.junk-junk.result.0
     c.first.result c.frames.result.now c.new_tag.ensures (ap (λ r. r.0) c.junk-junk.ensures)
     c.first.ensures c.frames.ensures (c.requires.exact file holds))
@@ -152,19 +155,19 @@ returns g c = record {
 }
 
 pub move_frames-requires-clause-numbered : goal.move_frames-requires-clause-numbered
-move_frames-requires-clause-numbered g c = subst AreNumbered (sym c.frames.ensures)
-    (out_numbered (tells c.args.survey.now) c.requires.laid)
+move_frames-requires-clause-numbered g c = subst AreRowsNumbered (sym c.frames.ensures)
+    (out_numbered (survey_view c.args.survey.now) c.requires.laid)
 
 pub move_frames-requires-clause-few : goal.move_frames-requires-clause-few
 move_frames-requires-clause-few g c = omega (
   arith,
   ap length c.frames.ensures,
-  out_few (tells c.args.survey.now) c.requires.laid,
+  out_few (survey_view c.args.survey.now) c.requires.laid,
   c.requires.laid.few,
 )
 
 pub move_frames-requires-clause-classed : goal.move_frames-requires-clause-classed
 move_frames-requires-clause-classed g c =
-    let s = tells c.args.survey.now in
-    subst (λ class. AreOfClass class c.frames.result.now) (sym c.class.ensures)
-    (subst (AreOfClass s.class) (sym c.frames.ensures) (out_classed s c.requires.laid))
+    let s = survey_view c.args.survey.now in
+    subst (λ class. AreFramesOfClass class c.frames.result.now) (sym c.class.ensures)
+    (subst (AreFramesOfClass s.class) (sym c.frames.ensures) (out_classed s c.requires.laid))

@@ -1,5 +1,5 @@
 -- The same frames with the same main data.
-use Rattle.moved_gains.proofs.Retagged.{stream-retagged}
+use Rattle.moved_gains.proofs.RetaggedFileLemmas.{stream-retagged}
 use Rattle.moved_gains.proofs.tag_laws.same_stream.Goals as goal
 
 pub returns : goal.returns

@@ -1,13 +1,14 @@
 -- The block is within the file.
 use Rattle.std.proofs.Common.{arith, subst, sym, ◌∙◌}
-use Rattle.moved_gains.proofs.{FoundTag.tag-within, TagReadingLaws.told-length}
-use Rattle.outside.{proofs.PassedLaws.err_at, specs.Exact.HasReadCause}
-use Rattle.sync_survey.specs.Faults.{tells}
+use Rattle.moved_gains.proofs.{FoundTagLemmas.tag-within, TagReadingLemmas.told-length}
+use Rattle.outside.{proofs.BufferOutputLemmas.err_at, specs.ReadCauses.HasReadCause}
+use Rattle.sync_survey.specs.Faults.{survey_view}
 use Rattle.moved_gains.proofs.tag_reading.read_block.Goals as goal
 
 pub read_exact-requires-clause-found : goal.read_exact-requires-clause-found
 read_exact-requires-clause-found g c = λ bytes holds.
-    told-length c.args.name.now (g.D.Folder.seen c.args.folder.now).files (tells c.args.survey.now)
+    told-length c.args.name.now (g.D.Folder.seen c.args.folder.now).files
+    (survey_view c.args.survey.now)
     c.requires.found.known.surveyed c.args.piece.now c.requires.found.tag bytes holds
     ∙ sym c.length.ensures
 
@@ -15,7 +16,7 @@ pub read_exact-requires-clause-within : goal.read_exact-requires-clause-within
 read_exact-requires-clause-within g c =
     omega (
       arith,
-      tag-within (tells c.args.survey.now)
+      tag-within (survey_view c.args.survey.now)
           c.args.piece.now c.requires.found.known.laid c.requires.found.tag,
       c.length.ensures,
       c.deref_mut.ensures.len,

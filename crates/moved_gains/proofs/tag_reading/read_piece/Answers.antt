@@ -1,15 +1,16 @@
 -- The tag of the file is that of the block's bytes.
 use Rattle.std.proofs.Common.{ap, arith, length, refl, sym, ◌∙◌, ◌≡◌}
 use Rattle.std.proofs.lemmas.Result.{IfErr-weaker, IfOk-weaker}
-use Rattle.moved_gains.proofs.FoundTag.{tag-within}
-use Rattle.moved_gains.proofs.TagReadingLaws.{block-cause, block-tag, place-some, too_large-refused}
-use Rattle.sync_survey.specs.Faults.{tells}
+use Rattle.moved_gains.proofs.FoundTagLemmas.{tag-within}
+use Rattle.moved_gains.proofs.TagReadingLemmas.{block-cause, block-tag, place-some}
+use Rattle.moved_gains.proofs.TagReadingLemmas.{too_large-refused}
+use Rattle.sync_survey.specs.Faults.{survey_view}
 use Rattle.moved_gains.proofs.tag_reading.read_piece.Goals as goal
 
 pub returns-then-piece-gt-LONGEST_TAG-clause-cause :
     goal.returns-then-piece-gt-LONGEST_TAG-clause-cause
 returns-then-piece-gt-LONGEST_TAG-clause-cause g c =
-    let s = tells c.args.survey.now in
+    let s = survey_view c.args.survey.now in
     let b = c.args.piece.now in (
       too_large-refused c.args.name.now (g.D.Folder.seen c.args.folder.now).files s
           c.requires.known.surveyed b
@@ -23,7 +24,8 @@ pub tag_at_offset-requires-clause-place : goal.tag_at_offset-requires-clause-pla
 tag_at_offset-requires-clause-place g c =
     omega (
       arith,
-      tag-within (tells c.args.survey.now) c.args.piece.now c.requires.known.laid c.requires.tag,
+      tag-within (survey_view c.args.survey.now)
+          c.args.piece.now c.requires.known.laid c.requires.tag,
       c.requires.known.laid.few,
       c.deref.ensures.len,
       c.in_ok-block.ensures.length,
@@ -34,7 +36,8 @@ returns-clause-exact g c =
     let own = c.deref.result.now in
     let same : own ≡ c.in_ok-block.block.items = c.deref.ensures.value in
     IfOk-weaker c.tag_at_offset.result _ _
-    (block-tag c.args.name.now (g.D.Folder.seen c.args.folder.now).files (tells c.args.survey.now)
+    (block-tag c.args.name.now (g.D.Folder.seen c.args.folder.now).files
+    (survey_view c.args.survey.now)
     c.requires.known.surveyed c.args.piece.now c.requires.tag own (λ bytes holds. same
     ∙ c.in_ok-block.ensures.bytes bytes holds) (ap length same ∙ c.in_ok-block.ensures.length))
     c.tag_at_offset.ensures.tag
@@ -44,7 +47,8 @@ returns-clause-cause g c =
     let same : c.deref.result.now ≡ c.in_ok-block.block.items = c.deref.ensures.value in
     IfErr-weaker c.tag_at_offset.result _ _
     (λ fault cause.
-    block-cause c.args.name.now (g.D.Folder.seen c.args.folder.now).files (tells c.args.survey.now)
+    block-cause c.args.name.now (g.D.Folder.seen c.args.folder.now).files
+    (survey_view c.args.survey.now)
     c.requires.known.surveyed c.args.piece.now c.requires.tag c.deref.result.now
     (λ bytes holds. same ∙ c.in_ok-block.ensures.bytes bytes holds)
     (ap length same ∙ c.in_ok-block.ensures.length) (g.D.Folder.seen c.args.folder.now).counts

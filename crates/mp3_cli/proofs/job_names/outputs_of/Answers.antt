@@ -2,7 +2,7 @@
 -- or without.
 use Rattle.std.proofs.Common.{ap, Bool, false, List, map, refl, string_bytes, sym, true, ℕ, [], ◌∙◌}
 use Rattle.std.proofs.Common.{◌∷◌, ◌≡◌}
-use Rattle.job_words.specs.{Asked.{Join, SplitBy}, Code.asked, declared.jobs.Job.Job}
+use Rattle.job_words.specs.{Code.job_request, Request.{Join, SplitBy}, declared.jobs.Job.Job}
 use Rattle.mp3_cli.specs.Run.{command_of}
 use Rattle.requests.specs.Names.{piece_names}
 use Rattle.mp3_cli.proofs.job_names.outputs_of.Goals as goal
@@ -16,7 +16,7 @@ pub returns-in-SplitBy : goal.returns-in-SplitBy
 returns-in-SplitBy c =
     sym (split_outputs c.in-SplitBy.exact c.in-SplitBy.input.now c.in-SplitBy.prefix.now
     c.in-SplitBy.sheet.now)
-    ∙ ap (λ (job : Job). (command_of (asked job)).outputs) (sym c.in-SplitBy.is)
+    ∙ ap (λ (job : Job). (command_of (job_request job)).outputs) (sym c.in-SplitBy.is)
 
 joined_outputs : (seamless : Bool) (output : List ℕ) (inputs : List (List ℕ))
     → (command_of (Join seamless output inputs)).outputs ≡ output ∷ []
@@ -27,4 +27,4 @@ pub returns-in-Join : goal.returns-in-Join
 returns-in-Join c =
     let inputs = map string_bytes c.in-Join.inputs.now in
     sym (joined_outputs c.in-Join.seamless c.in-Join.output.now inputs)
-    ∙ ap (λ (job : Job). (command_of (asked job)).outputs) (sym c.in-Join.is)
+    ∙ ap (λ (job : Job). (command_of (job_request job)).outputs) (sym c.in-Join.is)

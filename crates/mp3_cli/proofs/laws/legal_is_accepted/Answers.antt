@@ -1,5 +1,5 @@
 -- Command by command.
-use Rattle.mp3_cli.proofs.LegalLaws.{legal-is-accepted}
+use Rattle.mp3_cli.proofs.LegalLemmas.{legal-is-accepted}
 use Rattle.mp3_cli.proofs.laws.legal_is_accepted.Goals as goal
 
 pub returns : goal.returns

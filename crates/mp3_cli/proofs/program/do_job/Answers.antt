@@ -1,14 +1,14 @@
 -- Texts that are said, and commands without a text.
 use Rattle.std.proofs.Common.{Bool, false, List, rules, Some, true, ℕ, [], ◌≢◌}
-use Rattle.drill.{proofs.PackedLaws.drill_text-some, specs.Drilled.drill_text}
-use Rattle.job_words.specs.Asked.{SplitBy}
+use Rattle.drill.{proofs.PackedLemmas.drill_text-some, specs.Drilled.drill_text}
+use Rattle.job_words.specs.Request.{SplitBy}
 use Rattle.list_edits.specs.{InfoText.info_of, Listing.listing}
-use Rattle.mp3_cli.proofs.RunLaws.{IsSilent, one_silent, run_ends, said_ends, sent_alone}
-use Rattle.mp3_cli.{proofs.RunLaws.{split_silent, text_ends, told_ends}, specs.Run.command_of}
-use Rattle.outside.proofs.CountsLaws.{none_fell_by_reads}
+use Rattle.mp3_cli.proofs.RunLemmas.{IsSilent, one_silent, run_ends, said_ends, sent_alone}
+use Rattle.mp3_cli.{proofs.RunLemmas.{split_silent, text_ends, told_ends}, specs.Run.command_of}
+use Rattle.outside.proofs.CountsLemmas.{none_fell_by_reads}
 use Rattle.program_texts.specs.Texts.{help_text, version_text}
-use Rattle.split_edits.specs.Split.{split_at_command, split_exact_at_command, told_by}
-use Rattle.split_edits.specs.Split.{told_exact_by}
+use Rattle.split_edits.specs.Split.{sheet_cutting, sheet_exact_cutting, split_at_command}
+use Rattle.split_edits.specs.Split.{split_exact_at_command}
 use Rattle.mp3_cli.proofs.program.do_job.Goals as goal
 
 some_help : Some help_text ≢ Some []
@@ -22,8 +22,8 @@ some_version e = absurd cc
 -- to a frame or to a sample, a split by a sheet says nothing
 sheet_silent : (exact : Bool) (input prefix sheet : List ℕ)
     → IsSilent (command_of (SplitBy exact input prefix sheet))
-sheet_silent false input prefix sheet = split_silent (told_by sheet) prefix input
-sheet_silent true input prefix sheet = split_silent (told_exact_by sheet) prefix input
+sheet_silent false input prefix sheet = split_silent (sheet_cutting sheet) prefix input
+sheet_silent true input prefix sheet = split_silent (sheet_exact_cutting sheet) prefix input
 
 pub returns-in-Help-clause-ends : goal.returns-in-Help-clause-ends
 returns-in-Help-clause-ends g c =

@@ -1,6 +1,6 @@
 -- Nothing is sent where the command was done.
 use Rattle.std.proofs.Common.{sym}
-use Rattle.mp3_cli.proofs.RunLaws.{sent_no_line}
+use Rattle.mp3_cli.proofs.RunLemmas.{sent_no_line}
 use Rattle.mp3_cli.proofs.program.report.Goals as goal
 
 pub returns-in-Ok-clause-line : goal.returns-in-Ok-clause-line

@@ -1,20 +1,21 @@
 -- A bad word is refused, or its job was done.
 use Rattle.std.{proofs.Common.{ap, map, refl, string_bytes, subst, sym, ◌∙◌}, specs.Prelude.IfOk}
-use Rattle.job_words.specs.{Code.{answer, asked}, Words.IsSound}
-use Rattle.mp3_cli.proofs.ProgramRuns.{command_ran, word_refused}
-use Rattle.outside.proofs.CountsLaws.{none_fell_same}
+use Rattle.job_words.specs.{Code.{job_request, request_result}, Words.IsSoundRequest}
+use Rattle.mp3_cli.proofs.ProgramRunLemmas.{command_ran, word_refused}
+use Rattle.outside.proofs.CountsLemmas.{none_fell_same}
 use Rattle.mp3_cli.proofs.program.run.Goals as goal
 
 pub returns-in-Err : goal.returns-in-Err
 returns-in-Err g c =
     word_refused (map string_bytes c.args.words.now)
-    c.in-Err.word (sym c.job.ensures.exact ∙ ap answer c.in-Err.is) _ _
+    c.in-Err.word (sym c.job.ensures.exact ∙ ap request_result c.in-Err.is) _ _
     (record { status_is = refl; line = c.send_bad_word.ensures; silent = refl; stays = refl })
     (none_fell_same _)
 
 pub returns-in-Ok : goal.returns-in-Ok
 returns-in-Ok g c =
-    command_ran (map string_bytes c.args.words.now) (asked c.in-Ok.job) (sym c.job.ensures.exact
-    ∙ ap answer c.in-Ok.is) (subst (λ r. IfOk r (λ job. IsSound (asked job)))
+    command_ran (map string_bytes c.args.words.now) (job_request c.in-Ok.job)
+    (sym c.job.ensures.exact
+    ∙ ap request_result c.in-Ok.is) (subst (λ r. IfOk r (λ job. IsSoundRequest (job_request job)))
     c.in-Ok.is c.job.ensures.sound) _ _ _ c.run_job.ensures.answers
     c.run_job.ensures.streams c.run_job.ensures.counts

@@ -1,7 +1,7 @@
 -- The line names the files of the job, and the status is that of the fault.
 use Rattle.std.proofs.Common.{ap, Bor, List, map, sym, ℕ, ◌∙◌}
-use Rattle.commands.specs.Said.{fault_of}
-use Rattle.mp3_cli.proofs.RunLaws.{done_where_zero}
+use Rattle.commands.specs.SentText.{answer_fault}
+use Rattle.mp3_cli.proofs.RunLemmas.{done_where_zero}
 use Rattle.mp3_cli.proofs.program.run_job.Goals as goal
 
 pub returns-clause-answers : goal.returns-clause-answers
@@ -9,7 +9,7 @@ returns-clause-answers g c =
     let inputs = ap (map (λ (name : Bor (List ℕ)). name.now)) c.as_slice.ensures.value
     ∙ c.inputs_of-inputs.ensures in
     record {
-      fault = fault_of c.do_job-done.result;
+      fault = answer_fault c.do_job-done.result;
       ends = c.do_job-done.ensures.ends;
       status_is = c.report.ensures.status;
       line = rw (inputs, c.outputs_of-outputs.ensures) at c.report.ensures.line;

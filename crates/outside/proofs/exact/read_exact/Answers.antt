@@ -1,7 +1,7 @@
 -- Where the files are told, all bytes come.
 use Rattle.std.proofs.Common.{ap, arith, drop, length, refl, rules, sym, take, ◌<◌, ◌∙◌}
 use Rattle.std.proofs.lemmas.List.{take_all}
-use Rattle.outside.proofs.FilesLaws.{nothing_told}
+use Rattle.outside.proofs.FilesLemmas.{nothing_told}
 use Rattle.outside.proofs.exact.read_exact.Goals as goal
 
 pub returns-in-Ok : goal.returns-in-Ok

@@ -1,7 +1,7 @@
 -- What is kept is what was held from an offset on, so it is what is there in the file.
 use Rattle.std.proofs.Common.{ap, arith, drop, sym, take, ◌+◌, ◌-◌, ◌∙◌, ◌≡◌}
 use Rattle.std.proofs.lemmas.List.{drop-drop, drop-take}
-use Rattle.outside.proofs.FeedLaws.{moved_front}
+use Rattle.outside.proofs.FeedLemmas.{moved_front}
 use Rattle.outside.proofs.feed.keep_from.Goals as goal
 
 pub returns-clause-whole : goal.returns-clause-whole

@@ -1,7 +1,7 @@
 use Rattle.std.proofs.Common.{ap, arith, drop, inl, length, length-drop, rules, subst, sym, take}
 use Rattle.std.proofs.{Common.{◌-◌, ◌∙◌, ◌≡◌}, lemmas.List.drop-drop}
-use Rattle.outside.proofs.Pieces.{drop_refilled, drop_unread, front_kept, length_refilled}
-use Rattle.outside.{proofs.Pieces.{part_from, take_refilled}, specs.Files.Holds}
+use Rattle.outside.proofs.PieceLemmas.{drop_refilled, drop_unread, front_kept, length_refilled}
+use Rattle.outside.{proofs.PieceLemmas.{part_from, take_refilled}, specs.Files.Holds}
 use Rattle.outside.proofs.helpers.read_on.Goals as goal
 
 pub loop-done-preserved : goal.loop-done-preserved

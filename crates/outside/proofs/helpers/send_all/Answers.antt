@@ -1,5 +1,5 @@
 use Rattle.std.proofs.Common.{arith, length-drop, refl, sym, ◌∙◌}
-use Rattle.outside.proofs.{FilesLaws.sent_nothing, Pieces.{part_from, sent_then}}
+use Rattle.outside.proofs.{FilesLemmas.sent_nothing, PieceLemmas.{part_from, sent_then}}
 use Rattle.outside.proofs.helpers.send_all.Goals as goal
 
 pub loop-done-init : goal.loop-done-init

@@ -1,6 +1,7 @@
 use Rattle.std.proofs.Common.{arith, length-drop, refl, subst, sym, take, ◌+◌, ◌∙◌, ◌≡◌}
-use Rattle.outside.proofs.FilesLaws.{appended_nothing, appended_there}
-use Rattle.outside.{proofs.Pieces.{appended_then, part_from}, specs.Files.{appended, IsThere}}
+use Rattle.outside.proofs.FilesLemmas.{appended_nothing, appended_there}
+use Rattle.outside.proofs.PieceLemmas.{appended_then, part_from}
+use Rattle.outside.specs.Files.{IsFileThere, with_appended_bytes}
 use Rattle.outside.proofs.helpers.write_all.Goals as goal
 
 pub loop-done-init : goal.loop-done-init
@@ -16,7 +17,8 @@ loop-done-preserved g c =
     let seen = g.D.Folder.seen in
     let bytes = c.args.bytes.now in
     let name = c.args.name.now in
-    let written : (seen c.write.new.self).files ≡ appended (seen c.args.folder.now).files name
+    let written : (seen c.write.new.self).files
+    ≡ with_appended_bytes (seen c.args.folder.now).files name
     (take (c.loop-done.done + c.in_ok-done.field-0) bytes) =
     appended_then _ _ _ name bytes _ _
     c.loop-done.invariant.written (rw part_from at c.in_ok-done.ensures.answer.written) in
@@ -27,6 +29,6 @@ loop-done-preserved g c =
         length-drop c.loop-done.done bytes,
       );
       written = written;
-      there = subst (λ f. IsThere f name) (sym written) (appended_there _ name _);
+      there = subst (λ f. IsFileThere f name) (sym written) (appended_there _ name _);
       counts = c.in_ok-done.ensures.answer.done ∙ c.loop-done.invariant.counts;
     }

@@ -1,5 +1,5 @@
 use Rattle.std.proofs.Common.{rules}
-use Rattle.outside.proofs.PassedLaws.{on_err, prefix_of_front}
+use Rattle.outside.proofs.BufferOutputLemmas.{on_err, prefix_of_front}
 use Rattle.outside.proofs.write_buffer.write_whole.Goals as goal
 
 pub returns-in_err-write_all : goal.returns-in_err-write_all

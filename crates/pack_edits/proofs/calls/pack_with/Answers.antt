@@ -1,5 +1,5 @@
 -- What the one body asks of the command.
-use Rattle.pack_edits.proofs.{ModeLaws.mode_proper, PackedLengths.run-fewest}
+use Rattle.pack_edits.proofs.{ModeLemmas.mode_proper, PackedLengthLemmas.run-fewest}
 use Rattle.pack_edits.proofs.calls.pack_with.Goals as goal
 
 pub make_one-requires-clause-proper : goal.make_one-requires-clause-proper

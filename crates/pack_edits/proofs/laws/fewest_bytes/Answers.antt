@@ -1,5 +1,5 @@
 -- Files of the same frames differ in the lengths of their slots alone.
-use Rattle.pack_edits.proofs.PackedLengths.{bytes-fewest}
+use Rattle.pack_edits.proofs.PackedLengthLemmas.{bytes-fewest}
 use Rattle.pack_edits.proofs.laws.fewest_bytes.Goals as goal
 
 pub returns : goal.returns

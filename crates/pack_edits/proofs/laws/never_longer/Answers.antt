@@ -1,5 +1,5 @@
 -- The plan of the plain packing is one of those among which the best is the shortest.
-use Rattle.pack_edits.proofs.PackedLengths.{longer-never}
+use Rattle.pack_edits.proofs.PackedLengthLemmas.{longer-never}
 use Rattle.pack_edits.proofs.laws.never_longer.Goals as goal
 
 pub returns : goal.returns

@@ -2,42 +2,43 @@
 use Rattle.std.proofs.Common.{ap, arith, inl, inr, length, List, map, None, Ok, refl, subst, sym, ℕ}
 use Rattle.std.proofs.{Common.{◌∙◌, ◌≡◌, ◌≤◌, ◌⊎◌}, lemmas.List.length-map}
 use Rattle.best_plan.specs.Best.{IsBestPlan}
-use Rattle.cut_edits.proofs.ChosenLaws.{plan_is, rows-fit}
-use Rattle.cut_edits.specs.Chosen.{chosen_in, chosen_rows, needs_of}
+use Rattle.cut_edits.proofs.ChosenLemmas.{plan_is, rows-fit}
+use Rattle.cut_edits.specs.Chosen.{chosen_in, chosen_needs, chosen_rows}
 use Rattle.frame_header.specs.{Fields.ClassFields, Tables.window_of}
 use Rattle.laying.specs.{Needs.need_of, NeedsFit.any_choice}
-use Rattle.pack_edits.proofs.BestLaws.{best-answer, needs-feasible, needs-of-one}
-use Rattle.pack_edits.proofs.ModeLaws.{allowed-most}
-use Rattle.pack_edits.proofs.PlanLaws.{given-needs, IsNamed, menu-fault, menu-plan, needs-some}
-use Rattle.pack_edits.{proofs.PlanLaws.{rows-few, rows-same}, specs.Answers.IsPlanFault}
-use Rattle.pack_edits.specs.{Modes.{allowed_by, plan_by, refuses_by}, Rates.{menu_in, no_rate}}
+use Rattle.pack_edits.proofs.BestLemmas.{best-answer, needs-feasible, needs-of-one}
+use Rattle.pack_edits.proofs.ModeLemmas.{allowed-most}
+use Rattle.pack_edits.proofs.PlanLemmas.{given-needs, IsNamed, menu-fault, menu-plan, needs-some}
+use Rattle.pack_edits.{proofs.PlanLemmas.{rows-few, rows-same}, specs.Answers.IsPlanFault}
+use Rattle.pack_edits.specs.Modes.{allowed_frames, mode_planning, mode_refuses}
+use Rattle.pack_edits.specs.Rates.{menu_in, no_rate}
 use Rattle.rate_plan.specs.LeastMenuPlan.{IsMenuFault, least_menu_plan}
 use Rattle.requests.specs.declared.mode.PackMode.{PackMode, TheVariants.{Constant, Floor}}
-use Rattle.slot_plan.specs.Layouts.{IsFeasible}
-use Rattle.slot_plan.specs.{Parts.{AreOfClass, AreOfOneClass, own_frame, window_in}, Plans.entries}
-use Rattle.slot_plan.specs.declared.needs.Need.{Need}
-use Rattle.sync_survey.specs.Faults.{tells}
+use Rattle.slot_plan.specs.Layouts.{HasLayout}
+use Rattle.slot_plan.specs.Parts.{AreNeedsOfClass, AreNeedsOfOneClass, own_frame, window_in}
+use Rattle.slot_plan.specs.{Plans.entries, declared.needs.Need.Need}
+use Rattle.sync_survey.specs.Faults.{survey_view}
 use Rattle.pack_edits.proofs.plans.plan_by.Goals as goal
 
 pub plan-requires-clause-planned : goal.plan-requires-clause-planned
 plan-requires-clause-planned c =
-    let s = tells c.args.survey.now in
+    let s = survey_view c.args.survey.now in
     let chosen = chosen_in c.args.chosen.now in
     rw (c.needs-needs.ensures, c.places.ensures, c.in_ok-parts.ensures.parts)
     (rows-fit chosen s c.requires.laid.placed c.requires.some c.requires.within).planned
 
 pub best-requires-clause-class : goal.best-requires-clause-class
 best-requires-clause-class c =
-    let s = tells c.args.survey.now in
+    let s = survey_view c.args.survey.now in
     let chosen = chosen_in c.args.chosen.now in
     let given = given-needs (chosen_rows chosen s) c.in_ok-parts.parts c.needs-needs.result.now
     c.in_ok-parts.ensures.parts c.needs-needs.ensures in
-    subst AreOfOneClass (sym given)
+    subst AreNeedsOfOneClass (sym given)
     (needs-of-one chosen s c.requires.laid.placed c.requires.some c.requires.within)
 
 pub best-requires-clause-some : goal.best-requires-clause-some
 best-requires-clause-some c =
-    let s = tells c.args.survey.now in
+    let s = survey_view c.args.survey.now in
     let chosen = chosen_in c.args.chosen.now in
     let given = given-needs (chosen_rows chosen s) c.in_ok-parts.parts c.needs-needs.result.now
     c.in_ok-parts.ensures.parts c.needs-needs.ensures in
@@ -49,11 +50,11 @@ best-requires-clause-some c =
 
 pub best-requires-clause-few : goal.best-requires-clause-few
 best-requires-clause-few c =
-    let s = tells c.args.survey.now in
+    let s = survey_view c.args.survey.now in
     let chosen = chosen_in c.args.chosen.now in
     let given = given-needs (chosen_rows chosen s) c.in_ok-parts.parts c.needs-needs.result.now
     c.in_ok-parts.ensures.parts c.needs-needs.ensures in
-    let few = subst (λ mode. length s.frames ≤ allowed_by mode) c.in-Best.is c.requires.few in
+    let few = subst (λ mode. length s.frames ≤ allowed_frames mode) c.in-Best.is c.requires.few in
     omega (
       arith,
       few,
@@ -64,26 +65,26 @@ best-requires-clause-few c =
 
 pub best-requires-clause-feasible : goal.best-requires-clause-feasible
 best-requires-clause-feasible c =
-    let s = tells c.args.survey.now in
+    let s = survey_view c.args.survey.now in
     let chosen = chosen_in c.args.chosen.now in
     let given = given-needs (chosen_rows chosen s) c.in_ok-parts.parts c.needs-needs.result.now
     c.in_ok-parts.ensures.parts c.needs-needs.ensures in
-    subst (λ (l : List Need). IsFeasible (window_in l) (window_in l) (map own_frame l)) (sym given)
+    subst (λ (l : List Need). HasLayout (window_in l) (window_in l) (map own_frame l)) (sym given)
     (needs-feasible chosen s c.requires.laid.placed c.requires.some c.requires.within)
 
 pub plan_menu-requires-clause-class : goal.plan_menu-requires-clause-class
 plan_menu-requires-clause-class c =
-    let s = tells c.args.survey.now in
+    let s = survey_view c.args.survey.now in
     let chosen = chosen_in c.args.chosen.now in
     let given = given-needs (chosen_rows chosen s) c.in_ok-parts.parts c.needs-needs.result.now
     c.in_ok-parts.ensures.parts c.needs-needs.ensures in
-    subst (AreOfClass c.class-class.result) (sym given)
-    (subst (λ k. AreOfClass k (needs_of chosen s)) (sym c.class-class.ensures)
+    subst (AreNeedsOfClass c.class-class.result) (sym given)
+    (subst (λ k. AreNeedsOfClass k (chosen_needs chosen s)) (sym c.class-class.ensures)
     (rows-same chosen s c.requires.laid.placed c.requires.some c.requires.within))
 
 pub plan_menu-requires-clause-some : goal.plan_menu-requires-clause-some
 plan_menu-requires-clause-some c =
-    let s = tells c.args.survey.now in
+    let s = survey_view c.args.survey.now in
     let chosen = chosen_in c.args.chosen.now in
     let given = given-needs (chosen_rows chosen s) c.in_ok-parts.parts c.needs-needs.result.now
     c.in_ok-parts.ensures.parts c.needs-needs.ensures in
@@ -95,7 +96,7 @@ plan_menu-requires-clause-some c =
 
 pub plan_menu-requires-clause-few : goal.plan_menu-requires-clause-few
 plan_menu-requires-clause-few c =
-    let s = tells c.args.survey.now in
+    let s = survey_view c.args.survey.now in
     let chosen = chosen_in c.args.chosen.now in
     let given = given-needs (chosen_rows chosen s) c.in_ok-parts.parts c.needs-needs.result.now
     c.in_ok-parts.ensures.parts c.needs-needs.ensures in
@@ -110,24 +111,25 @@ plan_menu-requires-clause-few c =
 
 pub returns-in-Least : goal.returns-in-Least
 returns-in-Least c =
-    let s = tells c.args.survey.now in
+    let s = survey_view c.args.survey.now in
     let chosen = chosen_in c.args.chosen.now in
     let plan = c.in_ok-plan-in-Least in
     let asked =
     rw (c.needs-needs.ensures, c.places.ensures, c.in_ok-parts.ensures.parts) at plan.ensures in
-    subst (λ mode. plan_by mode s.class (needs_of chosen s) ≡ Ok (entries plan.plan))
+    subst (λ mode. mode_planning mode s.class (chosen_needs chosen s) ≡ Ok (entries plan.plan))
     (sym c.in-Least.is)
     (ap Ok (sym (plan_is chosen s c.requires.laid.placed c.requires.some c.requires.within
     any_choice (inr refl) (entries plan.plan) asked.plan)))
 
 pub returns-in-Best : goal.returns-in-Best
 returns-in-Best c =
-    let s = tells c.args.survey.now in
+    let s = survey_view c.args.survey.now in
     let chosen = chosen_in c.args.chosen.now in
     let shortest = c.in_ok-shortest-in-Best in
     let given = given-needs (chosen_rows chosen s) c.in_ok-parts.parts c.needs-needs.result.now
     c.in_ok-parts.ensures.parts c.needs-needs.ensures in
-    subst (λ mode. plan_by mode s.class (needs_of chosen s) ≡ Ok (entries shortest.shortest))
+    subst (λ mode. mode_planning mode s.class (chosen_needs chosen s)
+    ≡ Ok (entries shortest.shortest))
     (sym c.in-Best.is)
     (best-answer chosen s
     c.requires.laid.placed c.requires.some c.requires.within (entries shortest.shortest)
@@ -141,7 +143,7 @@ named-in mode (inr floor) = subst IsNamed (sym floor.1) tt
 
 pub returns-in-Ok : goal.returns-in-Ok
 returns-in-Ok c =
-    let s = tells c.args.survey.now in
+    let s = survey_view c.args.survey.now in
     let chosen = chosen_in c.args.chosen.now in
     let given = given-needs (chosen_rows chosen s) c.in_ok-parts.parts c.needs-needs.result.now
     c.in_ok-parts.ensures.parts c.needs-needs.ensures in
@@ -156,13 +158,14 @@ returns-in-Ok c =
 
 pub returns : goal.returns
 returns c =
-    let s = tells c.args.survey.now in
+    let s = survey_view c.args.survey.now in
     let chosen = chosen_in c.args.chosen.now in
     let given = given-needs (chosen_rows chosen s) c.in_ok-parts.parts c.needs-needs.result.now
     c.in_ok-parts.ensures.parts c.needs-needs.ensures in
     let none : no_rate c.args.mode s.class ≡ None = subst (λ k. no_rate c.args.mode k ≡ None)
     c.class-class.ensures (sym c.no_rate.ensures ∙ c.in_default.is) in
-    subst (IsPlanFault (plan_by c.args.mode) (refuses_by c.args.mode) s.class (needs_of chosen s))
+    subst (IsPlanFault (mode_planning c.args.mode)
+    (mode_refuses c.args.mode) s.class (chosen_needs chosen s))
     (sym c.of_rate.ensures)
     (menu-fault chosen s c.requires.laid.placed c.requires.some c.requires.within c.args.mode
     c.in-Err.fault (named-in c.args.mode c.in-Constant.is) none

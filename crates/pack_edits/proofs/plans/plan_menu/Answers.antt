@@ -1,7 +1,7 @@
 -- The frames are of one class, and the menu has a slot.
 use Rattle.std.proofs.Common.{ap, arith, length, ◌∙◌}
-use Rattle.laying.proofs.PartsLaws.{one_class}
-use Rattle.pack_edits.proofs.{MenuLaws.menu-some, PlanLaws.{is-menu, planner-says}}
+use Rattle.laying.proofs.PartsLemmas.{one_class}
+use Rattle.pack_edits.proofs.{MenuLemmas.menu-some, PlanLemmas.{is-menu, planner-says}}
 use Rattle.pack_edits.proofs.plans.plan_menu.Goals as goal
 
 pub rate_plan-requires-clause-class : goal.rate_plan-requires-clause-class

@@ -1,6 +1,6 @@
 //! `rate_plan`, called once it is seen that it may be.
 ghost use Rattle.std.specs.Prelude.{◌≡◌, ◌<◌, ◌≤◌, IsTrue, AllPairs, length};
-ghost use Rattle.slot_plan.specs.Parts.{areas_with};
+ghost use Rattle.slot_plan.specs.Parts.{slot_areas};
 ghost use Rattle.rate_plan.specs.Menus.{IsMenu};
 
 use crate::tests::checked::are_of_one_class;
@@ -13,7 +13,7 @@ use std::process::Abort;
 
 /// Whether each area is greater than the one before.
 fn ascend(class: Class, protected: bool, menu: &[Slot]) -> bool
-    ensures { IsTrue result → AllPairs (λ m n. m < n) (areas_with class protected menu.now) }
+    ensures { IsTrue result → AllPairs (λ m n. m < n) (slot_areas class protected menu.now) }
 {
     for i in 1..menu.len() {
         if class.area_of(menu[i - 1], protected) >= class.area_of(menu[i], protected) {

@@ -1,5 +1,5 @@
 -- The line was sent, or a prefix of it.
-use Rattle.program_texts.proofs.Lines.{got_either, spelled_parts}
+use Rattle.program_texts.proofs.LineLemmas.{got_either, spelled_parts}
 use Rattle.program_texts.proofs.parts.send_line.Goals as goal
 
 pub returns : goal.returns

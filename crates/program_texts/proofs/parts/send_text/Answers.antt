@@ -1,7 +1,7 @@
 -- A text that was sent, and one that failed.
 use Rattle.std.proofs.Common.{arith, []}
-use Rattle.outside.proofs.PassedLaws.{on_err}
-use Rattle.program_texts.proofs.Lines.{got_front, got_more, got_nothing}
+use Rattle.outside.proofs.BufferOutputLemmas.{on_err}
+use Rattle.program_texts.proofs.LineLemmas.{got_front, got_more, got_nothing}
 use Rattle.program_texts.proofs.parts.send_text.Goals as goal
 
 pub loop-piece-init : goal.loop-piece-init

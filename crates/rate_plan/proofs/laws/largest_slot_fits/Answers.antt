@@ -1,5 +1,5 @@
 -- No area is larger than that of the largest slot.
-use Rattle.rate_plan.proofs.LargestLaw.{largest-fits}
+use Rattle.rate_plan.proofs.LargestSlotLemmas.{largest-fits}
 use Rattle.rate_plan.proofs.laws.largest_slot_fits.Goals as goal
 
 pub returns : goal.returns

@@ -1,5 +1,5 @@
 -- The plan from a menu is that of the first list.
-use Rattle.rate_plan.proofs.LeastMenuPlan.{least_menu_plan-is}
+use Rattle.rate_plan.proofs.LeastMenuPlanLemmas.{least_menu_plan-is}
 use Rattle.rate_plan.proofs.laws.least_menu_plan_is_the_plan.Goals as goal
 
 pub returns : goal.returns

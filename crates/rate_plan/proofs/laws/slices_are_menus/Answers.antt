@@ -1,5 +1,5 @@
 -- Slots side by side.
-use Rattle.rate_plan.proofs.MenuLaws.{slices-menus}
+use Rattle.rate_plan.proofs.MenuLemmas.{slices-menus}
 use Rattle.rate_plan.proofs.laws.slices_are_menus.Goals as goal
 
 pub returns : goal.returns

@@ -1,9 +1,10 @@
 -- The frames are one part.
 use Rattle.std.proofs.Common.{arith, false, map, subst, sym}
 use Rattle.frame_header.specs.Tables.{window_of}
-use Rattle.rate_plan.proofs.FitLaws.{laid-feasible, top_frame}
-use Rattle.rate_plan.{proofs.PlacingLaws.{menu-part, window-most}, specs.Menus.IsMenuPlan}
-use Rattle.slot_plan.specs.{Layouts.IsFeasible, Parts.{areas_with, AreOfClass}, Reserve.greatest}
+use Rattle.rate_plan.proofs.FitLemmas.{laid-feasible, top_frame}
+use Rattle.rate_plan.{proofs.PlacingLemmas.{menu-part, window-most}, specs.Menus.IsMenuPlan}
+use Rattle.slot_plan.specs.{Layouts.HasLayout, Parts.{AreNeedsOfClass, slot_areas}}
+use Rattle.slot_plan.specs.Reserve.{greatest_number}
 use Rattle.rate_plan.proofs.planning.fit_plan.Goals as goal
 
 pub place_part-requires : goal.place_part-requires
@@ -17,17 +18,18 @@ place_part-requires c =
     c.requires.needs.class_is c.requires.needs.some c.requires.fits in
     record {
       table = record {
-        class = subst (λ k. AreOfClass k needs) same c.requires.needs.class_is;
+        class = subst (λ k. AreNeedsOfClass k needs) same c.requires.needs.class_is;
         of_slots = c.in_ok-table.ensures.of_slots;
       };
       part = record {
         some = omega (arith, c.requires.needs.some);
         most = omega (arith, c.window.ensures.window, window-most class.version);
         feasible =
-            subst (λ w. IsFeasible w (greatest (areas_with c.in_ok-table.table.lengths false menu))
+            subst (λ w. HasLayout w
+            (greatest_number (slot_areas c.in_ok-table.table.lengths false menu))
             frames) (sym c.window.ensures.window)
-            (subst (λ k. IsFeasible (window_of class.version)
-            (greatest (areas_with k false menu)) frames) same feasible);
+            (subst (λ k. HasLayout (window_of class.version)
+            (greatest_number (slot_areas k false menu)) frames) same feasible);
       };
       free = omega arith;
     }

@@ -1,7 +1,7 @@
 -- The first unfit frame, or the plan.
 use Rattle.std.proofs.Common.{rules}
-use Rattle.rate_plan.proofs.LeastMenuPlan.{plan-answered, unfit-answered}
-use Rattle.slot_plan.{proofs.PartLaws.one-class, specs.Plans.entries}
+use Rattle.rate_plan.proofs.LeastMenuPlanLemmas.{plan-answered, unfit-answered}
+use Rattle.slot_plan.{proofs.PartLemmas.one-class, specs.Plans.entries}
 use Rattle.rate_plan.proofs.planning.rate_plan.Goals as goal
 
 pub first_unfit-requires-clause-needs : goal.first_unfit-requires-clause-needs

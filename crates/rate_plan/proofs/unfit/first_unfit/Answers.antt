@@ -1,8 +1,9 @@
 -- One frame more, and the first that doesn't fit.
 use Rattle.std.proofs.Common.{ap, arith, false, subst, true, ◌∙◌, ◌≡◌}
-use Rattle.rate_plan.proofs.FitLaws.{area-at, most_area, to-all, to-begun, to-more, to-unfit}
-use Rattle.rate_plan.specs.{LargestAreas.largest_for, Menus.{CanBeLaidFrom, IsUnfit}}
-use Rattle.slot_plan.specs.Reserve.{free_behind}
+use Rattle.rate_plan.proofs.FitLemmas.{area-at, most_area, to-all, to-begun, to-more, to-unfit}
+use Rattle.rate_plan.specs.LargestAreas.{menu_largest_area}
+use Rattle.rate_plan.specs.Menus.{CanBeLaidFromMenu, IsFirstUnfitFrame}
+use Rattle.slot_plan.specs.Reserve.{free_bytes_behind}
 use Rattle.rate_plan.proofs.unfit.first_unfit.Goals as goal
 
 pub loop-i-init : goal.loop-i-init
@@ -10,7 +11,7 @@ loop-i-init c = record {
   free = c.free_behind-free.ensures.within;
   fit = to-begun c.window-window.result c.args.class c.args.menu.now c.args.needs.now
       c.free_behind-free.result
-      (c.free_behind-free.ensures.free ∙ ap (λ n. free_behind c.window-window.result 0 0 n)
+      (c.free_behind-free.ensures.free ∙ ap (λ n. free_bytes_behind c.window-window.result 0 0 n)
       (c.area.ensures ∙ c.of_menu-largest.ensures.are false));
 }
 
@@ -19,11 +20,11 @@ returns-then-need-free c =
     let need = c.index-needs-i.result in
     let area : c.area-area.result ≡ most_area c.args.menu.now need =
     c.area-area.ensures
-    ∙ ap (λ n. largest_for c.of_menu-largest.result n.header.protected) c.need.view_is
+    ∙ ap (λ n. menu_largest_area c.of_menu-largest.result n.header.protected) c.need.view_is
     ∙ c.of_menu-largest.ensures.are need.header.protected
     ∙ area-at c.args.class c.args.menu.now c.args.needs.now c.loop-i.i need
     c.requires.needs.class_is c.loop-i-test.true c.index-needs-i.is in
-    subst (λ n. IsUnfit n c.args.menu.now c.args.needs.now c.loop-i.i)
+    subst (λ n. IsFirstUnfitFrame n c.args.menu.now c.args.needs.now c.loop-i.i)
     c.window-window.ensures.window
     (to-unfit c.window-window.result c.args.class c.args.menu.now c.args.needs.now c.loop-i.i need
     c.loop-i.free c.loop-i-test.true c.index-needs-i.is
@@ -35,7 +36,7 @@ loop-i-preserved c =
     let need = c.index-needs-i.result in
     let area : c.area-area.result ≡ most_area c.args.menu.now need =
     c.area-area.ensures
-    ∙ ap (λ n. largest_for c.of_menu-largest.result n.header.protected) c.need.view_is
+    ∙ ap (λ n. menu_largest_area c.of_menu-largest.result n.header.protected) c.need.view_is
     ∙ c.of_menu-largest.ensures.are need.header.protected
     ∙ area-at c.args.class c.args.menu.now c.args.needs.now c.loop-i.i need
     c.requires.needs.class_is c.loop-i-test.true c.index-needs-i.is in
@@ -46,15 +47,16 @@ loop-i-preserved c =
           c.loop-i.free c.free_behind-free-in-loop-i.result c.loop-i-test.true c.index-needs-i.is
           (omega (arith, c.if-need-free.false, area, ap (λ n. n.bytes) c.need.view_is))
           (c.free_behind-free-in-loop-i.ensures.free
-          ∙ ap (λ n. free_behind c.window-window.result c.loop-i.free n.bytes c.area-area.result)
+          ∙ ap
+          (λ n. free_bytes_behind c.window-window.result c.loop-i.free n.bytes c.area-area.result)
           c.need.view_is
-          ∙ ap (λ n. free_behind c.window-window.result c.loop-i.free need.bytes n) area)
+          ∙ ap (λ n. free_bytes_behind c.window-window.result c.loop-i.free need.bytes n) area)
           c.loop-i.invariant.fit;
     }
 
 pub returns : goal.returns
 returns c =
-    subst (λ n. CanBeLaidFrom n true c.args.menu.now c.args.needs.now)
+    subst (λ n. CanBeLaidFromMenu n true c.args.menu.now c.args.needs.now)
     c.window-window.ensures.window
     (to-all c.window-window.result c.args.class c.args.menu.now c.args.needs.now c.loop-i.i
     c.loop-i.free (omega (arith, c.loop-i-test.false))

@@ -1,6 +1,6 @@
 -- The frames before fit.
 use Rattle.std.proofs.Common.{◌≤◌}
-use Rattle.rate_plan.proofs.FitLaws.{FitTo}
+use Rattle.rate_plan.proofs.FitLemmas.{FitTo}
 use Rattle.rate_plan.proofs.unfit.first_unfit.Given as goal
 
 abbrev pub invariant-loop-i : goal.invariant-loop-i

@@ -1,6 +1,6 @@
 -- A text that the rest begins with, and one that it doesn't.
 use Rattle.std.proofs.Common.{[]}
-use Rattle.requests.proofs.NamesLaws.{joined-more, joined-other}
+use Rattle.requests.proofs.NamesLemmas.{joined-more, joined-other}
 use Rattle.requests.proofs.names.is_joined.Goals as goal
 
 pub returns-in-None : goal.returns-in-None

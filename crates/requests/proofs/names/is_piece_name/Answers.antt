@@ -1,7 +1,7 @@
 -- A name more, one that is this, and none.
 use Rattle.std.proofs.Common.{ap, arith, bytes_eq, false, sym, [], ◌+◌, ◌∙◌, ◌≡◌}
 use Rattle.std.proofs.lemmas.List.Folds.{list_any_at, list_any_none}
-use Rattle.requests.proofs.NamesLaws.{name-at, names-length}
+use Rattle.requests.proofs.NamesLemmas.{name-at, names-length}
 use Rattle.requests.specs.Names.{piece_name, piece_names}
 use borrow.Author.Count.{below_more}
 use Rattle.requests.proofs.names.is_piece_name.Goals as goal

@@ -1,5 +1,5 @@
 -- The largest area, and the bits of main_data_begin.
-use Rattle.reservoir.proofs.FrameLaws.{frames-held}
+use Rattle.reservoir.proofs.FrameLemmas.{frames-held}
 use Rattle.reservoir.proofs.laws.frames_are_held.Goals as goal
 
 pub returns : goal.returns

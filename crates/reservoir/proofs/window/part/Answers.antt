@@ -1,7 +1,7 @@
 -- One part behind the other.
 use Rattle.std.proofs.{Common.◌-◌, lemmas.List.take_rest}
-use Rattle.bit_fields.proofs.BitsLaws.{AreBelow-drop, AreBelow-take, AreBytes-from_slice}
-use Rattle.reservoir.proofs.WindowLaws.{part_of_two}
+use Rattle.bit_fields.proofs.BitsLemmas.{AreBelow-drop, AreBelow-take, AreBytes-from_slice}
+use Rattle.reservoir.proofs.WindowLemmas.{part_of_two}
 use Rattle.reservoir.proofs.window.part.Goals as goal
 
 pub returns-clause-part : goal.returns-clause-part

@@ -1,13 +1,13 @@
 -- The frame is whole and usable, so it is the item that is read.
 use Rattle.std.proofs.Common.{ap, ap₂, arith, Bool, Ok, refl, sym, true, ◌&&◌, ◌<◌, ◌∙◌, ◌≡◌}
-use Rattle.frame_header.{proofs.ClassLaws.some_of_class, specs.Fields.{HeaderFields, same_class}}
+use Rattle.frame_header.{proofs.ClassLemmas.some_of_class, specs.Fields.{HeaderFields, same_class}}
 use Rattle.frame_header.specs.Tables.{class_of, length_of}
-use Rattle.salvage.proofs.UsableLaws.{item_taken, room_shown, step_whole}
-use Rattle.salvage.proofs.later.later_frame.Goals.{After-from-size, Else-not-has_right_word}
+use Rattle.salvage.proofs.UsableLemmas.{item_taken, room_shown, step_whole}
+use Rattle.salvage.proofs.later.later_frame.Goals.{After-from-size, Else-not-has_right_crc}
 use Rattle.salvage.specs.{Steps.admits_item, declared.usable.Role.TheVariants.Later}
-use Rattle.sync_survey.proofs.ItemsLaws.{frame_of_header, some_by}
+use Rattle.sync_survey.proofs.ItemsLemmas.{frame_of_header, some_by}
 use Rattle.sync_survey.specs.Items.{header_front, item_front, size_of}
-use Rattle.sync_survey.specs.declared.{items.Item.TheVariants.Frame, runs.Part.TheVariants.Stream}
+use Rattle.sync_survey.specs.declared.{items.Item.TheVariants.Frame, runs.Region.TheVariants.Stream}
 use Rattle.salvage.proofs.later.later_frame.Goals as goal
 
 header_is : (c : After-from-size) → (header_front c.args.front.now ≡ Ok c.in_ok-header.header)
@@ -33,19 +33,19 @@ size_some : (c : After-from-size) → 0 < c.from-size.result
 size_some c = omega
     (arith, size_is c, some_by c.args.front.now Stream (Frame c.in_ok-header.header) (heads c) refl)
 
-admits : (c : Else-not-has_right_word)
+admits : (c : Else-not-has_right_crc)
     → admits_item (Later c.args.class) c.args.at (Frame c.in_ok-header.header) c.args.front.now
     ≡ true
 admits c = ap₂ (λ (a b : Bool). a && b) (some_of_class c.args.class _ c.in_ok-header.header
-    (sym c.header_of_class.ensures ∙ c.in_ok-header.was)).2 (sym c.if-not-has_right_word.ensures)
+    (sym c.header_of_class.ensures ∙ c.in_ok-header.was)).2 (sym c.if-not-has_right_crc.ensures)
 
-pub has_right_word-requires-clause-own : goal.has_right_word-requires-clause-own
-has_right_word-requires-clause-own c =
-    heads (goal.at.has_right_word-requires-clause-own c).After-from-size
+pub has_right_crc-requires-clause-own : goal.has_right_crc-requires-clause-own
+has_right_crc-requires-clause-own c =
+    heads (goal.at.has_right_crc-requires-clause-own c).After-from-size
 
-pub has_right_word-requires-clause-room : goal.has_right_word-requires-clause-room
-has_right_word-requires-clause-room c =
-    let at = (goal.at.has_right_word-requires-clause-room c).After-from-size in
+pub has_right_crc-requires-clause-room : goal.has_right_crc-requires-clause-room
+has_right_crc-requires-clause-room c =
+    let at = (goal.at.has_right_crc-requires-clause-room c).After-from-size in
     room_shown c.args.front.now c.in_ok-header.header c.args.left (sym (frame_is at))
     (omega (arith, size_is at, c.if-size-left.false)) c.requires.many
 

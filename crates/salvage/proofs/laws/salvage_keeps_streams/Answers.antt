@@ -1,5 +1,5 @@
 -- What a survey tells is read.
-use Rattle.salvage.proofs.KeepsLaws.{keeps_streams}
+use Rattle.salvage.proofs.KeepsLemmas.{keeps_streams}
 use Rattle.salvage.proofs.laws.salvage_keeps_streams.Goals as goal
 
 pub returns : goal.returns

@@ -1,5 +1,5 @@
 -- Run by run, and all together.
-use Rattle.salvage.proofs.StreamLaws.{tells_streams}
+use Rattle.salvage.proofs.StreamLemmas.{tells_streams}
 use Rattle.salvage.proofs.laws.salvage_tells_streams.Goals as goal
 
 pub returns : goal.returns

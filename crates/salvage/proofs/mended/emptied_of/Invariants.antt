@@ -1,6 +1,6 @@
 -- Those so far, and those from here on.
 use Rattle.std.proofs.Common.{drop, length, ◌++◌, ◌-◌, ◌≡◌, ◌≤◌}
-use Rattle.salvage.specs.Mended.{emptied_from}
+use Rattle.salvage.specs.EmptiedFrames.{emptied_from}
 use Rattle.salvage.proofs.mended.emptied_of.Given as goal
 
 abbrev pub invariant-loop-number : goal.invariant-loop-number

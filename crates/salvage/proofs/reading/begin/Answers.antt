@@ -1,8 +1,8 @@
 -- Where the file begins, or why that isn't known: there is no first frame, or a call failed.
 use Rattle.std.proofs.Common.{arith, IfSome, refl, subst, sym, ◌∙◌}
-use Rattle.outside.{proofs.PassedLaws.err_at, specs.Files.Holds}
-use Rattle.salvage.proofs.{ProgressLaws.no_first, ReadFaults.{bytes_refusal, look_refusal}}
-use Rattle.sync_survey.{proofs.FoldersLaws.{none_read, read_more}, specs.Survey.IsWholeFrom}
+use Rattle.outside.{proofs.BufferOutputLemmas.err_at, specs.Files.Holds}
+use Rattle.salvage.proofs.{ProgressLemmas.no_first, ReadFaultLemmas.{bytes_refusal, look_refusal}}
+use Rattle.sync_survey.{proofs.FoldersLemmas.{none_read, read_more}, specs.Survey.IsWholeFrom}
 use Rattle.sync_survey.specs.declared.survey_fault.SurveyFault.TheVariants.{NoFrame}
 use Rattle.salvage.proofs.reading.begin.Goals as goal
 

@@ -1,9 +1,9 @@
 -- The file isn't found, or is too long; or what is read
 -- after that is read of files and counts that are the same.
 use Rattle.std.proofs.Common.{rules, subst, sym, ◌∙◌}
-use Rattle.outside.proofs.PassedLaws.{err_at}
-use Rattle.salvage.{proofs.ReadFaults.{find_refusal, seen_same}, specs.Answers.DamagedAnswer}
-use Rattle.salvage.specs.Progress.{IsBegun}
+use Rattle.outside.proofs.BufferOutputLemmas.{err_at}
+use Rattle.salvage.{proofs.ReadFaultLemmas.{find_refusal, seen_same}, specs.Answers.DamagedAnswer}
+use Rattle.salvage.specs.Progress.{IsBegunFile}
 use Rattle.sync_survey.specs.Survey.{HoldsOctets}
 use Rattle.salvage.proofs.reading.read_damaged.Goals as goal
 
@@ -25,7 +25,7 @@ returns-in_err-size g c =
 
 pub read_on-requires-clause-begun : goal.read_on-requires-clause-begun
 read_on-requires-clause-begun g c =
-    subst (λ files. IsBegun files c.args.name.now c.in_ok-begun.begun)
+    subst (λ files. IsBegunFile files c.args.name.now c.in_ok-begun.begun)
     (sym c.in_ok-begun.ensures.reads.files) c.in_ok-begun.ensures.begun
 
 pub read_on-requires-clause-octets : goal.read_on-requires-clause-octets

@@ -1,8 +1,8 @@
 -- The gap ends at the next frame, or with the file.
 use Rattle.std.proofs.Common.{ap, arith, rules, subst, ◌+◌, ◌<◌, ◌∙◌, ◌≡◌}
-use Rattle.salvage.proofs.{ProgressLaws.{gap_laid, gap_read}, WalkLaws.gap_end-by}
-use Rattle.salvage.specs.{Judged.AddsGap, Progress.class_in, Usable.next_usable}
-use Rattle.salvage.specs.Walk.{end_by, gap_end}
+use Rattle.salvage.proofs.{ProgressLemmas.{gap_laid, gap_read}, WalkLemmas.gap_end-by}
+use Rattle.salvage.specs.{JudgedFrames.AddsGap, Progress.begun_class}
+use Rattle.salvage.specs.{UsableFrames.next_usable_frame, Walk.{gap_end, offset_or_end}}
 use Rattle.salvage.proofs.reading.read_gap.Goals as goal
 
 pub skip-requires : goal.skip-requires
@@ -23,11 +23,11 @@ returns g c = record {
       record {
         reading = record {
           told = λ bytes holds.
-              let end : c.end_of-end.result ≡ gap_end bytes (class_in begun) old.at =
+              let end : c.end_of-end.result ≡ gap_end bytes (begun_class begun) old.at =
               c.end_of-end.ensures.told bytes (c.requires.begun.known.long bytes holds)
-              ∙ ap (end_by bytes) (c.in_ok-next.ensures.next bytes holds
-              ∙ ap (λ r. next_usable bytes r (old.at + 1)) c.later_role-role.ensures)
-              ∙ gap_end-by bytes (class_in begun) old.at in
+              ∙ ap (offset_or_end bytes) (c.in_ok-next.ensures.next bytes holds
+              ∙ ap (λ r. next_usable_frame bytes r (old.at + 1)) c.later_role-role.ensures)
+              ∙ gap_end-by bytes (begun_class begun) old.at in
               gap_read bytes begun old new (c.requires.reading.told bytes holds)
               (omega (arith, c.requires.before, c.requires.begun.known.long bytes holds))
               (c.requires.none bytes holds)

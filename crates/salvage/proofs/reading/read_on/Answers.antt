@@ -1,11 +1,12 @@
 -- What was found up to the end is all that is read.
 use Rattle.std.proofs.Common.{ap, arith, Ok, refl, rules, subst, sym, [], ◌∙◌, ◌≡◌}
 use Rattle.std.proofs.lemmas.Result.{IfErr-weaker}
-use Rattle.salvage.proofs.ProgressLaws.{all_read, begun_laid, begun_read, IsFirst, laid_out}
-use Rattle.salvage.proofs.{ProgressLaws.{no_frames, read_whole}, ReadFaults.bytes_refusal}
-use Rattle.salvage.{proofs.Results.{if_ok, on_ok}, specs.Damaged.{IsReadFault, tells_of}}
-use Rattle.salvage.specs.Progress.{IsLaidOut, told_of}
-use Rattle.sync_survey.specs.{Kinds.HasRightNumbers, Survey.BlocksAreLaid}
+use Rattle.salvage.proofs.ProgressLemmas.{all_read, begun_laid, begun_read, IsFirst, laid_out}
+use Rattle.salvage.proofs.{ProgressLemmas.{no_frames, read_whole}, ReadFaultLemmas.bytes_refusal}
+use Rattle.salvage.proofs.ResultLemmas.{if_ok, on_ok}
+use Rattle.salvage.specs.DamagedFiles.{damaged_view, IsDamagedFault}
+use Rattle.salvage.specs.Progress.{found_view, IsDamagedLaidOut}
+use Rattle.sync_survey.specs.{Survey.BlocksAreLaid, SurveyFaultKinds.HasRightNumbers}
 use Rattle.sync_survey.specs.declared.survey_fault.SurveyFault.TheVariants.{NoFrame}
 use Rattle.salvage.proofs.reading.read_on.Goals as goal
 
@@ -34,8 +35,9 @@ returns g c = record {
   exact = let begun = c.args.begun.now in
       let found = c.read_things.new.found in
       let reading = c.in_ok-read_things.ensures.reading in
-      if_ok c.damaged_by.result (λ d. tells_of d ≡ told_of begun found) _ (found.rows.items ≡ []
-      → ⊥) c.damaged_by.ensures.told c.damaged_by.ensures.some (λ d told some. λ bytes holds.
+      if_ok c.damaged_by.result (λ d. damaged_view d ≡ found_view begun found) _
+      (found.rows.items ≡ [] → ⊥)
+      c.damaged_by.ensures.told c.damaged_by.ensures.some (λ d told some. λ bytes holds.
       let known = c.requires.begun.known.long bytes holds in
       all_read bytes begun found (c.requires.begun.told bytes holds)
       (omega (arith, known, c.requires.begun.known.few)) (sym known)
@@ -44,10 +46,10 @@ returns g c = record {
       ∙ ap Ok (sym told));
   laid = let begun = c.args.begun.now in
       let found = c.read_things.new.found in
-      if_ok c.damaged_by.result (λ d. tells_of d ≡ told_of begun found)
-      (λ d. IsLaidOut (tells_of d)) (found.rows.items ≡ [] → ⊥)
+      if_ok c.damaged_by.result (λ d. damaged_view d ≡ found_view begun found)
+      (λ d. IsDamagedLaidOut (damaged_view d)) (found.rows.items ≡ [] → ⊥)
       c.damaged_by.ensures.told c.damaged_by.ensures.some (λ d told some.
-      subst IsLaidOut (sym told)
+      subst IsDamagedLaidOut (sym told)
       (laid_out begun found c.requires.begun.junk c.requires.begun.whole c.requires.begun.same
       c.in_ok-read_things.ensures.reading.laid some c.requires.begun.known.few));
   there = on_ok c.damaged_by.result _ c.requires.begun.known.there;
@@ -60,8 +62,8 @@ returns g c = record {
       let before = (g.D.Folder.seen c.args.folder.now).counts in
       let after = (g.D.Folder.seen c.read_things.new.folder).counts in
       IfErr-weaker c.damaged_by.result (λ fault. (fault ≡ NoFrame begun.start.front_end)
-      × (found.rows.items ≡ [])) (IsReadFault name files before after) (λ fault is.
-      subst (IsReadFault name files before after) (sym is.0)
+      × (found.rows.items ≡ [])) (IsDamagedFault name files before after) (λ fault is.
+      subst (IsDamagedFault name files before after) (sym is.0)
       (bytes_refusal name files before after (NoFrame begun.start.front_end)
       begun.size c.requires.begun.known c.in_ok-read_things.ensures.done (refl, tt) (λ bytes holds.
       let known = c.requires.begun.known.long bytes holds in

@@ -1,9 +1,9 @@
 -- An item is read and kept.
 use Rattle.std.proofs.Common.{ap, arith, length, rules, Some, subst, sym, true, ◌∙◌, ◌≡◌}
-use Rattle.outside.proofs.PassedLaws.{err_at}
-use Rattle.salvage.{proofs.{ReadFaults.look_refusal, ReadOn.keeps_on}, specs.Steps.admits_item}
-use Rattle.salvage.specs.{Walk.item_read, declared.usable.Role.Role}
-use Rattle.sync_survey.{proofs.{FoldersLaws.none_read, StepLaws.shown_room}, specs.Looks.Shows}
+use Rattle.outside.proofs.BufferOutputLemmas.{err_at}
+use Rattle.salvage.proofs.{ReadFaultLemmas.look_refusal, ReadingStepLemmas.keeps_on}
+use Rattle.salvage.specs.{Steps.admits_item, Walk.item_read, declared.usable.Role.Role}
+use Rattle.sync_survey.{proofs.{FoldersLemmas.none_read, StepLemmas.shown_room}, specs.Looks.Shows}
 use Rattle.salvage.proofs.reading.read_other.Goals as goal
 
 pub returns-in_err-left : goal.returns-in_err-left

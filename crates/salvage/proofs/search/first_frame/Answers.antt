@@ -1,9 +1,9 @@
 -- The frame where the front ends, or the next one.
 use Rattle.std.proofs.Common.{arith, IfSome, None, Option, Some, subst, sym, ℕ, ◌+◌}
 use Rattle.std.proofs.lemmas.Result.{IfOk-weaker}
-use Rattle.outside.proofs.PassedLaws.{err_at}
-use Rattle.salvage.proofs.{ReadFaults.look_refusal, SearchLaws.{first_behind, first_here}}
-use Rattle.sync_survey.{proofs.FoldersLaws.none_read, specs.{Looks.Shows, Survey.IsWholeFrom}}
+use Rattle.outside.proofs.BufferOutputLemmas.{err_at}
+use Rattle.salvage.proofs.{ReadFaultLemmas.look_refusal, SearchLemmas.{first_behind, first_here}}
+use Rattle.sync_survey.{proofs.FoldersLemmas.none_read, specs.{Looks.Shows, Survey.IsWholeFrom}}
 use Rattle.sync_survey.specs.declared.places.PlacedFrame.{PlacedFrame}
 use Rattle.salvage.proofs.search.first_frame.Goals as goal
 
@@ -42,14 +42,16 @@ pub returns-clause-placed : goal.returns-clause-placed
 returns-clause-placed g c =
     let from = c.args.front_end in
     let size = c.args.size in
-    IfOk-weaker c.next_usable.result (λ o. IfSome o (IsWholeFrom (from + 1) size))
-    (λ o. IfSome o (IsWholeFrom from size)) (whole_before from size) c.next_usable.ensures.placed
+    IfOk-weaker c.next_usable_frame.result (λ o. IfSome o (IsWholeFrom (from + 1) size))
+    (λ o. IfSome o (IsWholeFrom from size))
+    (whole_before from size) c.next_usable_frame.ensures.placed
 
 pub returns-clause-first : goal.returns-clause-first
 returns-clause-first g c =
     first_behind c.args.name.now (g.D.Folder.seen c.args.folder.now).files (g.D.Folder.seen
-    c.look.new.folder).files c.args.front_end c.next_usable.result c.in_ok-left.ensures.reads.files
+    c.look.new.folder).files c.args.front_end c.next_usable_frame.result
+    c.in_ok-left.ensures.reads.files
     (λ bytes holds.
     let seen = subst (λ front. Shows bytes c.args.front_end front c.in_ok-left.left)
     (sym c.bytes.ensures) (c.in_ok-left.ensures.shows bytes holds) in
-    sym (c.in_default.ensures.frame bytes seen)) c.next_usable.ensures.next
+    sym (c.in_default.ensures.frame bytes seen)) c.next_usable_frame.ensures.next

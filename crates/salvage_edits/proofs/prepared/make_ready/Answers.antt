@@ -1,15 +1,15 @@
 -- All frames are chosen, and have their plan.
 use Rattle.std.proofs.Common.{arith}
-use Rattle.commands.specs.One.{most_frames}
-use Rattle.cut_edits.specs.Chosen.{AreThere}
-use Rattle.salvage_edits.{proofs.CommandLaws.ready-of, specs.Salvaged.all_of}
-use Rattle.sync_survey.specs.Faults.{tells}
+use Rattle.commands.specs.SingleOutput.{most_frames}
+use Rattle.cut_edits.specs.Chosen.{AreChosenThere}
+use Rattle.salvage_edits.{proofs.CommandLemmas.ready-of, specs.Salvaged.all_chosen}
+use Rattle.sync_survey.specs.Faults.{survey_view}
 use Rattle.salvage_edits.proofs.prepared.make_ready.Goals as goal
 
 pub plan_file-requires : goal.plan_file-requires
 plan_file-requires c =
-    let s = tells c.args.mended.survey in
-    let there : AreThere most_frames (all_of s) s = record {
+    let s = survey_view c.args.mended.survey in
+    let there : AreChosenThere most_frames (all_chosen s) s = record {
       laid = c.requires.laid;
       few = c.requires.few;
       some = c.requires.laid.some;

@@ -1,7 +1,7 @@
 -- The reading, and the memory, each with its faults.
 use Rattle.std.proofs.Common.{ap₂}
-use Rattle.outside.specs.Seen.{seen}
-use Rattle.salvage_edits.proofs.CommandLaws.{fault-on, memory-on}
+use Rattle.outside.specs.Seen.{seen_folder}
+use Rattle.salvage_edits.proofs.CommandLemmas.{fault-on, memory-on}
 use Rattle.salvage_edits.proofs.prepared.prepare.Goals as goal
 
 pub returns-in_err-mended-clause-reads : goal.returns-in_err-mended-clause-reads
@@ -12,7 +12,8 @@ pub returns-in_err-work-clause-reads : goal.returns-in_err-work-clause-reads
 returns-in_err-work-clause-reads g c =
     let reads = c.in_ok-mended.ensures.reads in
     memory-on c.args.input.now _ c.from_residual-in_err-work.ensures.1 c.in_ok-mended.mended
-    c.in_ok-mended.ensures.there c.in_ok-mended.ensures.mended (ap₂ seen reads.files reads.done)
+    c.in_ok-mended.ensures.there c.in_ok-mended.ensures.mended
+    (ap₂ seen_folder reads.files reads.done)
     reads
 
 pub returns-clause-ready : goal.returns-clause-ready

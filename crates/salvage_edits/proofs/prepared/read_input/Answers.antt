@@ -1,9 +1,9 @@
 -- A fault of the reading is one of the only input; what was read is mended.
 use Rattle.std.proofs.{Common.{ap, ap₂, arith, length, subst, sym}, lemmas.List.length-map}
-use Rattle.commands.specs.One.{IsEarlyFault, IsOfInputs}
-use Rattle.outside.specs.Seen.{seen}
-use Rattle.salvage.specs.Damaged.{tells_of}
-use Rattle.salvage_edits.proofs.CommandLaws.{early-fault, early-memory, early-numbers}
+use Rattle.commands.specs.SingleOutput.{HasTaskNumbers, IsEarlyFault}
+use Rattle.outside.specs.Seen.{seen_folder}
+use Rattle.salvage.specs.DamagedFiles.{damaged_view}
+use Rattle.salvage_edits.proofs.CommandLemmas.{early-fault, early-memory, early-numbers}
 use Rattle.salvage_edits.specs.Salvaged.{salvage_task}
 use Rattle.sync_survey.specs.{Faults.SurveyFields, HeadApart.emptied_row}
 use Rattle.salvage_edits.proofs.prepared.read_input.Goals as goal
@@ -19,7 +19,7 @@ returns-in-Err-clause-reads g c =
           (state c.read_damaged.new.folder).files (state c.args.folder.now).counts
           (state c.read_damaged.new.folder).counts c.read_damaged.ensures.files c.in-Err.fault
           c.in-Err.ensures.refused);
-      numbers = subst (IsOfInputs (salvage_task c.args.input.now)) (sym c.into.ensures)
+      numbers = subst (HasTaskNumbers (salvage_task c.args.input.now)) (sym c.into.ensures)
           (early-numbers c.args.input.now c.in-Err.fault c.in-Err.ensures.numbers);
       done = tt;
       files = c.read_damaged.ensures.files;
@@ -28,8 +28,8 @@ returns-in-Err-clause-reads g c =
 
 pub returns-in-Err-mend-clause-reads : goal.returns-in-Err-mend-clause-reads
 returns-in-Err-mend-clause-reads g c = record {
-  refused = early-memory c.args.input.now _ _ (tells_of c.in-Ok.damaged) c.in-Ok.ensures.there
-      c.in-Ok.ensures.exact (ap₂ seen c.read_damaged.ensures.files c.in-Ok.ensures.done);
+  refused = early-memory c.args.input.now _ _ (damaged_view c.in-Ok.damaged) c.in-Ok.ensures.there
+      c.in-Ok.ensures.exact (ap₂ seen_folder c.read_damaged.ensures.files c.in-Ok.ensures.done);
   numbers = tt;
   done = tt;
   files = c.read_damaged.ensures.files;
@@ -39,7 +39,7 @@ returns-in-Err-mend-clause-reads g c = record {
 -- a mended frame for each that was read
 pub returns-in-Ok-mend-clause-few : goal.returns-in-Ok-mend-clause-few
 returns-in-Ok-mend-clause-few g c =
-    let frames = (tells_of c.in-Ok.damaged).survey.frames in
+    let frames = (damaged_view c.in-Ok.damaged).survey.frames in
     omega (
       arith,
       ap (λ (s : SurveyFields). length s.frames) c.in-Ok-mend.ensures.survey,

@@ -1,19 +1,19 @@
 -- One line after another, then the counts, then what waits.
 use Rattle.std.proofs.Common.{ap, arith, length, None, refl, Some, subst, ◌++◌, ◌∙◌}
-use Rattle.list_edits.proofs.ListingLaws.{last_failed, last_more, prefix_behind, said_failed}
-use Rattle.list_edits.proofs.ListingLaws.{said_more, said_none, sent_behind}
-use Rattle.outside.{proofs.PassedLaws.on_err, specs.Passed.{SentOn, SentPrefix}}
-use Rattle.salvage.specs.Text.{count_text, line_text, lines_of, text_of}
-use Rattle.salvage_edits.proofs.{OrderLaws.all-left, report.send_report.Given.Over}
+use Rattle.list_edits.proofs.ListingLemmas.{last_failed, last_more, prefix_behind, said_failed}
+use Rattle.list_edits.proofs.ListingLemmas.{said_more, said_none, sent_behind}
+use Rattle.outside.{proofs.BufferOutputLemmas.on_err, specs.BufferOutput.{SendsWaiting, SentPrefix}}
+use Rattle.salvage.specs.Text.{count_text, damage_lines, damage_text, line_text}
+use Rattle.salvage_edits.proofs.{OrderLemmas.all-left, report.send_report.Given.Over}
 use Rattle.salvage_edits.{proofs.report.send_report.Invariants.told-left, specs.Ordered.report_text}
-use Rattle.sync_survey.proofs.MergeLaws.{met}
+use Rattle.sync_survey.proofs.MergeLemmas.{met}
 use Rattle.salvage_edits.proofs.report.send_report.Goals as goal
 
 pub loop-told-init : goal.loop-told-init
 loop-told-init g c = record {
   done = refl;
   said = rw c.requires.empty (said_none line_text
-      (lines_of c.args.report.now.gaps.items c.args.report.now.emptied.items)
+      (damage_lines c.args.report.now.gaps.items c.args.report.now.emptied.items)
       (told-left c.new-lines.result) (g.T.Sink.heard c.args.out.now).sent
       (all-left c.new-lines.result c.args.report.now c.requires.order (c.new-lines.ensures.firsts
       ∙ c.as_slice-gaps.ensures.value)
@@ -29,21 +29,23 @@ loop-told-smaller g c = omega (
 pub loop-told-preserved : goal.loop-told-preserved
 loop-told-preserved g c = record {
   done = c.in_ok-push.ensures.cause.done ∙ c.loop-told.invariant.done;
-  said = said_more line_text (lines_of c.args.report.now.gaps.items c.args.report.now.emptied.items)
+  said = said_more line_text
+      (damage_lines c.args.report.now.gaps.items c.args.report.now.emptied.items)
       (told-left c.loop-told.lines)
       (told-left c.next.new.self) c.in-Some.told c.loop-told.buffer c.push.new.self _ _ _
       c.loop-told.invariant.said
       (met _ _ c.loop-told.lines (Some c.in-Some.told) c.next.new.self c.in-Some.ensures)
-      (subst (λ line. SentOn (c.loop-told.buffer ++ line)
+      (subst (λ line. SendsWaiting (c.loop-told.buffer ++ line)
       c.push.new.self (g.T.Sink.heard c.loop-told.out).sent (g.T.Sink.heard c.push.new.sink).sent)
       (c.bytes.ensures ∙ c.set_line.ensures) c.in_ok-push.ensures.passed);
 }
 
 pub returns-in_err-push-clause-prefix : goal.returns-in_err-push-clause-prefix
-unfolding text_of
+unfolding damage_text
 returns-in_err-push-clause-prefix g c =
     on_err c.from_residual.result
-    (said_failed line_text (lines_of c.args.report.now.gaps.items c.args.report.now.emptied.items)
+    (said_failed line_text
+    (damage_lines c.args.report.now.gaps.items c.args.report.now.emptied.items)
     (count_text c.args.frames (length c.args.report.now.gaps.items)
     (length c.args.report.now.emptied.items)) (told-left c.loop-told.lines)
     (told-left c.next.new.self) c.in-Some.told c.loop-told.buffer _ _ _ c.loop-told.invariant.said
@@ -53,10 +55,11 @@ returns-in_err-push-clause-prefix g c =
     (c.bytes.ensures ∙ c.set_line.ensures) c.in_err-push.ensures.prefix))
 
 pub returns-in_err-push-2-clause-prefix : goal.returns-in_err-push-2-clause-prefix
-unfolding text_of
+unfolding damage_text
 returns-in_err-push-2-clause-prefix g c =
     on_err c.from_residual-in_err-push-2.result
-    (last_failed line_text (lines_of c.args.report.now.gaps.items c.args.report.now.emptied.items)
+    (last_failed line_text
+    (damage_lines c.args.report.now.gaps.items c.args.report.now.emptied.items)
     (count_text c.args.frames (length c.args.report.now.gaps.items)
     (length c.args.report.now.emptied.items)) (told-left c.loop-told.lines) c.loop-told.buffer _ _ _
     c.loop-told.invariant.said (met _ _ c.loop-told.lines None c.next.new.self c.in_default.ensures)
@@ -68,16 +71,16 @@ returns-in_err-push-2-clause-prefix g c =
 
 -- all lines and the counts wait or were sent
 all-said : (g : Over) (c : goal.After-finish g)
-    → SentOn (report_text c.args.frames c.args.report.now)
+    → SendsWaiting (report_text c.args.frames c.args.report.now)
     c.push-2.new.self (g.T.Sink.heard c.args.out.now).sent (g.T.Sink.heard c.push-2.new.sink).sent
-unfolding text_of
+unfolding damage_text
 all-said g c =
-    last_more line_text (lines_of c.args.report.now.gaps.items c.args.report.now.emptied.items)
+    last_more line_text (damage_lines c.args.report.now.gaps.items c.args.report.now.emptied.items)
     (count_text c.args.frames (length c.args.report.now.gaps.items)
     (length c.args.report.now.emptied.items))
     (told-left c.loop-told.lines) c.loop-told.buffer c.push-2.new.self _ _ _
     c.loop-told.invariant.said (met _ _ c.loop-told.lines None c.next.new.self c.in_default.ensures)
-    (subst (λ line. SentOn (c.loop-told.buffer ++ line)
+    (subst (λ line. SendsWaiting (c.loop-told.buffer ++ line)
     c.push-2.new.self (g.T.Sink.heard c.loop-told.out).sent (g.T.Sink.heard c.push-2.new.sink).sent)
     (c.bytes-2.ensures ∙ c.set_counts.ensures ∙ rw (
       c.as_slice-gaps.ensures.value,

@@ -1,10 +1,9 @@
 -- A clash of names, what was met before the output is created, and what follows.
 use Rattle.std.proofs.Common.{subst, sym, ◌∙◌}
-use Rattle.commands.proofs.{MakeLaws.run-before, RefusingLaws.err_with}
-use Rattle.commands.specs.Said.{fault_of, Says}
-use Rattle.outside.specs.Seen.{seen}
-use Rattle.salvage_edits.proofs.CommandLaws.{left-clash, left-early, numbers-early}
-use Rattle.salvage_edits.specs.{Ready.IsReady, Salvaged.salvage_command}
+use Rattle.commands.proofs.{MakeLemmas.run-before, RefusingLemmas.err_with}
+use Rattle.commands.specs.SentText.{answer_fault, SaysText}
+use Rattle.salvage_edits.proofs.CommandLemmas.{left-clash, left-early, numbers-early}
+use Rattle.salvage_edits.specs.{Ready.IsSalvageReady, Salvaged.salvage_command}
 use Rattle.salvage_edits.proofs.salvage_file.salvage.Given as given
 use Rattle.salvage_edits.proofs.salvage_file.salvage.Goals as goal
 
@@ -26,7 +25,8 @@ pub write_and_tell-requires-clause-free : goal.write_and_tell-requires-clause-fr
 write_and_tell-requires-clause-free g c = sym c.clash.ensures ∙ c.in_default.is
 
 pub write_and_tell-requires-clause-ready : goal.write_and_tell-requires-clause-ready
-write_and_tell-requires-clause-ready g c = subst (λ f. IsReady c.args.input.now f c.in_ok-work.work)
+write_and_tell-requires-clause-ready g c =
+    subst (λ f. IsSalvageReady c.args.input.now f c.in_ok-work.work)
     (sym c.prepare.ensures.reads.files) c.in_ok-work.ensures.ready
 
 -- it ran from the moment before
@@ -43,8 +43,8 @@ returns g c =
     record {
       done = run.done;
       left = run.left;
-      says = subst (λ f. Says command f (g.T.Sink.heard c.args.out.now)
-          (g.T.Sink.heard c.write_and_tell.new.out) (fault_of answer)) reads.files
+      says = subst (λ f. SaysText command f (g.T.Sink.heard c.args.out.now)
+          (g.T.Sink.heard c.write_and_tell.new.out) (answer_fault answer)) reads.files
           c.write_and_tell.ensures.says;
       numbers = run.numbers;
       names = run.names;

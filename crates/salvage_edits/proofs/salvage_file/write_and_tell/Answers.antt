@@ -1,10 +1,10 @@
 -- The second pass, and the text.
 use Rattle.std.proofs.Common.{ap, arith, length, List, refl, sym, ℕ, [], ◌∙◌, ◌∷◌, ◌≡◌}
-use Rattle.commands.proofs.MakeLaws.{done-run, refused_run, source_apart}
-use Rattle.commands.{proofs.TellingLaws.{says-all, says-prefix}, specs.{Left.IsDone, Said.IsText}}
-use Rattle.commands.specs.declared.fault.EditFault.TheVariants.{Sent}
-use Rattle.salvage_edits.proofs.CommandLaws.{left-done, left-part, left-streams, numbers-pass}
-use Rattle.salvage_edits.proofs.CommandLaws.{ready-order, ready-text}
+use Rattle.commands.proofs.MakeLemmas.{done-run, refused_run, source_apart}
+use Rattle.commands.{proofs.TellingLemmas.{says-all, says-prefix}, specs.AfterCall.IsCommandDone}
+use Rattle.commands.specs.{SentText.IsCommandText, declared.fault.EditFault.TheVariants.Sent}
+use Rattle.salvage_edits.proofs.CommandLemmas.{left-done, left-part, left-streams, numbers-pass}
+use Rattle.salvage_edits.proofs.CommandLemmas.{ready-order, ready-text}
 use Rattle.salvage_edits.proofs.salvage_file.write_and_tell.Goals.{After-send_report}
 use Rattle.salvage_edits.specs.{Ordered.report_text, Salvaged.salvage_command}
 use Rattle.sync_survey.specs.Row.{Row}
@@ -36,7 +36,7 @@ returns-in_err-write_output-clause-run g c =
 
 -- the output is whole
 wrote : (g : given.Over) (c : After-send_report g)
-    → IsDone (salvage_command c.args.input.now c.args.output.now)
+    → IsCommandDone (salvage_command c.args.input.now c.args.output.now)
     (g.D.Folder.seen c.args.folder.now) (g.D.Folder.seen c.write_output.new.folder)
 wrote g c =
     let old = g.D.Folder.seen c.args.folder.now in
@@ -56,7 +56,7 @@ returns-in-Ok-clause-run g c =
 
 -- the text of the command is that of the report
 told : (g : given.Over) (c : After-send_report g) (all : List ℕ)
-    → IsText (salvage_command c.args.input.now c.args.output.now)
+    → IsCommandText (salvage_command c.args.input.now c.args.output.now)
     (g.D.Folder.seen c.args.folder.now).files all
     → report_text (length c.frames.result.now) c.args.work.now.report ≡ all
 told g c all is =

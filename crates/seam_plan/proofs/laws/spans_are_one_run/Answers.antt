@@ -1,5 +1,5 @@
 -- The run is all frames of the spans.
-use Rattle.seam_plan.proofs.SpanRuns.{spans-one-run}
+use Rattle.seam_plan.proofs.SpanRunLemmas.{spans-one-run}
 use Rattle.seam_plan.proofs.laws.spans_are_one_run.Goals as goal
 
 pub returns : goal.returns

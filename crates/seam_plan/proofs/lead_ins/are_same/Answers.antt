@@ -1,6 +1,6 @@
 -- The bytes of a header say it.
 use Rattle.std.{proofs.Common.{rules, ◌≡◌}, specs.Prelude.bytes_eq}
-use Rattle.seam_plan.proofs.LeadInLaws.{header-same}
+use Rattle.seam_plan.proofs.LeadInLemmas.{header-same}
 use Rattle.seam_plan.proofs.lead_ins.are_same.Goals as goal
 
 pub returns : goal.returns

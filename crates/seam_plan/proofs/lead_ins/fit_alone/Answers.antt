@@ -1,6 +1,6 @@
 -- Frames that want nothing fit behind nothing.
 use Rattle.frame_header.specs.Tables.{window_of}
-use Rattle.seam_plan.proofs.LeadInLaws.{alone-is}
+use Rattle.seam_plan.proofs.LeadInLemmas.{alone-is}
 use Rattle.seam_plan.proofs.lead_ins.fit_alone.Goals as goal
 
 pub returns : goal.returns

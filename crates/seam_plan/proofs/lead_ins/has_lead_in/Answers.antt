@@ -1,6 +1,6 @@
 -- Its side information, and the header of the first frame.
 use Rattle.frame_header.specs.Tables.{window_of}
-use Rattle.seam_plan.proofs.LeadInLaws.{has-else, has-then}
+use Rattle.seam_plan.proofs.LeadInLemmas.{has-else, has-then}
 use Rattle.seam_plan.proofs.lead_ins.has_lead_in.Goals as goal
 
 pub returns-then-input : goal.returns-then-input

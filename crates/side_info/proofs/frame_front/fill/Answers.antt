@@ -1,10 +1,10 @@
 -- Of 32 zeros none is left.
 use Rattle.std.proofs.Common.{ap, append-nil, arith, drop, length, replicate, sym, ◌++◌, ◌∙◌, ◌≡◌}
-use Rattle.side_info.specs.FrontBytes.{padded}
+use Rattle.side_info.specs.FrontBytes.{padded_side}
 use Rattle.side_info.proofs.frame_front.fill.Goals as goal
 
 pub returns-then-part-eq-MOST : goal.returns-then-part-eq-MOST
-unfolding padded
+unfolding padded_side
 returns-then-part-eq-MOST c =
     let part = c.args.part.now in
     let long : length part ≡ 32 = omega (arith, c.if-part-eq-MOST.true) in

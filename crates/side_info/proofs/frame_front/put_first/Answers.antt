@@ -2,7 +2,7 @@
 use Rattle.std.proofs.Common.{ap, append_assoc, ap₂, arith, drop, length, List, sym, take}
 use Rattle.std.proofs.Common.{take-append-drop, ℕ, ◌++◌, ◌+◌, ◌∙◌, ◌≡◌, ◌≤◌}
 use Rattle.std.proofs.lemmas.List.{drop-append-le, length-take-le}
-use Rattle.bit_fields.proofs.BitsLaws.{AreBytes-from_places, bits-append, length-bits}
+use Rattle.bit_fields.proofs.BitsLemmas.{AreBytes-from_places, bits-append, length-bits}
 use Rattle.bit_fields.specs.Bits.{bits, bits_of}
 use Rattle.side_info.proofs.frame_front.put_first.Goals as goal
 

@@ -1,8 +1,8 @@
 -- Bit rate index and padding bit are put in turn.
 use Rattle.std.proofs.Common.{ap, arith, Bool, drop, false, refl, rules, take, true, ◌++◌, ◌∙◌, ◌≡◌}
-use Rattle.bit_fields.{proofs.BitsLaws.AreBytes-from_places, specs.Bits.{bits, bits_of}}
+use Rattle.bit_fields.{proofs.BitsLemmas.AreBytes-from_places, specs.Bits.{bits, bits_of}}
 use Rattle.frame_header.specs.{Fields.SlotFields, HeaderBits.{flag_of, header_bits}}
-use Rattle.side_info.proofs.FrontLaws.{slot_put}
+use Rattle.side_info.proofs.FrontLemmas.{slot_put}
 use mir.Val.{bool_byte}
 use Rattle.side_info.proofs.frame_front.put_slot.Goals as goal
 

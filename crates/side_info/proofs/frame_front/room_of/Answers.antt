@@ -2,11 +2,11 @@
 use Rattle.std.proofs.Common.{ap, ap₂, arith, drop, length, List, replicate, rules, take, ℕ, ◌++◌}
 use Rattle.std.proofs.{Common.◌≡◌, lemmas.List.length-take-le}
 use Rattle.bit_fields.specs.Bits.{bytes}
-use Rattle.side_info.specs.{FrontBytes.padded, Side.side_bits}
+use Rattle.side_info.specs.{FrontBytes.padded_side, Side.side_bits}
 use Rattle.side_info.proofs.frame_front.room_of.Goals as goal
 
 pub returns : goal.returns
-unfolding padded
+unfolding padded_side
 returns c = record {
   room = let all : List ℕ = replicate 32 0 in
       let zeros : length (take c.side_size.result all) ≡ c.side_size.result =

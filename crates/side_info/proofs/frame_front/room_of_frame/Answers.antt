@@ -1,6 +1,6 @@
 -- A part of bytes.
 use Rattle.std.proofs.Common.{arith, drop}
-use Rattle.bit_fields.proofs.BitsLaws.{AreBelow-drop, AreBelow-take, AreBytes-from_places}
+use Rattle.bit_fields.proofs.BitsLemmas.{AreBelow-drop, AreBelow-take, AreBytes-from_places}
 use Rattle.frame_header.specs.Tables.{class_of, side_size_of}
 use Rattle.side_info.specs.Frame.{side_part, side_place}
 use Rattle.side_info.proofs.frame_front.room_of_frame.Goals as goal

@@ -1,6 +1,6 @@
 -- The bits that are written are those of bytes.
 use Rattle.std.proofs.Common.{ap, arith, sym, ◌∙◌}
-use Rattle.bit_fields.{proofs.BitsLaws.{AreBytes-from_places, bytes-bits}, specs.Bits.bytes}
+use Rattle.bit_fields.{proofs.BitsLemmas.{AreBytes-from_places, bytes-bits}, specs.Bits.bytes}
 use Rattle.side_info.proofs.frame_front.write_side.Goals as goal
 
 pub returns-clause-written : goal.returns-clause-written

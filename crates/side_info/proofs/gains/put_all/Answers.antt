@@ -1,13 +1,13 @@
 -- The gains of the granules in turn.
 use Rattle.std.proofs.Common.{ap, ap₂, arith, get_or, length, rules, subst, sym, [], ◌*◌, ◌+◌, ◌-◌}
 use Rattle.std.proofs.Common.{◌∙◌, ◌≡◌, ◌≤◌}
-use Rattle.bit_fields.{proofs.BitsLaws.{AreBits-bits, length-bits}, specs.Bits.bits}
+use Rattle.bit_fields.{proofs.BitsLemmas.{AreBits-bits, length-bits}, specs.Bits.bits}
 use Rattle.frame_header.specs.{Fields.IsClass, Tables.{granules_of, side_size_of}}
-use Rattle.side_info.proofs.GainsLaws.{all_put_gains}
-use Rattle.side_info.proofs.ReadLaws.{parts_size, second_room, side_size-small}
-use Rattle.side_info.proofs.SideLaws.{IsShaped, IsShaped-side_at, side_bits-side_at}
+use Rattle.side_info.proofs.GainsLemmas.{all_put_gains}
+use Rattle.side_info.proofs.ReadLemmas.{parts_size, second_room, side_size-small}
+use Rattle.side_info.proofs.SideLemmas.{IsShaped, IsShaped-side_at, side_bits-side_at}
 use Rattle.side_info.{proofs.gains.put_all.Goals.After-from, specs.Granule.granule_size}
-use Rattle.side_info.specs.Parts.{class_with, front_size, pair_bits, PutsPair, second_bits}
+use Rattle.side_info.specs.Parts.{class_with, front_size, pair_bits, PutsPair, second_pair_bits}
 use Rattle.side_info.specs.Side.{side_at}
 use Rattle.side_info.proofs.gains.put_all.Goals as goal
 
@@ -75,7 +75,7 @@ returns c = record {
       (subst (λ k. PutsPair (pair_bits k.version k.channels)
       (get_or t.granules 0 []) c.front_size-begin.result old (bits c.put_pair.new.bytes))
       c.class.view_is c.put_pair.ensures.put)
-      (subst (λ k. PutsPair (second_bits k.version k.channels) (get_or t.granules 1 [])
+      (subst (λ k. PutsPair (second_pair_bits k.version k.channels) (get_or t.granules 1 [])
       (c.front_size-begin.result + c.granule_width.result * c.from.result) (bits
       c.put_pair.new.bytes) (bits c.put_second.new.bytes)) c.class.view_is c.put_second.ensures.put)
       (side_at d old) (IsShaped-side_at d old)

@@ -1,6 +1,6 @@
 -- The eight bits are those of the gain.
 use Rattle.bit_fields.specs.Bits.{bits}
-use Rattle.side_info.proofs.GainsLaws.{gain_put}
+use Rattle.side_info.proofs.GainsLemmas.{gain_put}
 use Rattle.side_info.proofs.gains.put_gain.Goals as goal
 
 pub returns : goal.returns

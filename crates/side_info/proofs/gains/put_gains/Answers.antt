@@ -1,12 +1,12 @@
 -- The side information and the check word, where there is one, are those of the other gains.
 use Rattle.std.proofs.Common.{ap, ap₂, arith, drop, false, List, rules, subst, sym, take, true, ℕ}
 use Rattle.std.proofs.{Common.{◌++◌, ◌+◌, ◌∙◌, ◌≡◌}, lemmas.List.drop-drop}
-use Rattle.bit_fields.proofs.BitsLaws.{AreBelow-drop, AreBytes-from_places}
+use Rattle.bit_fields.proofs.BitsLemmas.{AreBelow-drop, AreBytes-from_places}
 use Rattle.bit_fields.specs.Bits.{AreBytes, bits, bits_of, bytes}
 use Rattle.frame_header.specs.Fields.{ClassFields, HeaderFields}
 use Rattle.frame_header.specs.Tables.{class_of, overhead_of, side_size_of}
-use Rattle.side_info.proofs.FrameLaws.{overhead-protected, overhead-unprotected}
-use Rattle.side_info.proofs.GainsLaws.{gains-protected, gains-unprotected}
+use Rattle.side_info.proofs.FrameLemmas.{overhead-protected, overhead-unprotected}
+use Rattle.side_info.proofs.GainsLemmas.{gains-protected, gains-unprotected}
 use Rattle.side_info.specs.{CheckWord.check_word_of, Frame.{side_in, side_part, side_place}}
 use Rattle.side_info.specs.Side.{HasOtherGains, side_at, side_bits}
 use Rattle.side_info.proofs.gains.put_gains.Goals as goal
@@ -24,8 +24,8 @@ put_at_place-requires c =
       );
     }
 
-pub put_right_word-requires : goal.put_right_word-requires
-put_right_word-requires c =
+pub put_right_crc-requires : goal.put_right_crc-requires
+put_right_crc-requires c =
     let is : c.args.front.now.header.protected ≡ true =
     sym c.protected.ensures ∙ c.if-protected.true in
     omega (
@@ -64,14 +64,14 @@ returns-then-protected c = record {
   behind = let h = c.args.front.now.header in
       let old = c.args.frame.now in
       let middle = c.put_at_place.new.frame in
-      let new = c.put_right_word.new.frame in
+      let new = c.put_right_crc.new.frame in
       let size = side_size_of (class_of h) in
       let class = c.requires.class in
       let is : h.protected ≡ true = sym c.protected.ensures ∙ c.if-protected.true in
       let over : overhead_of (class_of h) h.protected ≡ 6 + size = overhead-protected h is in
       ap (λ n. drop n new) over
       ∙ sym (drop-drop size 6 new)
-      ∙ ap (drop size) c.put_right_word.ensures.behind
+      ∙ ap (drop size) c.put_right_crc.ensures.behind
       ∙ drop-drop size 6 middle
       ∙ subst (λ d. drop (6 + side_size_of d) middle ≡ drop (6 + side_size_of d) old) class
       c.put_at_place.ensures.behind
@@ -80,14 +80,14 @@ returns-then-protected c = record {
       let t = c.args.side.now in
       let old = c.args.frame.now in
       let middle = c.put_at_place.new.frame in
-      let new = c.put_right_word.new.frame in
+      let new = c.put_right_crc.new.frame in
       let class = c.requires.class in
       let is : h.protected ≡ true = sym c.protected.ensures ∙ c.if-protected.true in
       let same = side_read h c.args.class 6 old class (ap side_place is) in
       let side = subst (λ d. bits (take (side_size_of d) (drop 6 middle)) ≡ side_bits d t) class
       (c.put_at_place.ensures.side (subst (λ s. HasOtherGains s t) same other)) in
       let all : AreBytes (drop 6 middle) =
-      subst AreBytes c.put_right_word.ensures.behind (AreBelow-drop 256 6 new
+      subst AreBytes c.put_right_crc.ensures.behind (AreBelow-drop 256 6 new
       (AreBytes-from_places new (λ i. omega (arith, c.type_inv.frame i)))) in
       gains-protected h t old middle new is all c.put_at_place.ensures.before
       (subst (λ d. drop (6 + side_size_of d) middle ≡ drop (6 + side_size_of d) old) class
@@ -95,7 +95,7 @@ returns-then-protected c = record {
       side (subst
       (λ k. bits (take (side_size_of (class_of k)) (drop 6 middle)) ≡ side_bits (class_of k) t
       → new ≡ take 4 middle ++ (bytes (bits_of 16 (check_word_of k t)) ++ drop 6 middle))
-      c.header.ensures (c.put_right_word.ensures.word t) side);
+      c.header.ensures (c.put_right_crc.ensures.word t) side);
 }
 
 pub returns-else-protected : goal.returns-else-protected

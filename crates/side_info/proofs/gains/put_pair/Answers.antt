@@ -1,7 +1,7 @@
 -- One channel, or the second after the first.
 use Rattle.std.proofs.Common.{ap, arith, ◌+◌}
 use Rattle.bit_fields.specs.Bits.{bits}
-use Rattle.side_info.proofs.GainsLaws.{both_put, one_put}
+use Rattle.side_info.proofs.GainsLemmas.{both_put, one_put}
 use Rattle.side_info.proofs.gains.put_pair.Goals as goal
 
 pub returns-then-channels-eq1-clause-put : goal.returns-then-channels-eq1-clause-put

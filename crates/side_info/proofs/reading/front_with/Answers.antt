@@ -1,7 +1,7 @@
 -- The fields are parts of one number.
 use Rattle.std.proofs.{Common.{arith, length, pow_mono, ◌+◌, ◌^◌, ◌≤◌}, lemmas.Nat.one_shl}
-use Rattle.bit_fields.{proofs.BitsLaws.{AreBits-bits, length-bits}, specs.Bits.bits}
-use Rattle.side_info.proofs.ReadLaws.{begin-below, front_fields}
+use Rattle.bit_fields.{proofs.BitsLemmas.{AreBits-bits, length-bits}, specs.Bits.bits}
+use Rattle.side_info.proofs.ReadLemmas.{begin-below, front_fields}
 use Rattle.side_info.proofs.reading.front_with.Goals.{After-number_at-fields}
 use Rattle.side_info.proofs.reading.front_with.Goals as goal
 

@@ -1,6 +1,6 @@
 -- The fields are parts of three numbers.
-use Rattle.bit_fields.{proofs.BitsLaws.{AreBits-bits, length-bits}, specs.Bits.bits}
-use Rattle.side_info.proofs.ReadLaws.{granule_from, preflag_once}
+use Rattle.bit_fields.{proofs.BitsLemmas.{AreBits-bits, length-bits}, specs.Bits.bits}
+use Rattle.side_info.proofs.ReadLemmas.{granule_from, preflag_once}
 use Rattle.side_info.proofs.reading.read_granule.Goals as goal
 
 pub returns : goal.returns

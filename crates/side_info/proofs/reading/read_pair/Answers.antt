@@ -1,7 +1,7 @@
 -- One channel after the other.
 use Rattle.std.proofs.{Common.{arith, drop, ◌∙◌}, lemmas.Bool.ne_eqb}
 use Rattle.bit_fields.specs.Bits.{bits}
-use Rattle.side_info.proofs.ReadLaws.{pair_of_one, pair_of_two, set_both}
+use Rattle.side_info.proofs.ReadLemmas.{pair_of_one, pair_of_two, set_both}
 use Rattle.side_info.specs.Granule.{no_granule}
 use Rattle.side_info.proofs.reading.read_pair.Goals as goal
 

@@ -1,6 +1,6 @@
 -- Two channels.
 use Rattle.std.proofs.Common.{ap₂, arith, ◌+◌, ◌∙◌}
-use Rattle.side_info.proofs.SideLaws.{pair_sum}
+use Rattle.side_info.proofs.SideLemmas.{pair_sum}
 use Rattle.side_info.proofs.side.pair_bits.Goals as goal
 
 pub returns-clause-sum : goal.returns-clause-sum

@@ -3,9 +3,9 @@ use Rattle.std.proofs.Common.{ap, ap₂, arith, drop, length, lit≤, sym, take,
 use Rattle.std.proofs.{Common.{◌≡◌, ◌≤◌}, lemmas.List.take_all}
 use Rattle.bit_fields.specs.Bits.{bits}
 use Rattle.frame_header.specs.{Fields.IsClass, Tables.granules_of}
-use Rattle.side_info.proofs.ReadLaws.{parts_size, second_room, set_both, side_is, side_size-small}
+use Rattle.side_info.proofs.ReadLemmas.{parts_size, second_room, set_both, side_is, side_size-small}
 use Rattle.side_info.{proofs.side.read_parts.Goals.After-from, specs.Granule.granule_size}
-use Rattle.side_info.specs.Parts.{class_with, front_at, front_size, pair_at, second_at}
+use Rattle.side_info.specs.Parts.{class_with, front_at, front_size, pair_at, second_pair_at}
 use Rattle.side_info.proofs.side.read_parts.Goals as goal
 
 class : (c : After-from) → IsClass (class_with c.args.version 0 c.args.channels)
@@ -80,4 +80,4 @@ returns c =
     (c.read_pair.ensures ∙ ap₂ (λ xs k. pair_at c.args.version c.args.channels (drop k (bits xs)))
     (whole at) c.front_size-begin.ensures)
     (c.read_second.ensures ∙ ap₂
-    (λ xs k. second_at c.args.version c.args.channels (drop k (bits xs))) (whole at) (next at))
+    (λ xs k. second_pair_at c.args.version c.args.channels (drop k (bits xs))) (whole at) (next at))

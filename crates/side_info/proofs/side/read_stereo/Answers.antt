@@ -2,8 +2,8 @@
 use Rattle.std.proofs.Common.{ap₂, subst, sym, ◌∙◌, ◌≡◌}
 use Rattle.bit_fields.specs.Bits.{bits}
 use Rattle.frame_header.specs.{Fields.IsClass, Tables.side_size_of}
-use Rattle.side_info.proofs.{ReadLaws.{side_at-class, side_size-class}, SideLaws.IsSideOf-side_at}
-use Rattle.side_info.specs.{Parts.class_with, Side.side_at}
+use Rattle.side_info.proofs.ReadLemmas.{side_at-class, side_size-class}
+use Rattle.side_info.{proofs.SideLemmas.IsSideOf-side_at, specs.{Parts.class_with, Side.side_at}}
 use Rattle.side_info.proofs.side.read_stereo.Goals as goal
 
 pub read_parts-requires-clause-size : goal.read_parts-requires-clause-size

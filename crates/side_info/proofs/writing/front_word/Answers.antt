@@ -1,8 +1,8 @@
 -- The fields are joined to one number.
 use Rattle.std.proofs.Common.{ap, arith, get_or, rules, subst, sum, sym, ℕ, [], ◌+◌, ◌<◌, ◌^◌, ◌∙◌}
 use Rattle.std.proofs.Common.{◌∷◌, ◌≡◌}
-use Rattle.bit_fields.{proofs.GroupsLaws.joined, specs.{Bits.bits_of, Groups.spelled}}
-use Rattle.side_info.proofs.WriteLaws.{front_of_one, front_of_two, front_spelled}
+use Rattle.bit_fields.{proofs.GroupsLemmas.joined, specs.{Bits.bits_of, Groups.group_bits}}
+use Rattle.side_info.proofs.WriteLemmas.{front_of_one, front_of_two, front_spelled}
 use Rattle.side_info.{proofs.writing.front_word.Goals.After-from-second, specs.Side.front_widths_of}
 use Rattle.side_info.proofs.writing.front_word.Goals as goal
 
@@ -13,7 +13,7 @@ word_of : (c : After-from-second) (begin private first second n : ℕ)
     → n ≡ joined (begin ∷ private ∷ first ∷ second ∷ []) (c.from-begin.result
     ∷ c.from-private_bits.result ∷ c.from-first.result ∷ c.from-second.result ∷ []))
     → bits_of (sum (front_widths_of c.args.version c.args.channels)) n
-    ≡ spelled (front_widths_of c.args.version c.args.channels)
+    ≡ group_bits (front_widths_of c.args.version c.args.channels)
     (c.args.side.now.main_data_begin ∷ c.args.side.now.private_bits ∷ c.args.side.now.scfsi)
 word_of c begin private first second n is joins =
     let side = c.args.side.now in

@@ -1,7 +1,7 @@
 -- The fields are joined to one number.
 use Rattle.std.proofs.Common.{arith, ◌%◌, ◌*◌, ◌+◌, ◌<◌, ◌^◌, ◌≡◌}
 use Rattle.frame_header.specs.HeaderBits.{flag_of}
-use Rattle.side_info.proofs.WriteLaws.{bool_byte-is, upper_fits, word_below, word_bits, word_fits}
+use Rattle.side_info.proofs.WriteLemmas.{bool_byte-is, upper_fits, word_below, word_bits, word_fits}
 use Rattle.side_info.proofs.writing.granule_word.Goals.{After-compress_width, After-preflag_width}
 use Rattle.side_info.proofs.writing.granule_word.Goals as goal
 

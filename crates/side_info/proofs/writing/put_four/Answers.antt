@@ -1,7 +1,7 @@
 -- Four words are put one after the other.
 use Rattle.std.proofs.Common.{ap, arith, get_or, ◌*◌, ◌∙◌}
-use Rattle.bit_fields.{proofs.BitsLaws.length-bits, specs.Bits.{bits, bits_of}}
-use Rattle.side_info.proofs.WriteLaws.{four_of, four_put}
+use Rattle.bit_fields.{proofs.BitsLemmas.length-bits, specs.Bits.{bits, bits_of}}
+use Rattle.side_info.proofs.WriteLemmas.{four_of, four_put}
 use Rattle.side_info.proofs.writing.put_four.Goals as goal
 
 pub returns : goal.returns

@@ -1,7 +1,7 @@
 -- A word and a byte are put one after the other.
 use Rattle.std.proofs.Common.{ap, ◌*◌, ◌∙◌}
-use Rattle.bit_fields.{proofs.BitsLaws.length-bits, specs.Bits.bits}
-use Rattle.side_info.proofs.WriteLaws.{one_put}
+use Rattle.bit_fields.{proofs.BitsLemmas.length-bits, specs.Bits.bits}
+use Rattle.side_info.proofs.WriteLemmas.{one_put}
 use Rattle.side_info.proofs.writing.put_one.Goals as goal
 
 pub returns : goal.returns

@@ -1,7 +1,7 @@
 -- Two words and a byte are put one after the other.
 use Rattle.std.proofs.Common.{ap, arith, ◌*◌, ◌+◌, ◌-◌, ◌∙◌}
-use Rattle.bit_fields.{proofs.BitsLaws.length-bits, specs.Bits.bits}
-use Rattle.side_info.proofs.WriteLaws.{two_put}
+use Rattle.bit_fields.{proofs.BitsLemmas.length-bits, specs.Bits.bits}
+use Rattle.side_info.proofs.WriteLemmas.{two_put}
 use Rattle.side_info.proofs.writing.put_two.Goals as goal
 
 pub returns : goal.returns

@@ -2,8 +2,8 @@
 use Rattle.std.proofs.Common.{ap, append-nil, arith, rules, subst, sym, ◌++◌, ◌<◌, ◌^◌, ◌∙◌, ◌≡◌}
 use Rattle.bit_fields.specs.Bits.{bits_of}
 use Rattle.frame_header.specs.Tables.{granules_of, side_size_of}
-use Rattle.side_info.proofs.WriteLaws.{one_mono, one_stereo, size_of_two, size_one, size_two}
-use Rattle.side_info.proofs.WriteLaws.{two_channels, two_mono, two_stereo}
+use Rattle.side_info.proofs.WriteLemmas.{one_mono, one_stereo, size_of_two, size_one, size_two}
+use Rattle.side_info.proofs.WriteLemmas.{two_channels, two_mono, two_stereo}
 use Rattle.side_info.proofs.writing.write_granules.Goals as goal
 
 pub put_two-requires-clause-room : goal.put_two-requires-clause-room

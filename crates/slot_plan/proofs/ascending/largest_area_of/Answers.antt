@@ -1,6 +1,6 @@
 -- The last slot has the largest area.
 use Rattle.std.proofs.Common.{◌∙◌}
-use Rattle.slot_plan.proofs.AreaLaws.{area-last}
+use Rattle.slot_plan.proofs.AreaLemmas.{area-last}
 use Rattle.slot_plan.proofs.ascending.largest_area_of.Goals as goal
 
 pub returns-clause-largest : goal.returns-clause-largest

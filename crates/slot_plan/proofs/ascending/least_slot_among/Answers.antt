@@ -1,6 +1,6 @@
 -- One slot is the first that isn't too small, or the last is.
 use Rattle.std.proofs.Common.{arith, length, ◌-◌}
-use Rattle.slot_plan.proofs.AreaLaws.{area-last, least-first}
+use Rattle.slot_plan.proofs.AreaLemmas.{area-last, least-first}
 use Rattle.slot_plan.proofs.ascending.least_slot_among.Goals as goal
 
 pub returns-then-wanted-from : goal.returns-then-wanted-from

@@ -1,5 +1,5 @@
 -- The slots before this place are too small.
-use Rattle.slot_plan.proofs.AreaLaws.{AreSmall}
+use Rattle.slot_plan.proofs.AreaLemmas.{AreSmall}
 use Rattle.slot_plan.proofs.ascending.least_slot_among.Given as goal
 
 abbrev pub invariant-loop-place : goal.invariant-loop-place

@@ -1,5 +1,5 @@
 -- More bytes than they want are enough.
-use Rattle.slot_plan.proofs.BehindLaws.{where-wanted}
+use Rattle.slot_plan.proofs.FreeByteLemmas.{where-wanted}
 use Rattle.slot_plan.proofs.laws.fits_where_wanted.Goals as goal
 
 pub returns : goal.returns

@@ -1,5 +1,5 @@
 -- A lead-in exactly where the frames want something.
-use Rattle.slot_plan.proofs.OwnLeadIn.{lead-where-wanted}
+use Rattle.slot_plan.proofs.OwnLeadInLemmas.{lead-where-wanted}
 use Rattle.slot_plan.proofs.laws.lead_in_where_wanted.Goals as goal
 
 pub returns : goal.returns

@@ -1,5 +1,5 @@
 -- The plan is that of the first list.
-use Rattle.slot_plan.proofs.LeastPlan.{least-plan-is}
+use Rattle.slot_plan.proofs.LeastPlanLemmas.{least-plan-is}
 use Rattle.slot_plan.proofs.laws.least_plan_is_the_plan.Goals as goal
 
 pub returns : goal.returns

@@ -1,5 +1,5 @@
 -- What the others leave is what all leave.
-use Rattle.slot_plan.proofs.BehindLaws.{left-on}
+use Rattle.slot_plan.proofs.FreeByteLemmas.{left-on}
 use Rattle.slot_plan.proofs.laws.leaves_go_on.Goals as goal
 
 pub returns : goal.returns

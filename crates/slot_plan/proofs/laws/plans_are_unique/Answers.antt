@@ -1,5 +1,5 @@
 -- One plan at most.
-use Rattle.slot_plan.proofs.OnePlan.{one-plan}
+use Rattle.slot_plan.proofs.OnePlanLemmas.{one-plan}
 use Rattle.slot_plan.proofs.laws.plans_are_unique.Goals as goal
 
 pub returns : goal.returns

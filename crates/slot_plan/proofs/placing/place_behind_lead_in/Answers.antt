@@ -1,16 +1,17 @@
 -- The part is placed after its lead-in.
 use Rattle.std.proofs.Common.{ap, arith, false, map, refl, subst, [], ◌∙◌}
 use Rattle.std.proofs.lemmas.Result.{IfOk-weaker}
-use Rattle.slot_plan.proofs.{PartLaws.needed-first, PlacedLaws.led-of, TableLaws.table-within}
-use Rattle.slot_plan.specs.Parts.{areas_with, item_of}
-use Rattle.slot_plan.specs.Reserve.{free_behind, greatest, IsLeastSlot, PlacesOn}
+use Rattle.slot_plan.proofs.{PartLemmas.needed-first, PlacedLemmas.led-of, TableLemmas.table-within}
+use Rattle.slot_plan.specs.Parts.{need_item, slot_areas}
+use Rattle.slot_plan.specs.Reserve.{free_bytes_behind, greatest_number, IsLeastSlot, PlacesMore}
 use Rattle.slot_plan.proofs.placing.place_behind_lead_in.Goals as goal
 
 pub least_slot-slot-requires : goal.least_slot-slot-requires
 least_slot-slot-requires g c =
     let leads = g.O.Offer.lead_slots_of c.args.offer.now in
     let before =
-    needed-first c.args.room.window (greatest (areas_with c.args.table.now.lengths false leads))
+    needed-first c.args.room.window
+    (greatest_number (slot_areas c.args.table.now.lengths false leads))
     (g.O.Offer.slots_of c.args.offer.now) (g.O.Offer.some_area_of c.args.offer.now)
     c.args.part.now c.requires.part.feasible c.requires.reserves.chosen in
     record {
@@ -32,7 +33,9 @@ returns-clause-placed g c =
     c.args.placed.now.items c.place_frames.new.placed.items
     c.requires.part.some c.requires.table.class refl refl least
     (c.free_behind-free.ensures.free
-    ∙ ap (λ n. free_behind c.args.room.window c.args.room.free 0 n) c.area_of-area.ensures.area)
-    (subst (λ l. PlacesOn c.args.room.window c.free_behind-free.result after (map (item_of choices)
+    ∙ ap (λ n. free_bytes_behind c.args.room.window c.args.room.free 0 n)
+    c.area_of-area.ensures.area)
+    (subst (λ l. PlacesMore c.args.room.window c.free_behind-free.result after
+    (map (need_item choices)
     c.args.part.now) [] l c.place_frames.new.placed.items) c.in_ok-push.ensures.items places))
     c.place_frames.ensures.placed

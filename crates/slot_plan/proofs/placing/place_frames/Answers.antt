@@ -2,9 +2,9 @@
 use Rattle.std.proofs.Common.{ap, arith, drop, map, subst, sym, ℕ, ◌+◌, ◌∙◌, ◌≡◌}
 use Rattle.std.proofs.lemmas.List.{length-drop}
 use Rattle.frame_header.specs.Tables.{area_of, class_of}
-use Rattle.slot_plan.proofs.PartLaws.{area-in, next-needed, next-wanted, next-within, same-class}
-use Rattle.slot_plan.{proofs.PlacedLaws.{places-begun, places-next}, specs.Parts.item_of}
-use Rattle.slot_plan.specs.Reserve.{free_behind, needed, opens_in, PlacesOn}
+use Rattle.slot_plan.proofs.PartLemmas.{area-in, next-needed, next-wanted, next-within, same-class}
+use Rattle.slot_plan.{proofs.PlacedLemmas.{places-begun, places-next}, specs.Parts.need_item}
+use Rattle.slot_plan.specs.Reserve.{free_bytes_behind, open_frames, PlacesMore, reserve_before}
 use Rattle.slot_plan.proofs.placing.place_frames.Goals as goal
 
 pub place_frame-frame-requires-clause-enough : goal.place_frame-frame-requires-clause-enough
@@ -42,7 +42,7 @@ loop-need-init g c = record {
   within = c.requires.ready.within;
   behind = c.requires.ready.behind;
   placed = places-begun c.args.room.window c.args.room.free (map
-      (item_of (g.O.Offer.slots_of c.args.offer.now)) c.args.part.now) c.reserve.new.self.items;
+      (need_item (g.O.Offer.slots_of c.args.offer.now)) c.args.part.now) c.reserve.new.self.items;
 }
 
 pub loop-need-preserved : goal.loop-need-preserved
@@ -62,12 +62,13 @@ loop-need-preserved g c =
     area-in c.args.table.now.lengths c.args.part.now c.loop-need.need-index c.area_of-area.result
     c.need-item.result _ c.place_frame-frame.result.slot c.requires.table.class
     c.loop-need-test.true c.need-item.is c.need.view_is c.area_of-area.ensures.area in
-    let free : c.free_behind-free.result ≡ free_behind c.args.room.window c.loop-need.free
+    let free : c.free_behind-free.result ≡ free_bytes_behind c.args.room.window c.loop-need.free
     need.bytes (area_of (class_of need.header) slot need.header.protected) =
     c.free_behind-free.ensures.free
-    ∙ ap (λ n. free_behind c.args.room.window c.loop-need.free n.bytes c.area_of-area.result)
-    c.need.view_is ∙ ap (λ n. free_behind c.args.room.window c.loop-need.free need.bytes n) area in
-    let left : ℕ = needed (opens_in choices (drop (i + 1) part)) in
+    ∙ ap (λ n. free_bytes_behind c.args.room.window c.loop-need.free n.bytes c.area_of-area.result)
+    c.need.view_is
+    ∙ ap (λ n. free_bytes_behind c.args.room.window c.loop-need.free need.bytes n) area in
+    let left : ℕ = reserve_before (open_frames choices (drop (i + 1) part)) in
     let least = c.place_frame-frame.ensures.least.enough in
     record {
       room = omega (
@@ -83,8 +84,8 @@ loop-need-preserved g c =
       enough = omega (arith, free, next.0, within.0, least);
       within = within.1;
       behind = next.1;
-      placed = subst (λ l. PlacesOn c.args.room.window c.args.room.free c.free_behind-free.result
-          (map (item_of choices) part) (map (item_of choices) (drop (i + 1) part))
+      placed = subst (λ l. PlacesMore c.args.room.window c.args.room.free c.free_behind-free.result
+          (map (need_item choices) part) (map (need_item choices) (drop (i + 1) part))
           c.reserve.new.self.items l) (sym (c.push_reserved.ensures.items))
           (places-next c.args.room.window c.args.room.free c.loop-need.free
           c.free_behind-free.result choices part i need c.place_frame-frame.result

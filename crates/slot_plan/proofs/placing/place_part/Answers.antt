@@ -1,6 +1,6 @@
 -- The part is placed, after its lead-in where it needs something free.
 use Rattle.std.proofs.{Common.arith, lemmas.Result.IfOk-weaker}
-use Rattle.slot_plan.proofs.PlacedLaws.{part-led, part-without}
+use Rattle.slot_plan.proofs.PlacedLemmas.{part-led, part-without}
 use Rattle.slot_plan.proofs.placing.place_part.Goals as goal
 
 pub returns-then-reserves-eq0-clause-placed : goal.returns-then-reserves-eq0-clause-placed

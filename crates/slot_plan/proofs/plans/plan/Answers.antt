@@ -1,11 +1,12 @@
 -- One part more.
 use Rattle.std.proofs.Common.{arith, drop, get_or, length, refl, rules, subst, sym, ◌+◌, ◌<◌}
 use Rattle.std.specs.Prelude.{slice_range}
-use Rattle.slot_plan.proofs.LeastPlan.{plan-least}
-use Rattle.slot_plan.proofs.PartLaws.{class-range, one-class, part-ready, parts-cons, parts-none}
-use Rattle.slot_plan.proofs.PartLaws.{placeable-own, window-first}
-use Rattle.slot_plan.proofs.PlacedLaws.{parts-all, parts-begun, parts-more, PartsPlaced}
-use Rattle.slot_plan.specs.{Parts.{AreOfClass, ArePartsFeasible, parts_of, window_in}, Plans.IsPlan}
+use Rattle.slot_plan.proofs.LeastPlanLemmas.{plan-least}
+use Rattle.slot_plan.proofs.PartLemmas.{class-range, one-class, part-ready, parts-cons, parts-none}
+use Rattle.slot_plan.proofs.PartLemmas.{placeable-own, window-first}
+use Rattle.slot_plan.proofs.PlacedLemmas.{parts-all, parts-begun, parts-more, PartsPlaced}
+use Rattle.slot_plan.specs.Parts.{AreNeedsOfClass, ArePartsFeasible, needs_in_parts, window_in}
+use Rattle.slot_plan.specs.Plans.{IsPlan}
 use Rattle.slot_plan.proofs.plans.plan.Goals as goal
 
 pub loop-at-init : goal.loop-at-init
@@ -18,14 +19,14 @@ loop-at-init g c =
     c.class-class.ensures c.window-window.ensures.window in
     record {
       free = omega arith;
-      feasible = subst (λ n. ArePartsFeasible n (parts_of needs c.args.parts.now))
+      feasible = subst (λ n. ArePartsFeasible n (needs_in_parts needs c.args.parts.now))
           (sym window) c.requires.planned.feasible;
       placed =
           subst (λ l. PartsPlaced c.window-window.result (g.P.Policy.choices_of c.args.policy.now)
-          (parts_of needs c.args.parts.now) (parts_of needs c.args.parts.now) 0 l)
+          (needs_in_parts needs c.args.parts.now) (needs_in_parts needs c.args.parts.now) 0 l)
           (sym c.in_ok-placed.ensures.items)
           (parts-begun c.window-window.result (g.P.Policy.choices_of c.args.policy.now)
-          (parts_of needs c.args.parts.now));
+          (needs_in_parts needs c.args.parts.now));
     }
 
 pub place_part-requires : goal.place_part-requires
@@ -39,7 +40,7 @@ place_part-requires g c =
     c.loop-at-test.true c.end_of.ensures.next c.end_of.ensures.last c.loop-at.invariant.feasible in
     record {
       table = record {
-        class = subst (λ k. AreOfClass k (slice_range needs from c.end_of.result))
+        class = subst (λ k. AreNeedsOfClass k (slice_range needs from c.end_of.result))
             (sym c.in_ok-table.ensures.class_is)
             (class-range c.class-class.result needs from c.end_of.result class);
         of_slots = c.in_ok-table.ensures.of_slots;
@@ -63,10 +64,10 @@ loop-at-preserved g c =
     record {
       free = c.in_ok-free.ensures.within;
       feasible = ready.2;
-      placed = parts-more c.window-window.result choices (parts_of needs parts) _
-          (parts_of needs (drop (c.loop-at.at + 1) parts)) c.loop-at.free c.in_ok-free.free
+      placed = parts-more c.window-window.result choices (needs_in_parts needs parts) _
+          (needs_in_parts needs (drop (c.loop-at.at + 1) parts)) c.loop-at.free c.in_ok-free.free
           c.loop-at.placed.items c.place_part.new.placed.items c.in_ok-free.ensures.placed
-          (subst (λ l. PartsPlaced c.window-window.result choices (parts_of needs parts) l
+          (subst (λ l. PartsPlaced c.window-window.result choices (needs_in_parts needs parts) l
           c.loop-at.free c.loop-at.placed.items) here c.loop-at.invariant.placed);
     }
 
@@ -81,13 +82,14 @@ returns g c =
     c.index-needs-0.result c.class-class.result c.window-window.result c.requires.planned.class some
     c.class-class.ensures c.window-window.ensures.window in
     let all = subst (λ l. PartsPlaced c.window-window.result choices
-    (parts_of needs parts) l c.loop-at.free c.loop-at.placed.items)
+    (needs_in_parts needs parts) l c.loop-at.free c.loop-at.placed.items)
     (parts-none needs parts c.loop-at.at c.loop-at-test.false) c.loop-at.invariant.placed in
-    let plan = subst (λ n. IsPlan n choices (parts_of needs parts) c.loop-at.placed.items) window
+    let plan =
+    subst (λ n. IsPlan n choices (needs_in_parts needs parts) c.loop-at.placed.items) window
     (parts-all c.window-window.result choices
-    (parts_of needs parts) c.loop-at.free c.loop-at.placed.items all) in
+    (needs_in_parts needs parts) c.loop-at.free c.loop-at.placed.items all) in
     record {
       plan = plan;
       least = λ order. plan-least (window_in needs) choices
-          (parts_of needs parts) c.loop-at.placed.items order plan;
+          (needs_in_parts needs parts) c.loop-at.placed.items order plan;
     }

@@ -1,10 +1,10 @@
 -- The one part is placed after its lead-in.
 use Rattle.std.proofs.Common.{arith, length, rules, subst, sym, ◌<◌}
 use Rattle.frame_header.specs.Slots.{all_slots}
-use Rattle.slot_plan.proofs.LeastPlan.{led-least}
-use Rattle.slot_plan.proofs.PartLaws.{one-class, one-part, placeable-own, window-first}
-use Rattle.slot_plan.{proofs.PlacedLaws.led-placed, specs.Parts.{AreOfClass, window_in}}
-use Rattle.slot_plan.specs.{Plans.IsLedPlan, Reserve.PlacesLed}
+use Rattle.slot_plan.proofs.LeastPlanLemmas.{led-least}
+use Rattle.slot_plan.proofs.PartLemmas.{one-class, one-part, placeable-own, window-first}
+use Rattle.slot_plan.{proofs.PlacedLemmas.led-placed, specs.Parts.{AreNeedsOfClass, window_in}}
+use Rattle.slot_plan.specs.{Plans.IsLedPlan, Reserve.PlacesLedPart}
 use Rattle.slot_plan.proofs.plans.plan_led.Goals as goal
 
 pub place_led-requires : goal.place_led-requires
@@ -19,7 +19,7 @@ place_led-requires g c =
     c.class-class.ensures c.window-window.ensures.window in
     record {
       table = record {
-        class = subst (λ k. AreOfClass k needs) (sym c.in_ok-table.ensures.class_is) class;
+        class = subst (λ k. AreNeedsOfClass k needs) (sym c.in_ok-table.ensures.class_is) class;
         of_slots = c.in_ok-table.ensures.of_slots;
       };
       part = placeable-own c.class-class.result c.in_ok-table.table.lengths c.window-window.result
@@ -38,7 +38,7 @@ returns g c =
     c.index-needs-0.result c.class-class.result c.window-window.result c.requires.planned.class some
     c.class-class.ensures c.window-window.ensures.window in
     let after = c.in_ok-place_led.field-0 in
-    let led = subst (λ l. PlacesLed c.window-window.result all_slots choices needs 0 after l
+    let led = subst (λ l. PlacesLedPart c.window-window.result all_slots choices needs 0 after l
     c.place_led.new.placed.items) c.in_ok-placed.ensures.items c.in_ok-place_led.ensures.placed in
     let plan = subst (λ n. IsLedPlan n choices needs c.place_led.new.placed.items) window
     (led-placed c.window-window.result after choices needs c.place_led.new.placed.items led) in

@@ -1,7 +1,7 @@
 -- One frame more, from the last to the first.
 use Rattle.std.proofs.Common.{arith, length, subst, sym, [], ◌++◌, ◌+◌, ◌-◌, ◌<◌, ◌∷◌, ◌≡◌, ◌≤◌}
-use Rattle.slot_plan.proofs.PartLaws.{reserves-all, reserves-more, reserves-none, ReservesFrom}
-use Rattle.slot_plan.proofs.{PartLaws.same-class, reserves.reserves_of.Given.Over}
+use Rattle.slot_plan.proofs.PartLemmas.{reserves-all, reserves-more, reserves-none, ReservesFrom}
+use Rattle.slot_plan.proofs.{PartLemmas.same-class, reserves.reserves_of.Given.Over}
 use Rattle.slot_plan.proofs.reserves.reserves_of.Goals as goal
 
 more : (g : Over) (c : goal.After-needed_before-before g)

@@ -1,6 +1,6 @@
 -- The frames from i on have what they need.
 use Rattle.std.{proofs.Common.{◌+◌, ◌≤◌}, specs.Prelude.{vec_capacity, vec_len}}
-use Rattle.slot_plan.proofs.PartLaws.{ReservesFrom}
+use Rattle.slot_plan.proofs.PartLemmas.{ReservesFrom}
 use Rattle.slot_plan.proofs.reserves.reserves_of.Given as goal
 
 abbrev pub invariant-loop-i : goal.invariant-loop-i

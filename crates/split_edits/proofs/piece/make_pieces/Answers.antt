@@ -2,12 +2,13 @@
 use Rattle.std.proofs.Common.{ap, arith, drop, length, length-append, List, map, Ok, subst, sym}
 use Rattle.std.proofs.{Common.{take, [], ◌+◌, ◌-◌, ◌∙◌, ◌∷◌, ◌≡◌}, lemmas.List.map-append}
 use Rattle.std.proofs.lemmas.List.Elements.{All-drop, All-take}
-use Rattle.laying.{proofs.RelayLaws.item-next, specs.Laid.{IsWritable, Laid, laid_in}}
+use Rattle.laying.proofs.RelayLemmas.{item-next}
+use Rattle.laying.specs.Laid.{IsWritableSelection, LaidPart, selected_part}
 use Rattle.laying.specs.declared.selected.Selected.{Selected}
-use Rattle.split_edits.proofs.PiecesLaws.{fault-of-all, laid-is, laid_before, match_err}
-use Rattle.split_edits.proofs.PiecesLaws.{pieces-push, place-laid, place-refused, places-laid}
-use Rattle.split_edits.specs.{Cutting.laid_from, Steps.{ArePieces, laid_of}}
-use Rattle.sync_survey.specs.Faults.{tells}
+use Rattle.split_edits.proofs.PiecesLemmas.{fault-of-all, laid-is, laid_before, match_err}
+use Rattle.split_edits.proofs.PiecesLemmas.{pieces-push, place-laid, place-refused, places-laid}
+use Rattle.split_edits.specs.{Cutting.piece_parts_from, Steps.{ArePieces, piece_part}}
+use Rattle.sync_survey.specs.Faults.{survey_view}
 use Rattle.split_edits.proofs.piece.make_pieces.Goals as goal
 
 pub loop-to-preserved : goal.loop-to-preserved
@@ -19,13 +20,15 @@ loop-to-preserved g c =
     let next = item-next rest at.to-index to (omega (arith, c.loop-to-test.true)) c.to-item.is in
     let piece = c.in_ok-piece.piece in
     let items = c.in_ok-push.ensures.items in
-    let more = ap (map laid_of) items ∙ map-append laid_of at.pieces.items (piece ∷ []) in
+    let more = ap (map piece_part) items ∙ map-append piece_part at.pieces.items (piece ∷ []) in
     record {
-      pieces = subst (ArePieces c.args.prefix.now (tells c.args.source.now.survey) 1) (sym items)
-          (pieces-push c.args.prefix.now (tells c.args.source.now.survey) 1
+      pieces =
+          subst (ArePieces c.args.prefix.now (survey_view c.args.source.now.survey) 1) (sym items)
+          (pieces-push c.args.prefix.now (survey_view c.args.source.now.survey) 1
           (at.number + 1) at.pieces.items piece
           at.invariant.pieces (omega (arith, at.invariant.many, at.invariant.number))
-          c.in_ok-piece.ensures.name (subst (IsWritable (tells c.args.source.now.survey))
+          c.in_ok-piece.ensures.name
+          (subst (IsWritableSelection (survey_view c.args.source.now.survey))
           (sym c.in_ok-piece.ensures.selected) c.in_ok-selected.ensures.writable));
       many = omega
           (arith, at.invariant.many, ap length items, length-append at.pieces.items (piece ∷ []));
@@ -35,13 +38,13 @@ loop-to-preserved g c =
           (All-drop g.C.Cut.IsSound 1 c.args.places.now c.requires.places.0) at.to-index to
           (omega (arith, c.loop-to-test.true)));
       laid = λ file s is.
-          subst (λ (done : List Laid).
-          laid_before done (laid_from cut file s to (drop (at.to-index + 1) rest))
-          ≡ laid_from cut file s c.index-places-0.result rest) (sym more)
-          (place-laid cut file s at.to-index at.from.now rest (map laid_of at.pieces.items) _
-          (at.invariant.laid file s is) to next (laid_of piece)
+          subst (λ (done : List LaidPart).
+          laid_before done (piece_parts_from cut file s to (drop (at.to-index + 1) rest))
+          ≡ piece_parts_from cut file s c.index-places-0.result rest) (sym more)
+          (place-laid cut file s at.to-index at.from.now rest (map piece_part at.pieces.items) _
+          (at.invariant.laid file s is) to next (piece_part piece)
           (c.in_ok-selected.ensures.laid file s is
-          ∙ ap (λ (x : Selected). Ok (laid_in x)) (sym c.in_ok-piece.ensures.selected)));
+          ∙ ap (λ (x : Selected). Ok (selected_part x)) (sym c.in_ok-piece.ensures.selected)));
     }
 
 pub select-requires-clause-to : goal.select-requires-clause-to
@@ -63,7 +66,7 @@ returns-in_err-selected-clause-laid g c =
     (λ is file s known.
     laid-is cut file s
     c.index-places-0.result c.args.places.now c.requires.places.1 c.index-places-0.is
-    ∙ place-refused cut file s at.to-index at.from.now rest (map laid_of at.pieces.items) _
+    ∙ place-refused cut file s at.to-index at.from.now rest (map piece_part at.pieces.items) _
     (at.invariant.laid file s known) to next _ (is file s known))
     c.in_err-selected.ensures.laid)
 
@@ -74,5 +77,5 @@ returns-clause-laid g c = λ file s known.
     let rest = take (length c.args.places.now - 1) (drop 1 c.args.places.now) in
     laid-is cut file s
     c.index-places-0.result c.args.places.now c.requires.places.1 c.index-places-0.is
-    ∙ places-laid cut file s at.to-index at.from.now rest (map laid_of at.pieces.items) _
+    ∙ places-laid cut file s at.to-index at.from.now rest (map piece_part at.pieces.items) _
     (at.invariant.laid file s known) (omega (arith, c.loop-to-test.false))

@@ -1,6 +1,6 @@
 -- A sheet whose bytes aren't read says no positions.
-use Rattle.commands.proofs.RefusingLaws.{err_with}
-use Rattle.split_edits.proofs.SheetLaws.{unread-fault, unread-number}
+use Rattle.commands.proofs.RefusingLemmas.{err_with}
+use Rattle.split_edits.proofs.SheetLemmas.{unread-fault, unread-number}
 use Rattle.split_edits.proofs.sheet.sheet_places.Goals as goal
 
 pub returns-in_err-bytes-clause-refused : goal.returns-in_err-bytes-clause-refused

@@ -1,20 +1,20 @@
 -- A clash of names, what was met before the first output is created, and the second pass.
 use Rattle.std.proofs.Common.{ap, ap₂, arith, length, List, map, None, Ok, refl, rules, subst, sym}
 use Rattle.std.proofs.{Common.{ℕ, ◌∙◌, ◌≡◌, ◌≤◌}, lemmas.Result.{IfErr-weaker, on_ok_weaker}}
-use Rattle.commands.{proofs.MakeLaws.{names_free, no_clash, refused_run}, specs.Command.clash_of}
-use Rattle.frame_writer.proofs.WritingLaws.{ok-both}
-use Rattle.laying.specs.Surveys.{HasSurvey}
-use Rattle.outside.proofs.CountsLaws.{none_fell_by_reads, none_fell_then, only_reads_then}
-use Rattle.outside.specs.{Counts.NoneFell, Files.{Files, Holds}, Seen.{Seen, seen}}
-use Rattle.split_edits.proofs.CommandLaws.{clash-found, equal-left, head-left, head-numbers}
-use Rattle.split_edits.proofs.CommandLaws.{input-left, memory-left, pieces-numbers, places-left}
-use Rattle.split_edits.proofs.CommandLaws.{places-numbers, range-left, range-numbers, split-done}
-use Rattle.split_edits.proofs.CommandLaws.{split-left, split-streams, survey-numbers}
-use Rattle.split_edits.proofs.PiecesLaws.{can-be-written, fault-of-all}
+use Rattle.commands.{proofs.MakeLemmas.{names_free, no_clash, refused_run}, specs.Command.clash_of}
+use Rattle.frame_writer.proofs.WritingLemmas.{ok-both}
+use Rattle.laying.specs.Surveys.{CanBeRelaid}
+use Rattle.outside.proofs.CountsLemmas.{none_fell_by_reads, none_fell_then, only_reads_then}
+use Rattle.outside.specs.{Counts.NoneFell, Files.{Files, Holds}, Seen.{Seen, seen_folder}}
+use Rattle.split_edits.proofs.CommandLemmas.{clash-found, equal-left, head-left, head-numbers}
+use Rattle.split_edits.proofs.CommandLemmas.{input-left, memory-left, pieces-numbers, places-left}
+use Rattle.split_edits.proofs.CommandLemmas.{places-numbers, range-left, range-numbers, split-done}
+use Rattle.split_edits.proofs.CommandLemmas.{split-left, split-streams, survey-numbers}
+use Rattle.split_edits.proofs.PiecesLemmas.{can-be-written, fault-of-all}
 use Rattle.split_edits.proofs.split_file.split_by.Goals.{After-as_slice, In_ok-pieces}
-use Rattle.split_edits.specs.Cutting.{laid_at, split_command}
-use Rattle.split_edits.specs.Steps.{ArePieces, IsSource, laid_of, Says}
-use Rattle.sync_survey.specs.Faults.{SurveyFields, tells}
+use Rattle.split_edits.specs.Cutting.{piece_parts, split_command}
+use Rattle.split_edits.specs.Steps.{ArePieces, IsSplitSource, piece_part, SaysPlaces}
+use Rattle.sync_survey.specs.Faults.{survey_view, SurveyFields}
 use Rattle.split_edits.proofs.split_file.split_by.Given as given
 use Rattle.split_edits.proofs.split_file.split_by.Goals as goal
 
@@ -54,7 +54,7 @@ returns-in_err-source g c =
     clash-found cut input prefix _ _ None c.sheet.ensures c.clash.ensures c.in_default.is in
     refused_run _ _ _ _ _ none c.from_residual-in_err-source.ensures.1
     (head-left cut c.requires.proper input prefix none (g.D.Folder.seen c.args.folder.now)
-    (g.D.Folder.seen c.survey_at.new.folder) _ (ap₂ seen c.survey_at.ensures.reads.files
+    (g.D.Folder.seen c.survey_at.new.folder) _ (ap₂ seen_folder c.survey_at.ensures.reads.files
     c.in_ok-survey.ensures.reads.done) _ c.in_err-source.ensures.refused)
     (head-numbers cut input prefix _ c.in_err-source.ensures.numbers)
     (none_fell_by_reads _ _
@@ -70,9 +70,9 @@ returns-in_err-places g c =
     let old = g.D.Folder.seen c.args.folder.now in
     let mid = g.D.Folder.seen c.read.new.folder in
     refused_run _ _ _ _ _ none c.from_residual-in_err-places.ensures.1
-    (places-left cut c.requires.proper input prefix none (tells c.in_ok-survey.survey) old
+    (places-left cut c.requires.proper input prefix none (survey_view c.in_ok-survey.survey) old
     c.in_ok-survey.ensures.there c.in_ok-survey.ensures.surveyed mid _
-    (ap₂ seen (c.read.ensures.reads.files ∙ c.survey_at.ensures.reads.files)
+    (ap₂ seen_folder (c.read.ensures.reads.files ∙ c.survey_at.ensures.reads.files)
     (c.in_ok-source.ensures.reads.done ∙ c.in_ok-survey.ensures.reads.done)) _
     c.in_err-places.ensures.refused)
     (places-numbers cut input prefix _ c.in_err-places.ensures.numbers)
@@ -92,13 +92,13 @@ module _ (g : given.Over) (c : After-as_slice g) where
   free = clash-found (g.C.Cut.cutting c.args.cut.now) c.args.input.now c.args.prefix.now _ _ None
       c.sheet.ensures c.clash.ensures c.in_default.is
 
-  said : Says (g.C.Cut.cutting c.args.cut.now) old.files (Ok c.as_slice.result.now)
-  said = subst (λ (files : Files). Says (g.C.Cut.cutting c.args.cut.now) files
+  said : SaysPlaces (g.C.Cut.cutting c.args.cut.now) old.files (Ok c.as_slice.result.now)
+  said = subst (λ (files : Files). SaysPlaces (g.C.Cut.cutting c.args.cut.now) files
       (Ok c.as_slice.result.now)) (c.read.ensures.reads.files ∙ c.survey_at.ensures.reads.files)
       (rw c.as_slice.ensures.value c.in_ok-places.ensures.places)
 
   stays : mid ≡ old
-  stays = ap₂ seen (c.places.ensures.reads.files ∙ c.read.ensures.reads.files
+  stays = ap₂ seen_folder (c.places.ensures.reads.files ∙ c.read.ensures.reads.files
       ∙ c.survey_at.ensures.reads.files) (c.in_ok-places.ensures.reads.done
       ∙ c.in_ok-source.ensures.reads.done ∙ c.in_ok-survey.ensures.reads.done)
 
@@ -107,8 +107,8 @@ module _ (g : given.Over) (c : After-as_slice g) where
       c.survey_at.ensures.reads.counts c.read.ensures.reads.counts) c.places.ensures.reads.counts)
 
   known : (bytes : List ℕ) → Holds old.files c.args.input.now bytes
-      → IsSource (g.C.Cut.cutting c.args.cut.now) g.C.Cut.head c.in_ok-source.source bytes
-      (tells c.in_ok-survey.survey)
+      → IsSplitSource (g.C.Cut.cutting c.args.cut.now) g.C.Cut.head c.in_ok-source.source bytes
+      (survey_view c.in_ok-survey.survey)
   known bytes holds = c.in_ok-source.ensures.source bytes (subst (λ (files : Files). Holds files
       c.args.input.now bytes) (sym c.survey_at.ensures.reads.files) holds)
 
@@ -117,10 +117,11 @@ returns-in_err-pieces g c =
     let at = (goal.at.returns-in_err-pieces g c).After-as_slice in
     refused_run _ _ _ _ _ (free g at) c.from_residual-in_err-pieces.ensures.1
     (range-left (g.C.Cut.cutting c.args.cut.now)
-    c.requires.proper c.args.input.now c.args.prefix.now (free g at) (tells c.in_ok-survey.survey)
+    c.requires.proper c.args.input.now c.args.prefix.now (free g at)
+    (survey_view c.in_ok-survey.survey)
     (old g at) c.in_ok-survey.ensures.there c.in_ok-survey.ensures.surveyed _ _
     (stays g at) c.as_slice.result.now (said g at) _ refl
-    (fault-of-all (λ is bytes holds. is bytes (tells c.in_ok-survey.survey)
+    (fault-of-all (λ is bytes holds. is bytes (survey_view c.in_ok-survey.survey)
     (known g at bytes holds)) c.in_err-pieces.ensures.laid))
     (range-numbers (g.C.Cut.cutting c.args.cut.now) c.args.input.now c.args.prefix.now _
     c.in_err-pieces.ensures.laid) (fell g at)
@@ -130,7 +131,8 @@ returns-in_err-buffers g c =
     let at = (goal.at.returns-in_err-buffers g c).After-as_slice in
     refused_run _ _ _ _ _ (free g at) c.from_residual-in_err-buffers.ensures.1
     (memory-left (g.C.Cut.cutting c.args.cut.now)
-    c.requires.proper c.args.input.now c.args.prefix.now (free g at) (tells c.in_ok-survey.survey)
+    c.requires.proper c.args.input.now c.args.prefix.now (free g at)
+    (survey_view c.in_ok-survey.survey)
     (old g at) c.in_ok-survey.ensures.there c.in_ok-survey.ensures.surveyed _ _ (stays g at) refl)
     tt (fell g at)
 
@@ -154,10 +156,11 @@ write_pieces-requires-clause-split g c =
       has = λ bytes holds.
           let is = known g at.After-as_slice bytes
           (subst (λ (now : Seen). Holds now.files c.args.input.now bytes) same holds) in
-          subst (HasSurvey bytes) (sym is.survey) is.has;
+          subst (CanBeRelaid bytes) (sym is.survey) is.has;
       few = omega (arith, some, ap length c.as_slice-2.ensures.value);
       ready = rw c.as_slice-2.ensures.value
-          (can-be-written c.args.prefix.now c.args.input.now (tells c.in_ok-source.source.survey) 1
+          (can-be-written c.args.prefix.now c.args.input.now
+          (survey_view c.in_ok-source.source.survey) 1
           _ (no_clash _ 0 _ (free g at.After-as_slice)).0 (omega arith)
           (omega (arith, some)) c.in_ok-pieces.ensures.pieces);
     }
@@ -169,14 +172,14 @@ returns g c =
     let items = c.as_slice-2.ensures.value in
     let input = c.args.input.now in
     let prefix = c.args.prefix.now in
-    let s = tells c.in_ok-survey.survey in
+    let s = survey_view c.in_ok-survey.survey in
     let by = c.in_ok-source.ensures.survey in
     let survey = c.in_ok-survey.ensures in
     let pieces = c.in_ok-pieces.pieces.items in
     let named =
     subst (λ (t : SurveyFields). ArePieces prefix t 1 pieces) by c.in_ok-pieces.ensures.pieces in
-    let laid : (bytes : List ℕ) → Holds (old g at).files input bytes → laid_at
-    (g.C.Cut.cutting c.args.cut.now) bytes s c.as_slice.result.now ≡ Ok (map laid_of pieces) =
+    let laid : (bytes : List ℕ) → Holds (old g at).files input bytes → piece_parts
+    (g.C.Cut.cutting c.args.cut.now) bytes s c.as_slice.result.now ≡ Ok (map piece_part pieces) =
     λ bytes holds. c.in_ok-pieces.ensures.laid bytes s (known g at bytes holds) in
     let touches = rw items at c.write_pieces.ensures.touches in
     let numbers = IfErr-weaker c.write_pieces.result _ _

@@ -1,23 +1,23 @@
 -- A piece more that is whole, or begun.
 use Rattle.std.proofs.Common.{arith, drop, length, refl, rules, string_bytes, subst, sym, take, []}
 use Rattle.std.proofs.{Common.{◌+◌, ◌∙◌, ◌∷◌, ◌≡◌, ◌≢◌}, lemmas.List.{length-take, take_all}}
-use Rattle.commands.proofs.OutputLaws.{not_begun, output_whole, pass_fault, touches_prefix}
-use Rattle.commands.proofs.OutputLaws.{touches_whole}
-use Rattle.cut_edits.proofs.LaidPass.{relay-ready}
-use Rattle.laying.{proofs.RelayLaws.item-next, specs.Laid.IsWritable}
-use Rattle.outside.proofs.FilesLaws.{emptied_held_other, fails_touches}
+use Rattle.commands.proofs.OutputLemmas.{not_begun, output_whole, pass_fault, touches_prefix}
+use Rattle.commands.proofs.OutputLemmas.{touches_whole}
+use Rattle.cut_edits.proofs.LaidPassLemmas.{relay-ready}
+use Rattle.laying.{proofs.RelayLemmas.item-next, specs.Laid.IsWritableSelection}
+use Rattle.outside.proofs.FilesLemmas.{emptied_held_other, fails_touches}
 use Rattle.outside.specs.declared.pass.PassFault.TheVariants.{Write}
-use Rattle.split_edits.proofs.OutputsLaws.{all-touched, more-wrote, none-wrote, piece_made}
-use Rattle.split_edits.proofs.OutputsLaws.{pieces-fault, Wrote}
+use Rattle.split_edits.proofs.OutputsLemmas.{all-touched, more-wrote, none-wrote, piece_made}
+use Rattle.split_edits.proofs.OutputsLemmas.{pieces-fault, Wrote}
 use Rattle.split_edits.proofs.writing.write_pieces.Goals.{After-create, After-loop-piece}
-use Rattle.split_edits.specs.declared.piece.Piece.{Piece}
-use Rattle.sync_survey.specs.Faults.{tells}
+use Rattle.split_edits.specs.declared.piece.PlannedPiece.{PlannedPiece}
+use Rattle.sync_survey.specs.Faults.{survey_view}
 use Rattle.split_edits.proofs.writing.write_pieces.Given as given
 use Rattle.split_edits.proofs.writing.write_pieces.Goals as goal
 
 pub loop-piece-init : goal.loop-piece-init
 loop-piece-init g c = record {
-  wrote = none-wrote (tells c.args.survey.now)
+  wrote = none-wrote (survey_view c.args.survey.now)
       c.args.input.now (g.D.Folder.seen c.args.folder.now).files c.requires.split.there;
   place = refl;
   fed = c.requires.fed;
@@ -27,13 +27,13 @@ loop-piece-init g c = record {
 
 -- the next piece
 module _ (g : given.Over) (c : After-create g) where
-  abbrev piece : Piece
+  abbrev piece : PlannedPiece
   piece = c.piece-item.result
 
   ready : (c.args.input.now ≢ string_bytes piece.name)
-      × IsWritable (tells c.args.survey.now) piece.selected
-  ready = subst (λ (p : Piece). (c.args.input.now ≢ string_bytes p.name)
-      × IsWritable (tells c.args.survey.now) p.selected) (sym c.piece-item.is)
+      × IsWritableSelection (survey_view c.args.survey.now) piece.selected
+  ready = subst (λ (p : PlannedPiece). (c.args.input.now ≢ string_bytes p.name)
+      × IsWritableSelection (survey_view c.args.survey.now) p.selected) (sym c.piece-item.is)
       (c.requires.split.ready c.loop-piece.piece-index piece
       (omega (arith, c.loop-piece-test.true)))
 
@@ -76,12 +76,12 @@ returns-in_default g c =
     let kept = rw c.as_str.ensures.value at c.in_default.ensures.answer.kept in
     record {
       written = tt;
-      touches = all-touched (tells c.args.survey.now) c.args.input.now c.args.pieces.now
+      touches = all-touched (survey_view c.args.survey.now) c.args.input.now c.args.pieces.now
           c.loop-piece.piece-index (piece g at) _ _ _ (next g at) c.loop-piece.invariant.wrote
           (fails_touches _ _ _ (rw c.as_str.ensures.value at c.in_default.ensures.answer.kept));
       done = tt;
       left =
-          pieces-fault (tells c.args.survey.now)
+          pieces-fault (survey_view c.args.survey.now)
           c.args.input.now c.args.pieces.now c.loop-piece.piece-index (piece g at) _ _ _ (next g at)
           c.loop-piece.invariant.wrote (fails_touches _ _ _ kept) Write c.loop-piece.place _ _ _
           (place-is g at) c.loop-piece.invariant.counts (
@@ -98,7 +98,7 @@ returns-in_default g c =
 pub returns-in-Err : goal.returns-in-Err
 returns-in-Err g c =
     let at = (goal.at.returns-in-Err g c).After-create in
-    let made = piece_made (tells c.args.survey.now) (piece g at) in
+    let made = piece_made (survey_view c.args.survey.now) (piece g at) in
     let touches = touches_prefix made _ _
     (apart g at) _ _ _ c.in-Ok.ensures.answer.created c.in-Err.ensures.prefix in
     let fault = pass_fault made _ _ (apart g at) _ _ _ c.in-Ok.ensures.answer.created
@@ -108,13 +108,13 @@ returns-in-Err g c =
     (apart g at) _ _ _ c.in-Ok.ensures.answer.created c.in-Err.ensures.prefix in
     record {
       written = tt;
-      touches = all-touched (tells c.args.survey.now)
+      touches = all-touched (survey_view c.args.survey.now)
           c.args.input.now c.args.pieces.now c.loop-piece.piece-index (piece g at) _ _ _
           (next g at) c.loop-piece.invariant.wrote (rw c.as_str.ensures.value at touches);
       done = tt;
       left =
           rw c.of_pass.ensures
-          (pieces-fault (tells c.args.survey.now)
+          (pieces-fault (survey_view c.args.survey.now)
           c.args.input.now c.args.pieces.now c.loop-piece.piece-index (piece g at) _ _ _
           (next g at) c.loop-piece.invariant.wrote (rw c.as_str.ensures.value at touches)
           c.in-Err.fault c.loop-piece.place _ _ _ (place-is g at) c.loop-piece.invariant.counts
@@ -128,10 +128,10 @@ loop-piece-preserved g c =
     let at = (goal.at.loop-piece-preserved g c).After-create in
     let touches = touches_whole _ _ _
     (apart g at) _ _ _ c.in-Ok.ensures.answer.created c.in_default-write.ensures.written in
-    let whole = output_whole (piece_made (tells c.args.survey.now) (piece g at)) _ _
+    let whole = output_whole (piece_made (survey_view c.args.survey.now) (piece g at)) _ _
     (apart g at) _ _ _ c.in-Ok.ensures.answer.created c.in_default-write.ensures.written in
     record {
-      wrote = more-wrote (tells c.args.survey.now)
+      wrote = more-wrote (survey_view c.args.survey.now)
           c.args.input.now c.args.pieces.now c.loop-piece.piece-index (piece g at) _ _ _
           (next g at) c.loop-piece.invariant.wrote (rw c.as_str.ensures.value at touches)
           (ready g at).0 (rw c.as_str.ensures.value at whole);
@@ -144,7 +144,7 @@ loop-piece-preserved g c =
 
 -- all of them
 all-wrote : (g : given.Over) (c : After-loop-piece g)
-    → Wrote (tells c.args.survey.now) c.args.input.now c.args.pieces.now
+    → Wrote (survey_view c.args.survey.now) c.args.input.now c.args.pieces.now
     (g.D.Folder.seen c.args.folder.now).files (g.D.Folder.seen c.loop-piece.folder).files
 all-wrote g c = rw (take_all c.loop-piece.piece-index c.args.pieces.now
     (omega (arith, c.loop-piece-test.false))) at c.loop-piece.invariant.wrote

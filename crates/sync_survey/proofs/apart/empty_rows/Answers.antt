@@ -1,6 +1,6 @@
 -- A frame more is an empty one, or stays.
 use Rattle.std.proofs.Common.{arith, length, ◌<◌}
-use Rattle.sync_survey.proofs.ApartRows.{emptied-step}
+use Rattle.sync_survey.proofs.ApartRowLemmas.{emptied-step}
 use Rattle.sync_survey.proofs.apart.empty_rows.Goals as goal
 
 pub loop-row-preserved : goal.loop-row-preserved

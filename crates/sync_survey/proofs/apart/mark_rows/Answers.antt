@@ -1,6 +1,6 @@
 -- A frame more is marked; after the last one that may be lost the others stay.
 use Rattle.std.proofs.Common.{ap, arith, length, min, sym, ◌+◌, ◌-◌, ◌<◌, ◌^◌, ◌∙◌, ◌≤◌}
-use Rattle.sync_survey.proofs.ApartRows.{marked-all, marked-last, marked-next, marked-none}
+use Rattle.sync_survey.proofs.ApartRowLemmas.{marked-all, marked-last, marked-next, marked-none}
 use Rattle.sync_survey.specs.{MainData.own_area, Row.Row}
 use Rattle.sync_survey.proofs.apart.mark_rows.Goals as goal
 

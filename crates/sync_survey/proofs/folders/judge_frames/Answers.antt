@@ -3,19 +3,20 @@ use Rattle.std.proofs.Common.{ap, ap₂, arith, Err, IfSome, length, List, None,
 use Rattle.std.proofs.Common.{rules, Some, subst, sym, vec_len, ℕ, [], ◌+◌, ◌<◌, ◌∙◌, ◌∷◌, ◌≡◌, ◌≤◌}
 use Rattle.std.proofs.lemmas.Bool.{eq-eqb, eqb-true, true≢false}
 use Rattle.frame_header.specs.Tables.{class_of}
-use Rattle.outside.{proofs.PassedLaws.err_at, specs.{Counts.OnlyReads, Files.Holds}}
-use Rattle.sync_survey.proofs.FaultsLaws.{marked-length, marked-none}
-use Rattle.sync_survey.proofs.FoldersLaws.{bytes_refusal, none_read, only_reads_equal, read_more}
-use Rattle.sync_survey.proofs.FoldersLaws.{refusal_after, still_held, survey_of-short}
-use Rattle.sync_survey.proofs.{FrontLaws.pieces_later, LooksLaws.item_at-shown}
-use Rattle.sync_survey.proofs.PlacedRows.{ArePlacedTo, placed_none}
-use Rattle.sync_survey.proofs.Progress.{IsBegun, IsSurveyedTo, no_frame, stopped_fault}
-use Rattle.sync_survey.proofs.Progress.{surveyed_none, whole}
-use Rattle.sync_survey.proofs.StepLaws.{few_by, few_more, item_header, kept, laid_later, laid_more}
-use Rattle.sync_survey.proofs.{StepLaws.{pass_refusal, refused}, SurveyLaws.told_by}
+use Rattle.outside.{proofs.BufferOutputLemmas.err_at, specs.{Counts.OnlyReads, Files.Holds}}
+use Rattle.sync_survey.proofs.FaultsLemmas.{marked-length, marked-none}
+use Rattle.sync_survey.proofs.FoldersLemmas.{bytes_refusal, none_read, only_reads_equal, read_more}
+use Rattle.sync_survey.proofs.FoldersLemmas.{refusal_after, still_held, survey_of-short}
+use Rattle.sync_survey.proofs.{FrontLemmas.pieces_later, LooksLemmas.item_at-shown}
+use Rattle.sync_survey.proofs.PlacedRowLemmas.{ArePlacedTo, placed_none}
+use Rattle.sync_survey.proofs.ProgressLemmas.{IsBegun, IsSurveyedTo, no_frame, stopped_fault}
+use Rattle.sync_survey.proofs.ProgressLemmas.{surveyed_none, whole}
+use Rattle.sync_survey.proofs.StepLemmas.{few_by, few_more, item_header, kept, laid_later}
+use Rattle.sync_survey.proofs.{StepLemmas.{laid_more, pass_refusal, refused}, SurveyLemmas.told_by}
 use Rattle.sync_survey.{proofs.folders.judge_frames.Goals.After-bytes, specs.Faults.class_from}
 use Rattle.sync_survey.specs.{Items.{item_front, size_of}, Looks.{IsNotPassed, PassesItem, Shows}}
-use Rattle.sync_survey.specs.{MainData.marked, Row.Row, Survey.{AreLaid, HasLength, IsWholeHead}}
+use Rattle.sync_survey.specs.{MainData.marked_rows, Row.Row}
+use Rattle.sync_survey.specs.Survey.{FramesAreLaid, HasLength, IsWholeHead}
 use Rattle.sync_survey.specs.{Walk.{fault_at, IsFrameOf}, declared.items.Item.TheVariants.Frame}
 use Rattle.sync_survey.specs.declared.places.{Head.Head, Start.Start}
 use Rattle.sync_survey.specs.declared.survey_fault.SurveyFault.TheVariants.{NoFrame}
@@ -30,7 +31,7 @@ some_of : (rows : List Row) → (length rows ≡ 0 → ⊥) → 0 < length rows
 some_of [] none = absurd (none refl)
 some_of (r ∷ rows) none = omega arith
 
-frames_count : (head : Option Head) (rows frames : List Row) → rows ≡ marked head frames
+frames_count : (head : Option Head) (rows frames : List Row) → rows ≡ marked_rows head frames
     → length rows ≡ length frames
 frames_count head rows frames marks = ap length marks ∙ marked-length head frames
 
@@ -49,7 +50,8 @@ loop-at-init g c = record {
         (c.requires.walk.told bytes holds).kept c.head_area.ensures.area);
   };
   laid = record {
-    rows = subst (λ rows. AreLaid c.args.walk.start.first.offset rows c.numbered_from-at.result)
+    rows =
+        subst (λ rows. FramesAreLaid c.args.walk.start.first.offset rows c.numbered_from-at.result)
         (sym c.new.ensures.items) c.numbered_from-at.ensures.behind;
     pieces = pieces_later 0 c.args.walk.pieces.items c.args.walk.start.front_end
         c.numbered_from-at.result c.requires.walk.laid

@@ -1,8 +1,8 @@
 -- The file was surveyed up to an offset.
 use Rattle.std.proofs.Common.{length, List, ℕ, ◌-◌, ◌≤◌}
 use Rattle.outside.specs.Files.{Holds}
-use Rattle.sync_survey.proofs.{FoldersLaws.HasRead, Progress.IsMarkedTo, StepLaws.IsLaidTo}
-use Rattle.sync_survey.specs.Faults.{class_from}
+use Rattle.sync_survey.proofs.{FoldersLemmas.HasRead, ProgressLemmas.IsMarkedTo}
+use Rattle.sync_survey.{proofs.StepLemmas.IsLaidTo, specs.Faults.class_from}
 use Rattle.sync_survey.proofs.folders.judge_frames.Given as goal
 
 abbrev pub invariant-loop-at : goal.invariant-loop-at

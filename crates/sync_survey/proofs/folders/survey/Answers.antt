@@ -1,22 +1,25 @@
 -- What a file's survey is, clause by clause; and the fault that is told is the first.
 use Rattle.std.proofs.{Common.{length, rules, ◌≤◌}, lemmas.Result.IfOk-weaker}
-use Rattle.sync_survey.{proofs.FirstFault.refused_first, specs.Faults.tells}
-use Rattle.sync_survey.specs.Survey.{IsLaidOut, IsSurveyOf, IsWholeSurvey}
+use Rattle.sync_survey.{proofs.FirstFaultLemmas.refused_first, specs.Faults.survey_view}
+use Rattle.sync_survey.specs.Survey.{IsSurveyLaidOut, IsSurveyOf, IsWholeSurvey}
 use Rattle.sync_survey.proofs.folders.survey.Goals as goal
 
 pub returns : goal.returns
 returns g c = record {
   exact = let name = c.args.name.now in
       let files = (g.D.Folder.seen c.args.folder.now).files in
-      IfOk-weaker c.survey_file.result (λ s. IsWholeSurvey name files c.args.allowed (tells s))
-      (λ s. IsSurveyOf name files c.args.allowed (tells s))
+      IfOk-weaker c.survey_file.result
+      (λ s. IsWholeSurvey name files c.args.allowed (survey_view s))
+      (λ s. IsSurveyOf name files c.args.allowed (survey_view s))
       (λ s is. is.exact) c.survey_file.ensures.surveyed;
   laid = IfOk-weaker c.survey_file.result (λ s. IsWholeSurvey c.args.name.now
-      (g.D.Folder.seen c.args.folder.now).files c.args.allowed (tells s)) (λ s. IsLaidOut (tells s))
+      (g.D.Folder.seen c.args.folder.now).files c.args.allowed (survey_view s))
+      (λ s. IsSurveyLaidOut (survey_view s))
       (λ s is. is.laid) c.survey_file.ensures.surveyed;
   few = IfOk-weaker c.survey_file.result (λ s. IsWholeSurvey c.args.name.now
-      (g.D.Folder.seen c.args.folder.now).files c.args.allowed (tells s)) (λ s.
-      length (tells s).frames ≤ c.args.allowed) (λ s is. is.few) c.survey_file.ensures.surveyed;
+      (g.D.Folder.seen c.args.folder.now).files c.args.allowed (survey_view s)) (λ s.
+      length (survey_view s).frames
+      ≤ c.args.allowed) (λ s is. is.few) c.survey_file.ensures.surveyed;
   there = search rules;
   octets = search rules;
   done = search rules;

@@ -1,7 +1,7 @@
 -- What a step refuses, the survey refuses, since the steps before left the files and all counts.
 use Rattle.std.proofs.Common.{arith, rules, subst, sym, ◌∙◌, ◌≡◌}
-use Rattle.outside.{proofs.PassedLaws.err_at, specs.{Counts.OnlyReads, Files.Holds}}
-use Rattle.sync_survey.{proofs.FoldersLaws.refusal_later, specs.Survey.{BlocksAreLaid, HasLength}}
+use Rattle.outside.{proofs.BufferOutputLemmas.err_at, specs.{Counts.OnlyReads, Files.Holds}}
+use Rattle.sync_survey.{proofs.FoldersLemmas.refusal_later, specs.Survey.{BlocksAreLaid, HasLength}}
 use Rattle.sync_survey.proofs.folders.survey_file.Goals as goal
 
 pub returns-in_err-size : goal.returns-in_err-size

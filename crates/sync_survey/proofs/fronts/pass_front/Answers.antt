@@ -1,9 +1,9 @@
 -- One item more, or none.
 use Rattle.std.proofs.Common.{arith, subst, sym}
-use Rattle.outside.proofs.PassedLaws.{err_at}
-use Rattle.sync_survey.proofs.FoldersLaws.{none_read, read_more, refusal_after, still_held}
-use Rattle.sync_survey.proofs.FrontLaws.{blocks_more, blocks_none, passed_all, passed_end}
-use Rattle.sync_survey.{proofs.FrontLaws.{passed_more, passed_none}, specs.Looks.Shows}
+use Rattle.outside.proofs.BufferOutputLemmas.{err_at}
+use Rattle.sync_survey.proofs.FoldersLemmas.{none_read, read_more, refusal_after, still_held}
+use Rattle.sync_survey.proofs.FrontLemmas.{blocks_more, blocks_none, passed_all, passed_end}
+use Rattle.sync_survey.{proofs.FrontLemmas.{passed_more, passed_none}, specs.Looks.Shows}
 use Rattle.sync_survey.proofs.fronts.pass_front.Goals as goal
 
 pub loop-at-init : goal.loop-at-init

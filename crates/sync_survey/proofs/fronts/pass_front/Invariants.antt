@@ -1,7 +1,7 @@
 -- What was passed so far.
 use Rattle.std.proofs.Common.{List, ℕ, ◌-◌, ◌≤◌}
 use Rattle.outside.specs.Files.{Holds}
-use Rattle.sync_survey.proofs.{FoldersLaws.HasRead, FrontLaws.IsPassedTo}
+use Rattle.sync_survey.proofs.{FoldersLemmas.HasRead, FrontLemmas.IsPassedTo}
 use Rattle.sync_survey.specs.Survey.{BlocksAreLaid}
 use Rattle.sync_survey.proofs.fronts.pass_front.Given as goal
 

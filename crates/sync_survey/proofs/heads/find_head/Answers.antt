@@ -1,6 +1,6 @@
 -- The text is looked for in the frame's own bytes.
 use Rattle.std.proofs.Common.{arith, subst, sym, ◌∙◌}
-use Rattle.sync_survey.{proofs.WalkLaws.head_shown, specs.Looks.Shows}
+use Rattle.sync_survey.{proofs.WalkLemmas.head_shown, specs.Looks.Shows}
 use Rattle.sync_survey.proofs.heads.find_head.Goals as goal
 
 pub returns-clause-head : goal.returns-clause-head

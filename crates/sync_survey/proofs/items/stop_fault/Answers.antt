@@ -1,6 +1,6 @@
 -- Bytes don't end the file.
 use Rattle.std.proofs.Common.{ap, unwrap_or, ◌∙◌}
-use Rattle.sync_survey.{proofs.WalkLaws.stop_is, specs.Walk.fault_at}
+use Rattle.sync_survey.{proofs.WalkLemmas.stop_is, specs.Walk.fault_at}
 use Rattle.sync_survey.specs.declared.survey_fault.SurveyFault.TheVariants.{LostSync}
 use Rattle.sync_survey.proofs.items.stop_fault.Goals as goal
 

@@ -1,5 +1,5 @@
 -- The frames before one that is lost where the head is set apart.
-use Rattle.sync_survey.proofs.ApartLaws.{apart-leads}
+use Rattle.sync_survey.proofs.ApartLemmas.{apart-leads}
 use Rattle.sync_survey.proofs.laws.apart_frames_lead.Goals as goal
 
 pub returns : goal.returns

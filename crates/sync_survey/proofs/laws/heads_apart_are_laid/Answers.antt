@@ -1,5 +1,5 @@
 -- The same with the head, where lost frames are empty ones.
-use Rattle.sync_survey.proofs.EmptiedLaws.{apart-laid}
+use Rattle.sync_survey.proofs.EmptiedLemmas.{apart-laid}
 use Rattle.sync_survey.proofs.laws.heads_apart_are_laid.Goals as goal
 
 pub returns : goal.returns

@@ -1,5 +1,5 @@
 -- The frames before a lost one.
-use Rattle.sync_survey.proofs.LostFrames.{leads-lost, lost-leads}
+use Rattle.sync_survey.proofs.LostFrameLemmas.{leads-lost, lost-leads}
 use Rattle.sync_survey.proofs.laws.lost_frames_lead.Goals as goal
 
 pub returns : goal.returns

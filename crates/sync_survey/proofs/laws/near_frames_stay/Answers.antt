@@ -1,5 +1,5 @@
 -- Where no main data begin in the head.
-use Rattle.sync_survey.proofs.ApartLaws.{near-same}
+use Rattle.sync_survey.proofs.ApartLemmas.{near-same}
 use Rattle.sync_survey.proofs.laws.near_frames_stay.Goals as goal
 
 pub returns : goal.returns

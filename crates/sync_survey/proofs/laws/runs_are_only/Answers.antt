@@ -1,10 +1,11 @@
 -- A run, without its recursion.
-use Rattle.sync_survey.{proofs.RunsLaws.{bytes-ends, run-ends, run-last, run-only}, specs.Runs.run}
+use Rattle.sync_survey.proofs.RunsLemmas.{bytes-ends, run-ends, run-last, run-only}
+use Rattle.sync_survey.specs.Runs.{item_run}
 use Rattle.sync_survey.proofs.laws.runs_are_only.Goals as goal
 
 pub returns : goal.returns
 returns c = λ part file from.
-    let r = run part file from in
+    let r = item_run part file from in
     let ends = run-ends part file from in
     record {
       items = ends;

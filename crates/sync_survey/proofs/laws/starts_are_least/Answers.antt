@@ -1,5 +1,5 @@
 -- The first frame of a stream.
-use Rattle.sync_survey.proofs.StartLaws.{start-first}
+use Rattle.sync_survey.proofs.StartLemmas.{start-first}
 use Rattle.sync_survey.proofs.laws.starts_are_least.Goals as goal
 
 pub returns : goal.returns

@@ -1,5 +1,5 @@
 -- The stream that a survey tells.
-use Rattle.sync_survey.proofs.SurveyParts.{surveyed-stream}
+use Rattle.sync_survey.proofs.SurveyPartsLemmas.{surveyed-stream}
 use Rattle.sync_survey.proofs.laws.surveys_hold_streams.Goals as goal
 
 pub returns : goal.returns

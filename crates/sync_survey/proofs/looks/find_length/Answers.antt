@@ -1,5 +1,5 @@
 -- A file that is too long is refused so, and what is told of any other are bytes.
-use Rattle.sync_survey.proofs.FoldersLaws.{long_refusal, octets_bytes}
+use Rattle.sync_survey.proofs.FoldersLemmas.{long_refusal, octets_bytes}
 use Rattle.sync_survey.proofs.looks.find_length.Goals as goal
 
 pub returns-in-Ok-clause-refused : goal.returns-in-Ok-clause-refused

@@ -1,7 +1,7 @@
 -- What is asked for is within the file.
 use Rattle.std.proofs.Common.{arith, refl, sym, ◌-◌}
-use Rattle.outside.proofs.PassedLaws.{err_at}
-use Rattle.sync_survey.proofs.FoldersLaws.{read_refusal, shown}
+use Rattle.outside.proofs.BufferOutputLemmas.{err_at}
+use Rattle.sync_survey.proofs.FoldersLemmas.{read_refusal, shown}
 use Rattle.sync_survey.proofs.looks.look.Goals as goal
 
 pub fill_exact-requires-clause-found : goal.fill_exact-requires-clause-found

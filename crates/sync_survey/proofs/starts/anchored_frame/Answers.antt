@@ -1,6 +1,6 @@
 -- The frame, and what is at its end.
 use Rattle.std.proofs.Common.{ap, arith, drop, sym, ◌∙◌}
-use Rattle.sync_survey.proofs.StartLaws.{shown_anchored, shown_apart, shown_none, shown_over}
+use Rattle.sync_survey.proofs.StartLemmas.{shown_anchored, shown_apart, shown_none, shown_over}
 use Rattle.sync_survey.specs.{Items.item_front, Start.is_anchor}
 use Rattle.sync_survey.proofs.starts.anchored_frame.Goals as goal
 
@@ -26,7 +26,7 @@ returns-then-not-is_anchor-clause-frame c = λ file shows.
     (omega (arith, c.if-from-left.false, c.from.ensures, c.length-length.ensures.length))
     (omega (arith, c.length-length.ensures.length, c.length-length.ensures.most))
     (c.item_front-behind.ensures ∙ ap item_front
-    (c.bytes_behind.ensures ∙ ap (λ n. drop n c.args.front.now) c.length-length.ensures.length))
+    (c.bytes_from.ensures ∙ ap (λ n. drop n c.args.front.now) c.length-length.ensures.length))
     (ap (λ class. is_anchor class c.item_front-behind.result) (sym c.class.ensures)
     ∙ sym c.is_anchor.ensures ∙ c.if-not-is_anchor.true))
 
@@ -37,6 +37,6 @@ returns-clause-frame c = λ file shows.
     (omega (arith, c.if-from-left.false, c.from.ensures, c.length-length.ensures.length))
     (omega (arith, c.length-length.ensures.length, c.length-length.ensures.most))
     (c.item_front-behind.ensures ∙ ap item_front
-    (c.bytes_behind.ensures ∙ ap (λ n. drop n c.args.front.now) c.length-length.ensures.length))
+    (c.bytes_from.ensures ∙ ap (λ n. drop n c.args.front.now) c.length-length.ensures.length))
     (ap (λ class. is_anchor class c.item_front-behind.result) (sym c.class.ensures)
     ∙ sym c.is_anchor.ensures ∙ c.if-not-is_anchor.false))

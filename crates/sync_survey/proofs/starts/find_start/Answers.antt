@@ -1,11 +1,11 @@
 -- The start is by the item at which the front ends.
 use Rattle.std.proofs.Common.{ap, List, refl, subst, sym, ℕ, ◌∙◌, ◌≡◌}
-use Rattle.outside.{proofs.PassedLaws.err_at, specs.Files.Holds}
-use Rattle.sync_survey.proofs.FoldersLaws.{none_read, read_more, refusal_after, start_err, start_ok}
-use Rattle.sync_survey.proofs.{FoldersLaws.start_refusal, LooksLaws.item_at-shown}
-use Rattle.sync_survey.proofs.{StartLaws.start_is, starts.find_start.Goals.After-item_front}
+use Rattle.outside.{proofs.BufferOutputLemmas.err_at, specs.Files.Holds}
+use Rattle.sync_survey.proofs.FoldersLemmas.{none_read, read_more, refusal_after, start_err}
+use Rattle.sync_survey.proofs.{FoldersLemmas.{start_ok, start_refusal}, LooksLemmas.item_at-shown}
+use Rattle.sync_survey.proofs.{StartLemmas.start_is, starts.find_start.Goals.After-item_front}
 use Rattle.sync_survey.specs.{Items.item_front, Looks.Shows}
-use Rattle.sync_survey.specs.Start.{front_end_of, start_at, start_behind, start_of}
+use Rattle.sync_survey.specs.Start.{front_end_of, start_after_junk, start_at, start_of}
 use Rattle.sync_survey.proofs.starts.find_start.Given as given
 use Rattle.sync_survey.proofs.starts.find_start.Goals as goal
 
@@ -55,7 +55,7 @@ returns-in-Some-2-clause-start g c = λ bytes holds.
     let there =
     subst (λ f. Holds f c.args.name.now bytes) (sym c.in_ok-left.ensures.reads.files) holds in
     begun g at bytes holds ∙ c.in_default.ensures.start bytes (left_is g at bytes holds).left_is
-    ∙ ap (start_behind c.args.front_end)
+    ∙ ap (start_after_junk c.args.front_end)
     (sym (c.in_ok-first.ensures.first bytes there) ∙ c.in-Some-2.is)
 
 pub returns-in-None-clause-refused : goal.returns-in-None-clause-refused
@@ -68,5 +68,5 @@ returns-in-None-clause-refused g c = λ allowed.
     let there =
     subst (λ f. Holds f c.args.name.now bytes) (sym c.in_ok-left.ensures.reads.files) holds in
     begun g at bytes holds ∙ c.in_default.ensures.start bytes (left_is g at bytes holds).left_is
-    ∙ ap (start_behind c.args.front_end)
+    ∙ ap (start_after_junk c.args.front_end)
     (sym (c.in_ok-first.ensures.first bytes there) ∙ c.in-None.is))

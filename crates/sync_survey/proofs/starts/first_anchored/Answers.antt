@@ -1,8 +1,8 @@
 -- The first offset at which there is an anchored frame.
 use Rattle.std.proofs.Common.{arith, subst, sym}
-use Rattle.outside.proofs.PassedLaws.{err_at}
-use Rattle.sync_survey.proofs.FoldersLaws.{refusal_after, still_held}
-use Rattle.sync_survey.{proofs.StartLaws.{first_anchored-some, none_anchored}, specs.Looks.Shows}
+use Rattle.outside.proofs.BufferOutputLemmas.{err_at}
+use Rattle.sync_survey.proofs.FoldersLemmas.{refusal_after, still_held}
+use Rattle.sync_survey.{proofs.StartLemmas.{first_anchored-some, none_anchored}, specs.Looks.Shows}
 use Rattle.sync_survey.specs.Start.{longest_junk}
 use Rattle.sync_survey.proofs.starts.first_anchored.Goals as goal
 

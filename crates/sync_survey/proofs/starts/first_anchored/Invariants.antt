@@ -1,7 +1,7 @@
 -- No anchored frame is at an offset before.
 use Rattle.std.proofs.Common.{List, None, ℕ, ◌<◌, ◌≡◌, ◌≤◌}
 use Rattle.outside.specs.Files.{Holds}
-use Rattle.sync_survey.{proofs.FoldersLaws.HasRead, specs.Start.anchored_frame}
+use Rattle.sync_survey.{proofs.FoldersLemmas.HasRead, specs.Start.anchored_frame}
 use Rattle.sync_survey.proofs.starts.first_anchored.Given as goal
 
 abbrev pub invariant-loop-at : goal.invariant-loop-at

@@ -1,7 +1,7 @@
 -- The places are those of the definition.
 use Rattle.std.proofs.Common.{ap, arith, get_or, length, ◌+◌, ◌-◌, ◌∙◌, ◌≡◌, ◌≤◌}
 use Rattle.std.{proofs.lemmas.List.take_rest, specs.List.prefix_len}
-use Rattle.tag_blocks.proofs.ItemsLaws.{stands-from, stands_not}
+use Rattle.tag_blocks.proofs.ItemsLemmas.{stands-from, stands_not}
 use Rattle.tag_blocks.proofs.item.layout_at.Goals.{After-ape_number}
 use Rattle.tag_blocks.proofs.item.layout_at.Goals.{then-length-lt2-via-else-length-lt2+else-length-gt255+else-end-bytes+then-bytes-value_at-ne0}
 use Rattle.tag_blocks.proofs.item.layout_at.Goals.{then-length-lt2-via-else-length-lt2+else-length-gt255+then-end-bytes}

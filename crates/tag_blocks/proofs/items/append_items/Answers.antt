@@ -1,7 +1,7 @@
 -- The bytes of one item more.
 use Rattle.std.proofs.Common.{ap, arith, take_all, ◌++◌, ◌∙◌}
 use Rattle.std.proofs.lemmas.List.Sums.{AllPass-from_list_all}
-use Rattle.tag_blocks.{proofs.ItemsLaws.items_more, specs.Items.{is_item, items_bytes}}
+use Rattle.tag_blocks.{proofs.ItemsLemmas.items_more, specs.Items.{is_item, items_bytes}}
 use Rattle.tag_blocks.proofs.items.append_items.Goals as goal
 
 pub append-requires : goal.append-requires

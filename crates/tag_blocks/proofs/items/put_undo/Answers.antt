@@ -1,6 +1,6 @@
 -- The undo item has the new value, or is added after all others.
 use Rattle.std.{proofs.Common.{ap, ap₂, set, sym, [], ◌++◌, ◌∙◌, ◌∷◌, ◌≡◌}, specs.Prelude.position}
-use Rattle.tag_blocks.{proofs.UndoItemsLaws.{added, replaced}, specs.Items.{is_undo, TagItem}}
+use Rattle.tag_blocks.{proofs.UndoItemsLemmas.{added, replaced}, specs.Items.{is_undo, TagItem}}
 use Rattle.tag_blocks.specs.UndoText.{undo_text}
 use Rattle.tag_blocks.proofs.items.put_undo.Goals as goal
 

@@ -1,10 +1,10 @@
 -- One item more, until none comes next or all that are counted were read.
 use Rattle.std.proofs.Common.{ap, arith, drop, false, length-drop, Some, sym, ◌-◌, ◌||◌, ◌∙◌, ◌≡◌}
 use Rattle.std.proofs.lemmas.List.{take_rest}
-use Rattle.tag_blocks.proofs.ItemsLaws.{next_item-within, read_all, read_more, read_none}
+use Rattle.tag_blocks.proofs.ItemsLemmas.{next_item-within, read_all, read_more, read_none}
 use Rattle.tag_blocks.proofs.items.read_items.Goals.{else-loop-test, else-met}
 use Rattle.tag_blocks.proofs.items.read_items.Goals.{then-loop-test+in_ok-item+in_default, then-met}
-use Rattle.tag_blocks.specs.Items.{is_undo, items_from, next_item}
+use Rattle.tag_blocks.specs.Items.{is_undo, next_item, tag_items_from}
 use Rattle.tag_blocks.proofs.items.read_items.Goals as goal
 
 pub length-passed-requires : goal.length-passed-requires
@@ -48,7 +48,7 @@ loop-preserved c =
     ] in
     rw (met, c.length-passed.ensures, c.in_ok-push.ensures.items)
     record {
-      read = read_more (items_from c.args.count false bytes)
+      read = read_more (tag_items_from c.args.count false bytes)
           c.loop.items.items c.args.count c.loop.counter c.loop.passed c.loop.met bytes item
           c.loop-test.true c.loop.invariant.read next;
       within = omega (
@@ -63,11 +63,11 @@ pub returns : goal.returns
 returns c =
     let bytes = c.args.bytes.now in
     elim c.loop-test.branch [
-      | else-loop-test w ↦ read_all (items_from c.args.count false bytes)
+      | else-loop-test w ↦ read_all (tag_items_from c.args.count false bytes)
           c.loop.items.items c.args.count c.loop.counter c.loop.met (drop c.loop.passed bytes)
           w.loop-test.false c.loop.invariant.read
       | then-loop-test+in_ok-item+in_default w ↦
-          read_none (items_from c.args.count false bytes) c.loop.items.items (c.args.count
+          read_none (tag_items_from c.args.count false bytes) c.loop.items.items (c.args.count
           - c.loop.counter) c.loop.met (drop c.loop.passed bytes) c.loop.invariant.read
           (ap (next_item c.loop.met) (sym (take_rest bytes c.loop.passed))
           ∙ sym w.in_ok-item.ensures ∙ w.in_default.is)

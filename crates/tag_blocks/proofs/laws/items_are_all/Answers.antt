@@ -1,11 +1,11 @@
 -- The items follow end to end, no other that may be there is after them, and no other items are so.
 use Rattle.std.proofs.Common.{arith, drop, false, List, subst, ℕ}
-use Rattle.tag_blocks.proofs.ItemsLaws.{items_from-only, items_from-read, items_from-stopped}
-use Rattle.tag_blocks.specs.{Items.{items_from, items_length}, Laws.{AreItemsOf, AreOctets}}
+use Rattle.tag_blocks.proofs.ItemsLemmas.{items_from-only, items_from-read, items_from-stopped}
+use Rattle.tag_blocks.specs.{Items.{items_length, tag_items_from}, Laws.{AreByteValues, AreItemsOf}}
 use Rattle.tag_blocks.proofs.laws.items_are_all.Goals as goal
 
-are_items : (most : ℕ) (bytes : List ℕ) → AreOctets bytes
-    → AreItemsOf most bytes (items_from most false bytes)
+are_items : (most : ℕ) (bytes : List ℕ) → AreByteValues bytes
+    → AreItemsOf most bytes (tag_items_from most false bytes)
 are_items most bytes octets =
     let read = items_from-read most false bytes octets in
     let stopped = items_from-stopped most false bytes in

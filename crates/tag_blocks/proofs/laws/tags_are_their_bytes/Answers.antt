@@ -1,6 +1,6 @@
 -- A block is a tag exactly where its bytes are those of the tag.
 use Rattle.std.proofs.Common.{ap, subst, sym, ◌∙◌}
-use Rattle.tag_blocks.proofs.TagsLaws.{IsTag-in, tag_bytes-in, tag_of-ok, tag_of-tag_bytes}
+use Rattle.tag_blocks.proofs.TagsLemmas.{IsTag-in, tag_bytes-in, tag_of-ok, tag_of-tag_bytes}
 use Rattle.tag_blocks.specs.Tags.{IsTag, tag_bytes, tag_of}
 use Rattle.tag_blocks.proofs.laws.tags_are_their_bytes.Goals as goal
 

@@ -1,8 +1,8 @@
 -- No other item changes.
-use Rattle.tag_blocks.proofs.UndoItemsLaws.{others-with_undo, others-without_undo}
-use Rattle.tag_blocks.proofs.UndoItemsLaws.{undo_from-missing, undo_from-with_undo}
-use Rattle.tag_blocks.proofs.UndoItemsLaws.{undos-without_undo, without_undo-with_undo}
-use Rattle.tag_blocks.{proofs.UndoTextLaws.undo_of-undo_text, specs.UndoItems.without_undo}
+use Rattle.tag_blocks.proofs.UndoItemsLemmas.{others-with_undo, others-without_undo}
+use Rattle.tag_blocks.proofs.UndoItemsLemmas.{undo_from-missing, undo_from-with_undo}
+use Rattle.tag_blocks.proofs.UndoItemsLemmas.{undos-without_undo, without_undo-with_undo}
+use Rattle.tag_blocks.{proofs.UndoTextLemmas.undo_of-undo_text, specs.UndoItems.without_undo}
 use Rattle.tag_blocks.proofs.laws.undo_items_alone_change.Goals as goal
 
 pub returns : goal.returns

@@ -1,5 +1,5 @@
 -- Signs, digits, commas and the letter are written as they were read.
-use Rattle.tag_blocks.proofs.UndoTextLaws.{undo_text-undo_of}
+use Rattle.tag_blocks.proofs.UndoTextLemmas.{undo_text-undo_of}
 use Rattle.tag_blocks.proofs.laws.undos_are_their_texts.Goals as goal
 
 pub returns : goal.returns

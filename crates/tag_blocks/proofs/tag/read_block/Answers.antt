@@ -1,14 +1,15 @@
 -- Each step is one of the definition's.
 use Rattle.std.proofs.Common.{ap, arith, drop, false, inr, length, Ok, refl, rules, subst, sym, ◌∙◌}
 use Rattle.std.proofs.{Common.◌≡◌, lemmas.List.take_rest}
-use Rattle.tag_blocks.proofs.TagsLaws.{AreFound, count_fault, footer_fault, found-within, IsTag-in}
-use Rattle.tag_blocks.proofs.TagsLaws.{IsWhole, place_fault, tag_bytes-in, tag_in, tag_of-in}
-use Rattle.tag_blocks.proofs.TagsLaws.{tag_of-reserved, whole_found}
+use Rattle.tag_blocks.proofs.TagsLemmas.{AreFound, count_fault, footer_fault, found-within}
+use Rattle.tag_blocks.proofs.TagsLemmas.{IsTag-in, IsWhole, place_fault, tag_bytes-in, tag_in}
+use Rattle.tag_blocks.proofs.TagsLemmas.{tag_of-in, tag_of-reserved, whole_found}
 use Rattle.tag_blocks.proofs.tag.read_block.Goals.{After-deref, After-len}
 use Rattle.tag_blocks.proofs.tag.read_block.Goals.{then-len-count-via-else-len-count+then-place-end}
 use Rattle.tag_blocks.proofs.tag.read_block.Goals.{then-len-count-via-then-len-count}
-use Rattle.tag_blocks.specs.{Blocks.ape_flags, Items.{items_from, items_length}, Laws.AreOctets}
-use Rattle.tag_blocks.specs.Tags.{footer_place, IsTag, item_part, items_of, tag_bytes}
+use Rattle.tag_blocks.specs.{Blocks.ape_flags, Items.{items_length, tag_items_from}}
+use Rattle.tag_blocks.specs.Laws.{AreByteValues}
+use Rattle.tag_blocks.specs.Tags.{footer_place, IsTag, item_part, tag_bytes, tag_items_of}
 use Rattle.tag_blocks.proofs.tag.read_block.Goals as goal
 
 pub returns-then-not-is_reserved-clause-tag : goal.returns-then-not-is_reserved-clause-tag
@@ -16,12 +17,12 @@ returns-then-not-is_reserved-clause-tag c =
     inr (tag_of-reserved c.args.block.now (sym c.is_reserved.ensures ∙ c.if-not-is_reserved.true))
 
 -- the items that were read are those of the block
-items : (c : After-deref) → c.in-Ok.items.items ≡ items_of c.args.block.now
+items : (c : After-deref) → c.in-Ok.items.items ≡ tag_items_of c.args.block.now
 items c = c.in-Ok.ensures
-    ∙ ap (λ k. items_from k false (item_part c.args.block.now)) c.ape_number-count.ensures
+    ∙ ap (λ k. tag_items_from k false (item_part c.args.block.now)) c.ape_number-count.ensures
 
 -- so are the numbers beside them
-found : (c : After-len) → c.in-Ok.items.items ≡ items_of c.args.block.now
+found : (c : After-len) → c.in-Ok.items.items ≡ tag_items_of c.args.block.now
     → AreFound c.args.block.now c.in-Ok.items.items c.len.result c.items_length-place.result
     c.ape_number-count.result
 found c items_is = record {
@@ -34,7 +35,7 @@ found c items_is = record {
 
 pub items_length-place-requires : goal.items_length-place-requires
 items_length-place-requires c =
-    let octets : AreOctets c.args.block.now = search rules in
+    let octets : AreByteValues c.args.block.now = search rules in
     omega (
       arith,
       ap items_length
@@ -45,7 +46,7 @@ items_length-place-requires c =
 
 pub overflow_add-place : goal.overflow_add-place
 overflow_add-place c =
-    let octets : AreOctets c.args.block.now = search rules in
+    let octets : AreByteValues c.args.block.now = search rules in
     omega (
       arith,
       c.items_length-place.ensures,
@@ -81,7 +82,7 @@ whole : (c : goal.After-ape_number-3) → AreFound c.args.block.now c.in-Ok.item
     c.items_length-place.result c.ape_number-count.result → IsWhole c.args.block.now
 whole c is =
     let block = c.args.block.now in
-    let octets : AreOctets block = search rules in
+    let octets : AreByteValues block = search rules in
     whole_found block _ _ _ _ c.requires.block octets c.requires.most is
     c.if-len-count.false c.if-place-end.false
     (rw (
@@ -91,7 +92,7 @@ whole c is =
     ) (sym c.is_footer.ensures ∙ c.if-not-is_footer.false))
 
 -- the fields that were read are those of the block's tag
-same : (c : goal.After-ape_number-3) → c.in-Ok.items.items ≡ items_of c.args.block.now
+same : (c : goal.After-ape_number-3) → c.in-Ok.items.items ≡ tag_items_of c.args.block.now
     → tag_in c.args.block.now ≡ record {
       header_flags = c.ape_number-2.result;
       footer_flags = c.ape_number-3.result;

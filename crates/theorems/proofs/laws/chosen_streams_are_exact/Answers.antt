@@ -1,5 +1,5 @@
 -- One part, whose plan is its first.
-use Rattle.theorems.proofs.CaseLaws.{chosen-exact}
+use Rattle.theorems.proofs.CaseLemmas.{chosen-exact}
 use Rattle.theorems.proofs.laws.chosen_streams_are_exact.Goals as goal
 
 pub returns : goal.returns

@@ -1,5 +1,5 @@
 -- All parts have one plan.
-use Rattle.theorems.proofs.JoinCase.{joined-first}
+use Rattle.theorems.proofs.JoinCaseLemmas.{joined-first}
 use Rattle.theorems.proofs.laws.joined_plans_are_first.Goals as goal
 
 pub returns : goal.returns

@@ -1,5 +1,5 @@
 -- From one input to the next.
-use Rattle.theorems.proofs.JoinCase.{joined-exact}
+use Rattle.theorems.proofs.JoinCaseLemmas.{joined-exact}
 use Rattle.theorems.proofs.laws.joined_streams_are_exact.Goals as goal
 
 pub returns : goal.returns

@@ -1,5 +1,5 @@
 -- From one part to the next.
-use Rattle.theorems.proofs.ExactLaws.{planned-exact}
+use Rattle.theorems.proofs.ExactLemmas.{planned-exact}
 use Rattle.theorems.proofs.laws.planned_streams_are_exact.Goals as goal
 
 pub returns : goal.returns

@@ -1,5 +1,5 @@
 -- Frame by frame.
-use Rattle.theorems.proofs.SalvageCase.{salvaged-left}
+use Rattle.theorems.proofs.SalvageCaseLemmas.{salvaged-left}
 use Rattle.theorems.proofs.laws.salvaged_frames_are_left.Goals as goal
 
 pub returns : goal.returns

@@ -1,5 +1,5 @@
 -- They have one plan.
-use Rattle.theorems.proofs.SalvageCase.{salvaged-first}
+use Rattle.theorems.proofs.SalvageCaseLemmas.{salvaged-first}
 use Rattle.theorems.proofs.laws.salvaged_plans_are_first.Goals as goal
 
 pub returns : goal.returns

@@ -1,5 +1,5 @@
 -- The run has one plan.
-use Rattle.theorems.proofs.SeamlessCase.{seamless-first}
+use Rattle.theorems.proofs.SeamlessCaseLemmas.{seamless-first}
 use Rattle.theorems.proofs.laws.seamless_plans_are_first.Goals as goal
 
 pub returns : goal.returns

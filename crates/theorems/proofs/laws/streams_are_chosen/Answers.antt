@@ -1,5 +1,5 @@
 -- Command by command.
-use Rattle.theorems.proofs.JobLaws.{streams-chosen}
+use Rattle.theorems.proofs.JobLemmas.{streams-chosen}
 use Rattle.theorems.proofs.laws.streams_are_chosen.Goals as goal
 
 pub returns : goal.returns

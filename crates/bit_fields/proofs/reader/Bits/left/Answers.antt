@@ -1,6 +1,6 @@
 -- What is left has as many bits.
 use Rattle.std.proofs.Common.{length-drop}
-use Rattle.bit_fields.proofs.BitsLaws.{length-bits}
+use Rattle.bit_fields.proofs.BitsLemmas.{length-bits}
 use Rattle.bit_fields.proofs.reader.Bits.left.Goals as goal
 
 pub returns : goal.returns

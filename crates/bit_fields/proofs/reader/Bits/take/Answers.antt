@@ -1,7 +1,7 @@
 -- Enough bits are left, and the value is that of the first of them.
 use Rattle.std.proofs.Common.{arith, length, rules, ◌*◌, ◌+◌, ◌-◌, ◌≡◌, ◌≤◌}
 use Rattle.std.proofs.lemmas.Grind.{common_steps}
-use Rattle.bit_fields.proofs.{BitsLaws.length-left, reader.Bits.take.Goals.Else-left-n}
+use Rattle.bit_fields.proofs.{BitsLemmas.length-left, reader.Bits.take.Goals.Else-left-n}
 use Rattle.bit_fields.specs.Groups.{group}
 use Rattle.bit_fields.proofs.reader.Bits.take.Goals as goal
 

@@ -1,21 +1,22 @@
 -- The survey, the head, the span, the frames with their plan, and the memory, each with its faults.
 use Rattle.std.proofs.Common.{ap, ap₂, arith, length, List, Option, subst, sym, ℕ, ◌∙◌, ◌≡◌}
-use Rattle.commands.proofs.InputLaws.{fault_is_input, input_is_early, input_numbers}
-use Rattle.commands.proofs.InputLaws.{memory_is_input, of_survey_input, refused_is_input}
-use Rattle.commands.proofs.RefusingLaws.{err_with}
-use Rattle.commands.specs.One.{IsEarlyFault, IsInputFault, IsMaking, Making}
+use Rattle.commands.proofs.InputLemmas.{fault_is_input, input_is_early, input_numbers}
+use Rattle.commands.proofs.InputLemmas.{memory_is_input, of_survey_input, refused_is_input}
+use Rattle.commands.proofs.RefusingLemmas.{err_with}
+use Rattle.commands.specs.SingleOutput.{IsEarlyFault, IsInputFault, IsMaking, Making}
 use Rattle.commands.specs.declared.fault.EditFault.TheVariants.{Memory}
-use Rattle.cut_edits.proofs.HeadLaws.{apart-length, head_is_input, head_numbers}
-use Rattle.cut_edits.proofs.LaidPass.{work_layable, work_makes}
-use Rattle.cut_edits.proofs.PieceLaws.{apart_had, exact-makes, exact-refused, span_apart}
+use Rattle.cut_edits.proofs.HeadLemmas.{apart-length, head_is_input, head_numbers}
+use Rattle.cut_edits.proofs.LaidPassLemmas.{work_layable, work_makes}
+use Rattle.cut_edits.proofs.PieceLemmas.{apart_had, exact-makes, exact-refused, span_apart}
 use Rattle.cut_edits.proofs.exact_edit.ExactEditEdit.prepare.Goals.{In_ok-span}
-use Rattle.cut_edits.specs.Exact.{exact_making, exact_refuses, exact_stream, exact_task, IsSpanIn}
-use Rattle.cut_edits.specs.{Exact.{piece_of, span_in}, declared.exact_edit.ExactEdit.ExactEdit}
+use Rattle.cut_edits.specs.Exact.{exact_making, exact_refuses, exact_stream, exact_task, file_span}
+use Rattle.cut_edits.specs.{Exact.{IsSpanIn, span_piece}, declared.exact_edit.ExactEdit.ExactEdit}
 use Rattle.info_header.specs.declared.fields.Info.{Info}
-use Rattle.laying.specs.{KeptFields.fields_of_head, Laid.{file_laid, laid_in}, Surveys.HasSurvey}
-use Rattle.outside.specs.{Files.Holds, Seen.seen}
-use Rattle.sync_survey.{proofs.EmptiedLaws.apart-laid, specs.Faults.{SurveyFields, tells}}
-use Rattle.sync_survey.specs.{MainData.StreamFrame, Survey.IsLaidOut}
+use Rattle.laying.specs.{KeptFields.fields_of_head, Laid.{file_laid, selected_part}}
+use Rattle.laying.specs.Surveys.{CanBeRelaid}
+use Rattle.outside.specs.{Files.Holds, Seen.seen_folder}
+use Rattle.sync_survey.{proofs.EmptiedLemmas.apart-laid, specs.Faults.{survey_view, SurveyFields}}
+use Rattle.sync_survey.specs.{MainData.StreamFrame, Survey.IsSurveyLaidOut}
 use Rattle.cut_edits.proofs.exact_edit.ExactEditEdit.prepare.Given as given
 use Rattle.cut_edits.proofs.exact_edit.ExactEditEdit.prepare.Goals as goal
 
@@ -48,7 +49,7 @@ returns-in_err-head-clause-refused g c =
     err_with _ _ c.from_residual-in_err-head.ensures.1 (input_is_early by
     (streams_in edit) exact_refuses edit.input.now _ _ _
     (subst (λ old. IsInputFault by edit.input.now old new c.in_err-head.field-0.0)
-    (ap₂ seen c.survey_at.ensures.reads.files c.in_ok-survey.ensures.reads.done)
+    (ap₂ seen_folder c.survey_at.ensures.reads.files c.in_ok-survey.ensures.reads.done)
     (head_is_input by edit.input.now (g.D.Folder.seen c.survey_at.new.folder) new
     c.in_err-head.field-0.0 c.in_err-head.ensures.refused)))
 
@@ -62,17 +63,17 @@ returns-in_err-head-clause-numbers g c =
 pub returns-in_err-span-clause-refused : goal.returns-in_err-span-clause-refused
 returns-in_err-span-clause-refused g c =
     let edit = c.args.self.now in
-    let s = tells c.in_ok-survey.survey in
+    let s = survey_view c.in_ok-survey.survey in
     err_with _ _ c.from_residual-in_err-span.ensures.1 (input_is_early (make_in edit)
     (streams_in edit) exact_refuses edit.input.now _ _ _
     (refused_is_input (make_in edit) edit.input.now _ _ s exact_refuses _
     c.in_err-span.ensures.refusal c.in_ok-survey.ensures.there c.in_ok-survey.ensures.surveyed
     (λ bytes holds. exact-refused edit.from.now edit.to.now bytes s _
-    (ap (λ (h : Option Info). span_in edit.from.now edit.to.now h s)
+    (ap (λ (h : Option Info). file_span edit.from.now edit.to.now h s)
     (sym (c.as_ref.ensures.value ∙ c.in_ok-head.ensures.head bytes
     (subst (λ f. Holds f edit.input.now bytes) (sym c.survey_at.ensures.reads.files) holds)))
     ∙ c.in_err-span.ensures.span))
-    (ap₂ seen (c.read_head.ensures.reads.files ∙ c.survey_at.ensures.reads.files)
+    (ap₂ seen_folder (c.read_head.ensures.reads.files ∙ c.survey_at.ensures.reads.files)
     (c.in_ok-head.ensures.reads.done ∙ c.in_ok-survey.ensures.reads.done))))
 
 -- want of memory, once the span was found
@@ -83,8 +84,8 @@ forgot g c =
     let edit = c.args.self.now in
     input_is_early (make_in edit) (streams_in edit) exact_refuses edit.input.now _ _ Memory
     (memory_is_input (make_in edit) edit.input.now _ _
-    (tells c.in_ok-survey.survey) c.in_ok-survey.ensures.there c.in_ok-survey.ensures.surveyed
-    (ap₂ seen (c.read_head.ensures.reads.files ∙ c.survey_at.ensures.reads.files)
+    (survey_view c.in_ok-survey.survey) c.in_ok-survey.ensures.there c.in_ok-survey.ensures.surveyed
+    (ap₂ seen_folder (c.read_head.ensures.reads.files ∙ c.survey_at.ensures.reads.files)
     (c.in_ok-head.ensures.reads.done ∙ c.in_ok-survey.ensures.reads.done)))
 
 pub returns-in_err-selected-clause-refused : goal.returns-in_err-selected-clause-refused
@@ -99,40 +100,40 @@ returns-in_err-work-clause-refused g c =
 
 -- the survey once its head is set apart
 pub select_piece-requires-clause-laid : goal.select_piece-requires-clause-laid
-select_piece-requires-clause-laid g c = subst IsLaidOut (sym c.set_apart.ensures)
-    (apart-laid (tells c.in_ok-survey.survey) c.in_ok-survey.ensures.laid)
+select_piece-requires-clause-laid g c = subst IsSurveyLaidOut (sym c.set_apart.ensures)
+    (apart-laid (survey_view c.in_ok-survey.survey) c.in_ok-survey.ensures.laid)
 
 pub select_piece-requires-clause-few : goal.select_piece-requires-clause-few
 select_piece-requires-clause-few g c =
     omega (
       arith,
       ap (λ (s : SurveyFields). length s.frames) c.set_apart.ensures,
-      apart-length (tells c.in_ok-survey.survey),
+      apart-length (survey_view c.in_ok-survey.survey),
       c.in_ok-survey.ensures.few,
     )
 
 pub select_piece-requires-clause-there : goal.select_piece-requires-clause-there
 select_piece-requires-clause-there g c =
     subst (λ (s : SurveyFields). IsSpanIn s c.in_ok-span.span) (sym c.set_apart.ensures)
-    (span_apart (tells c.in_ok-survey.survey) c.in_ok-span.span c.in_ok-span.ensures.there)
+    (span_apart (survey_view c.in_ok-survey.survey) c.in_ok-span.span c.in_ok-span.ensures.there)
 
 pub returns-clause-ready : goal.returns-clause-ready
 returns-clause-ready g c =
-    let s = tells c.in_ok-survey.survey in
+    let s = survey_view c.in_ok-survey.survey in
     work_layable c.set_apart.new.survey c.in_ok-selected.selected c.in_ok-work.work
     c.in_ok-work.ensures c.args.self.now.input.now
     (g.D.Folder.seen c.args.folder.now).files c.in_ok-survey.ensures.there
-    (subst IsLaidOut (sym c.set_apart.ensures) (apart-laid s c.in_ok-survey.ensures.laid))
-    (λ bytes holds. subst (HasSurvey bytes) (sym c.set_apart.ensures) (apart_had bytes s
+    (subst IsSurveyLaidOut (sym c.set_apart.ensures) (apart-laid s c.in_ok-survey.ensures.laid))
+    (λ bytes holds. subst (CanBeRelaid bytes) (sym c.set_apart.ensures) (apart_had bytes s
     (c.in_ok-survey.ensures.surveyed bytes holds))) c.in_ok-selected.ensures.writable
 
 pub returns-clause-making : goal.returns-clause-making
 returns-clause-making g c =
     let edit = c.args.self.now in
     let files = (g.D.Folder.seen c.args.folder.now).files in
-    let s = tells c.in_ok-survey.survey in
+    let s = survey_view c.in_ok-survey.survey in
     let task = exact_task edit.from.now edit.to.now edit.input.now in
-    let laid = laid_in c.in_ok-selected.selected in
+    let laid = selected_part c.in_ok-selected.selected in
     let span = c.in_ok-span.span in
     let read : (bytes : List ℕ) → Holds files edit.input.now bytes
     → c.in_ok-head.head ≡ fields_of_head bytes s.head =
@@ -144,10 +145,10 @@ returns-clause-making g c =
     (sym c.set_apart.ensures)
     (exact-makes edit.from.now edit.to.now edit.input.now s span laid files
     c.in_ok-survey.ensures.there c.in_ok-survey.ensures.surveyed c.in_ok-survey.ensures.octets
-    (λ bytes holds. ap (λ (h : Option Info). span_in edit.from.now edit.to.now h s)
+    (λ bytes holds. ap (λ (h : Option Info). file_span edit.from.now edit.to.now h s)
     (sym (c.as_ref.ensures.value ∙ read bytes holds)) ∙ c.in_ok-span.ensures.span)
     (λ bytes holds.
-    c.in_ok-selected.ensures.laid bytes (subst (HasSurvey bytes) (sym c.set_apart.ensures)
+    c.in_ok-selected.ensures.laid bytes (subst (CanBeRelaid bytes) (sym c.set_apart.ensures)
     (apart_had bytes s (c.in_ok-survey.ensures.surveyed bytes holds)))
-    ∙ ap₂ (λ (h : Option Info) (t : SurveyFields). piece_of h span bytes t)
+    ∙ ap₂ (λ (h : Option Info) (t : SurveyFields). span_piece h span bytes t)
     (c.as_ref-2.ensures.value ∙ read bytes holds) c.set_apart.ensures)))

@@ -1,7 +1,7 @@
 -- One byte more.
 use Rattle.std.proofs.Common.{ap, arith, length, set, suc, sym, ◌%◌, ◌+◌, ◌<◌, ◌∙◌, ◌≡◌}
-use Rattle.drill.proofs.DrawsLaws.{behind-more, behind-none, byte-more, no-byte}
-use Rattle.drill.specs.Draws.{drawn, next_state, state_behind}
+use Rattle.drill.proofs.DrawsLemmas.{behind-more, behind-none, byte-more, no-byte}
+use Rattle.drill.specs.Draws.{drawn_number, next_state, state_after}
 use Rattle.drill.proofs.draws.Draws.fill.Goals as goal
 
 pub loop-byte-init : goal.loop-byte-init
@@ -20,7 +20,7 @@ loop-byte-preserved c =
     let state = c.draw.ensures.state ∙ ap next_state at.invariant.state in
     let one : suc i ≡ i + 1 = omega arith in
     record {
-      bytes = ap (λ n. set at.bytes i (n % 64)) (c.draw.ensures.drawn ∙ ap drawn state)
+      bytes = ap (λ n. set at.bytes i (n % 64)) (c.draw.ensures.drawn ∙ ap drawn_number state)
           ∙ byte-more c.args.bytes.now at.bytes i seed within at.invariant.bytes;
-      state = state ∙ sym (behind-more i seed) ∙ ap (λ n. state_behind n seed) one;
+      state = state ∙ sym (behind-more i seed) ∙ ap (λ n. state_after n seed) one;
     }

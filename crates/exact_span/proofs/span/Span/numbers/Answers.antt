@@ -1,6 +1,6 @@
 -- The numbers of a span of positions are in range.
 use Rattle.std.proofs.Common.{ap, arith, ◌*◌}
-use Rattle.exact_span.proofs.SpanLaws.{span-in_range}
+use Rattle.exact_span.proofs.SpanLemmas.{span-in_range}
 use Rattle.exact_span.proofs.span.Span.numbers.Goals as goal
 
 pub overflow_add-delay : goal.overflow_add-delay

@@ -1,6 +1,6 @@
 -- The entry of the table is the length.
 use Rattle.std.proofs.Common.{ap, ap₂, get_or, subst, sym, [], ◌*◌, ◌+◌, ◌-◌, ◌<◌, ◌∙◌, ◌≡◌, ◌≤◌}
-use Rattle.frame_header.proofs.Lengths.{area_some, length-most, length_in_table-is}
+use Rattle.frame_header.proofs.LengthLemmas.{area_some, length-most, length_in_table-is}
 use Rattle.frame_header.specs.{Fields.{IsClass, IsSlot}, Tables.{length_of, side_size_of}}
 use Rattle.frame_header.specs.declared.class.TheConstants.{LENGTHS}
 use Rattle.frame_header.proofs.class.Class.length_of.Goals as goal

@@ -1,6 +1,6 @@
 -- The bit rate is within the bounds of the tables.
 use Rattle.std.proofs.Common.{rules, subst, sym, ◌≡◌, ◌≤◌}
-use Rattle.frame_header.{proofs.Lengths.{rate-least, rate-most}, specs.Fields.IsSlot}
+use Rattle.frame_header.{proofs.LengthLemmas.{rate-least, rate-most}, specs.Fields.IsSlot}
 use Rattle.frame_header.specs.Tables.{rate_of}
 use Rattle.frame_header.proofs.class.Class.rate.Goals as goal
 

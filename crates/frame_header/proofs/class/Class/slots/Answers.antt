@@ -1,7 +1,7 @@
 -- One bit rate index more.
 use Rattle.std.proofs.Common.{ap, arith, rules, subst, ◌-◌, ◌∙◌, ◌≡◌}
-use Rattle.frame_header.proofs.SlotLaws.{areas-ascend, Contains-all_slots, slots_to-all}
-use Rattle.frame_header.{proofs.SlotLaws.{slots_to-more, slots_to-none}, specs.Fields.IsClass}
+use Rattle.frame_header.proofs.SlotLemmas.{areas-ascend, Contains-all_slots, slots_to-all}
+use Rattle.frame_header.{proofs.SlotLemmas.{slots_to-more, slots_to-none}, specs.Fields.IsClass}
 use Rattle.frame_header.specs.Slots.{slots_to}
 use Rattle.frame_header.proofs.class.Class.slots.Goals as goal
 

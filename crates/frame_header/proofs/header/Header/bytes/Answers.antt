@@ -1,8 +1,9 @@
 -- The bits of the four bytes are those of the number.
 use Rattle.std.proofs.Common.{ap, arith, subst, sym, ◌∙◌}
 use Rattle.bit_fields.specs.Bits.{AreBytes, bits}
-use Rattle.frame_header.proofs.HeaderLaws.{AreBytes-to_be_bytes, bits-to_be_bytes}
-use Rattle.frame_header.{proofs.HeaderLaws.header_bytes-same, specs.Reading.{header_at, header_in}}
+use Rattle.frame_header.proofs.HeaderLemmas.{AreBytes-to_be_bytes, bits-to_be_bytes}
+use Rattle.frame_header.proofs.HeaderLemmas.{header_bytes-same}
+use Rattle.frame_header.specs.Reading.{header_at, header_in}
 use Rattle.frame_header.proofs.header.Header.bytes.Goals as goal
 
 pub returns-clause-bits : goal.returns-clause-bits

@@ -1,6 +1,6 @@
 -- What is before the area is shorter than any frame of the class.
 use Rattle.std.proofs.Common.{ap, arith, rules, subst, ◌≡◌}
-use Rattle.frame_header.proofs.{HeaderLaws.IsClass-class_of, Lengths.area_some}
+use Rattle.frame_header.proofs.{HeaderLemmas.IsClass-class_of, LengthLemmas.area_some}
 use Rattle.frame_header.specs.Fields.{IsHeader}
 use Rattle.frame_header.specs.Tables.{area_of, class_of, overhead_of, side_size_of}
 use Rattle.frame_header.proofs.header.Header.overhead.Goals as goal

@@ -1,6 +1,6 @@
 -- The fields are compared in turn, the version and the slot last.
 use Rattle.std.proofs.Common.{rules}
-use Rattle.frame_header.proofs.Comparing.{compared_last}
+use Rattle.frame_header.proofs.ComparingLemmas.{compared_last}
 use Rattle.frame_header.proofs.header.HeaderPartialEq.eq.Goals as goal
 
 pub returns : goal.returns

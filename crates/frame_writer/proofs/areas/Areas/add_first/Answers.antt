@@ -1,10 +1,10 @@
 -- What is stored of them, and zeros where it ends.
 use Rattle.std.proofs.Common.{ap, List, rules, take, ℕ, ◌++◌, ◌-◌, ◌∙◌, ◌≡◌}
-use Rattle.frame_writer.proofs.LaidLaws.{first-parts}
-use Rattle.frame_writer.proofs.WritingLaws.{err-map, ok-map, passed-two, prefix-piece, prefix-two}
+use Rattle.frame_writer.proofs.LaidLemmas.{first-parts}
+use Rattle.frame_writer.proofs.WritingLemmas.{err-map, ok-map, passed-two, prefix-piece, prefix-two}
 use Rattle.frame_writer.proofs.areas.Areas.add_first.Goals.{After-add_zeros}
-use Rattle.frame_writer.specs.Laid.{Waiting, zeros}
-use Rattle.outside.proofs.PassedLaws.{on_err, passed_there}
+use Rattle.frame_writer.specs.Laid.{WaitingAreas, zeros}
+use Rattle.outside.proofs.BufferOutputLemmas.{on_err, passed_there}
 use Rattle.frame_writer.proofs.areas.Areas.add_first.Given as given
 use Rattle.frame_writer.proofs.areas.Areas.add_first.Goals as goal
 
@@ -15,7 +15,7 @@ returns-in_err-push g c = record {
       let all =
       first-parts c.args.count c.self.inside.free c.min-stored.result bytes c.args.self.now.bytes
       (ap (λ (xs : List ℕ). xs ++ zeros c.self.inside.free) c.bytes-bytes.ensures
-      ∙ ap (λ (w : Waiting). w.bytes) c.self.view_is) c.requires.within c.min-stored.ensures in
+      ∙ ap (λ (w : WaitingAreas). w.bytes) c.self.view_is) c.requires.within c.min-stored.ensures in
       on_err c.from_residual.result
       (prefix-piece c.args.name.now c.args.unsent.now _ _ _ _ _ all c.in_err-push.ensures.prefix);
   failed = search rules;
@@ -34,7 +34,7 @@ first_are g c =
     first-parts c.args.count c.self.inside.free c.min-stored.result c.bytes-bytes.result.now
     c.args.self.now.bytes
     (ap (λ (xs : List ℕ). xs ++ zeros c.self.inside.free) c.bytes-bytes.ensures
-    ∙ ap (λ (w : Waiting). w.bytes) c.self.view_is) c.requires.within c.min-stored.ensures
+    ∙ ap (λ (w : WaitingAreas). w.bytes) c.self.view_is) c.requires.within c.min-stored.ensures
 
 pub returns : goal.returns
 returns g c = record {

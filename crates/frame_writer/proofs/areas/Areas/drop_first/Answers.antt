@@ -1,7 +1,7 @@
 -- What is left of the queue, and of the zeros after it.
 use Rattle.std.proofs.Common.{ap, arith, drop, length-append, min, refl, take, ◌++◌, ◌-◌, ◌∙◌, ◌≡◌}
-use Rattle.frame_writer.proofs.LaidLaws.{left-is, length-zeros, taken-laid}
-use Rattle.frame_writer.specs.Laid.{Waiting, zeros}
+use Rattle.frame_writer.proofs.LaidLemmas.{left-is, length-zeros, taken-laid}
+use Rattle.frame_writer.specs.Laid.{WaitingAreas, zeros}
 use Rattle.frame_writer.proofs.areas.Areas.drop_first.Goals as goal
 
 pub returns-clause-laid : goal.returns-clause-laid
@@ -14,8 +14,8 @@ returns-clause-laid c = λ given ps are.
     let leaves : left ++ zeros less ≡ drop n now =
     left-is n free c.min-stored.result c.self.inside.queue left now
     (c.min-stored.ensures ∙ ap (min n) c.len.ensures.count)
-    c.drop_first.ensures (ap (λ (w : Waiting). w.bytes) c.self.view_is) c.requires in
+    c.drop_first.ensures (ap (λ (w : WaitingAreas). w.bytes) c.self.view_is) c.requires in
     taken-laid given now (take n now)
     (left ++ zeros less) n c.args.self.now.free less ps refl leaves
-    (omega (arith, ap (λ (w : Waiting). w.free) c.self.view_is))
+    (omega (arith, ap (λ (w : WaitingAreas). w.free) c.self.view_is))
     (omega (arith, length-append left (zeros less), length-zeros less)) are

@@ -1,8 +1,8 @@
 -- The zeros up to the main data, and these, after what is in the queue.
 use Rattle.std.proofs.Common.{ap, append_assoc, arith, length, List, refl, subst, sym, ℕ, [], ◌++◌}
 use Rattle.std.proofs.Common.{◌+◌, ◌-◌, ◌∙◌, ◌∷◌, ◌≡◌}
-use Rattle.frame_writer.proofs.LaidLaws.{more-laid, more-put, waits}
-use Rattle.frame_writer.specs.Laid.{AreLaid, put_at, Waiting, zeros}
+use Rattle.frame_writer.proofs.LaidLemmas.{more-laid, more-put, waits}
+use Rattle.frame_writer.specs.Laid.{AreAreasLaid, overwritten_bytes, WaitingAreas, zeros}
 use Rattle.frame_writer.proofs.areas.Areas.push.Goals as goal
 
 -- zeros and then these bytes were added
@@ -23,9 +23,10 @@ returns-clause-put c =
     ∙ more-put c.self.inside.queue payload begin free (free - begin) rest c.args.area (omega (
       arith,
       c.requires.start,
-      ap (λ (w : Waiting). w.free) c.self.view_is,
+      ap (λ (w : WaitingAreas). w.free) c.self.view_is,
     )) refl c.requires.within (ap (λ k. begin + c.args.area - k) c.len.ensures)
-    ∙ ap (λ (w : Waiting). put_at (length w.bytes - begin) payload (w.bytes ++ zeros c.args.area))
+    ∙ ap (λ (w : WaitingAreas). overwritten_bytes (length w.bytes - begin) payload
+    (w.bytes ++ zeros c.args.area))
     c.self.view_is
 
 pub returns-clause-laid : goal.returns-clause-laid
@@ -36,9 +37,9 @@ returns-clause-laid c = λ given ps are.
     let rest = begin + c.args.area - c.len.result in
     let is = added c.self.inside.queue _ c.push_payload.new.queue (zeros (free - begin)) payload
     c.push_zeros.ensures c.push_payload.ensures in
-    subst (λ (xs : List ℕ). AreLaid given (waits xs rest)
+    subst (λ (xs : List ℕ). AreAreasLaid given (waits xs rest)
     (ps ++ record { payload = payload; begin = begin; area = c.args.area } ∷ [])) (sym is)
     (more-laid given c.self.inside.queue payload begin free (free - begin) rest c.args.area ps
-    (omega (arith, c.requires.start, ap (λ (w : Waiting). w.free) c.self.view_is)) refl
+    (omega (arith, c.requires.start, ap (λ (w : WaitingAreas). w.free) c.self.view_is)) refl
     c.requires.within (ap (λ k. begin + c.args.area - k) c.len.ensures)
-    (subst (λ w. AreLaid given w ps) (sym c.self.view_is) are))
+    (subst (λ w. AreAreasLaid given w ps) (sym c.self.view_is) are))

@@ -1,7 +1,7 @@
 -- What is after the first bytes.
 use Rattle.std.proofs.Common.{ap, arith, drop, length, length-drop, sym, ◌-◌, ◌∙◌, ◌≡◌}
 use Rattle.std.proofs.lemmas.List.{length-take-le}
-use Rattle.frame_writer.proofs.BytesLaws.{dropped}
+use Rattle.frame_writer.proofs.BytesLemmas.{dropped}
 use Rattle.frame_writer.proofs.bytes.ByteQueue.drop_first.Goals as goal
 
 pub returns : goal.returns

@@ -1,7 +1,7 @@
 -- The bytes are after those that were there.
 use Rattle.std.proofs.Common.{ap, arith, drop, length, List, refl, take, ℕ, ◌+◌, ◌-◌, ◌∙◌}
 use Rattle.std.proofs.lemmas.List.{with_items_is}
-use Rattle.frame_writer.proofs.BytesLaws.{put-behind}
+use Rattle.frame_writer.proofs.BytesLemmas.{put-behind}
 use Rattle.frame_writer.proofs.bytes.ByteQueue.push.Goals as goal
 
 pub returns : goal.returns

@@ -1,6 +1,6 @@
 -- No area is empty, and none is longer than a frame.
 use Rattle.std.proofs.Common.{arith}
-use Rattle.frame_writer.proofs.FrameLaws.{area-range}
+use Rattle.frame_writer.proofs.FrameLemmas.{area-range}
 use Rattle.frame_writer.proofs.frames.SizedFront.area.Goals as goal
 
 pub returns-clause-some : goal.returns-clause-some

@@ -1,6 +1,6 @@
 -- The area is short.
 use Rattle.std.proofs.Common.{arith}
-use Rattle.frame_writer.proofs.FrameLaws.{area-range}
+use Rattle.frame_writer.proofs.FrameLemmas.{area-range}
 use Rattle.frame_writer.proofs.frames.SizedFront.new.Goals as goal
 
 pub overflow_cast-result : goal.overflow_cast-result

@@ -1,15 +1,16 @@
 -- One frame after another.
 use Rattle.std.proofs.Common.{arith, length, List, refl, rules, subst, ℕ, ◌∙◌, ◌≡◌}
 use Rattle.std.proofs.lemmas.Grind.{common_steps}
-use Rattle.frame_writer.{proofs.WritingLaws.none-left, specs.Writing.{waiting_bytes, writing}}
-use Rattle.outside.proofs.PassedLaws.{on_err, passed_nothing, passed_then, passed_then_prefix}
-use Rattle.outside.{proofs.PassedLaws.passed_there, specs.Passed.PassedOn}
+use Rattle.frame_writer.{proofs.WritingLemmas.none-left, specs.Writing.{waiting_bytes, writing_of}}
+use Rattle.outside.proofs.BufferOutputLemmas.{on_err, passed_nothing, passed_then}
+use Rattle.outside.proofs.BufferOutputLemmas.{passed_then_prefix, passed_there}
+use Rattle.outside.specs.BufferOutput.{AppendsWaiting}
 use Rattle.frame_writer.proofs.queue.FrameQueue.finish.Goals as goal
 
 pub loop-self-init : goal.loop-self-init
 loop-self-init g c = record {
   passed = passed_nothing (g.D.Folder.seen c.args.folder.now).files c.args.name.now
-      (waiting_bytes (writing c.args.self.now c.args.unsent.now)) c.requires.there;
+      (waiting_bytes (writing_of c.args.self.now c.args.unsent.now)) c.requires.there;
   there = c.requires.there;
   counts = refl;
 }
@@ -37,7 +38,8 @@ returns g c = record {
   passed = let none : length c.loop-self.self.kept ≡ 0 =
       omega (arith, c.count.ensures.count, c.loop-self-test.false) in
       subst (λ (xs : List ℕ).
-      PassedOn c.args.name.now (waiting_bytes (writing c.args.self.now c.args.unsent.now)) xs
+      AppendsWaiting c.args.name.now (waiting_bytes (writing_of c.args.self.now c.args.unsent.now))
+      xs
       (g.D.Folder.seen c.args.folder.now).files (g.D.Folder.seen c.loop-self.folder).files)
       (none-left c.loop-self.self c.loop-self.unsent none) c.loop-self.invariant.passed;
   none = grind (arith, common_steps);

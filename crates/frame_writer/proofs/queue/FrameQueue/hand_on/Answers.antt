@@ -1,15 +1,15 @@
 -- One frame after another.
 use Rattle.std.proofs.Common.{refl, rules, ◌∙◌}
-use Rattle.frame_writer.proofs.WritingLaws.{handed-none, handed-then, part-then}
-use Rattle.frame_writer.specs.Writing.{waiting_bytes, writing}
-use Rattle.outside.proofs.PassedLaws.{on_err, passed_nothing, passed_then, passed_then_prefix}
-use Rattle.outside.proofs.PassedLaws.{passed_there}
+use Rattle.frame_writer.proofs.WritingLemmas.{handed-none, handed-then, part-then}
+use Rattle.frame_writer.specs.Writing.{waiting_bytes, writing_of}
+use Rattle.outside.proofs.BufferOutputLemmas.{on_err, passed_nothing, passed_then}
+use Rattle.outside.proofs.BufferOutputLemmas.{passed_then_prefix, passed_there}
 use Rattle.frame_writer.proofs.queue.FrameQueue.hand_on.Goals as goal
 
 pub loop-self-init : goal.loop-self-init
 loop-self-init g c = record {
   passed = passed_nothing (g.D.Folder.seen c.args.folder.now).files c.args.name.now
-      (waiting_bytes (writing c.args.self.now c.args.unsent.now)) c.requires.there;
+      (waiting_bytes (writing_of c.args.self.now c.args.unsent.now)) c.requires.there;
   moved = handed-none c.args.self.now;
   class = refl;
   reach = refl;
@@ -33,8 +33,8 @@ returns-in_err-take_first g c = record {
   passed = search rules;
   moved = search rules;
   part = on_err c.from_residual.result
-      (part-then c.args.name.now (writing c.args.self.now c.args.unsent.now)
-      (writing c.loop-self.self c.loop-self.unsent) c.take_first.new.self _ _ _
+      (part-then c.args.name.now (writing_of c.args.self.now c.args.unsent.now)
+      (writing_of c.loop-self.self c.loop-self.unsent) c.take_first.new.self _ _ _
       c.loop-self.invariant.passed c.loop-self.invariant.moved c.in_err-take_first.ensures.part);
   class = search rules;
   reach =

@@ -3,18 +3,20 @@ use Rattle.std.proofs.Common.{ap, arith, length, length-append, List, OnOk, subs
 use Rattle.std.proofs.Common.{◌+◌, ◌∙◌, ◌∷◌, ◌≡◌}
 use Rattle.circular_buffer.specs.Buffer.{buffer}
 use Rattle.frame_header.specs.{Fields.{ClassFields, IsHeader}, Tables.class_of}
-use Rattle.frame_writer.proofs.FrameLaws.{areas_in-pushed, AreOf-more, few-wait, more-written}
-use Rattle.frame_writer.proofs.FrameLaws.{pushed-kept}
-use Rattle.frame_writer.specs.Frames.{area_in, areas_in, AreOf, AreWritten, Frame, Held}
-use Rattle.frame_writer.specs.{Frames.IsNextSettled, Laid.AreLaid, Laws.HaveRoom}
+use Rattle.frame_writer.proofs.FrameLemmas.{areas_in-pushed, AreOf-more, few-wait, more-written}
+use Rattle.frame_writer.proofs.FrameLemmas.{pushed-kept}
+use Rattle.frame_writer.specs.Frames.{areas_length, AreFieldsOfClass, AreFramesWritten, Frame}
+use Rattle.frame_writer.specs.{Frames.{frame_area, IsNextSettled, WaitingFrames}, Laid.AreAreasLaid}
+use Rattle.frame_writer.specs.Laws.{HasFrameRoom}
 use Rattle.side_info.specs.{FrameFields.FrameFields, Side.SideFits}
 use Rattle.frame_writer.proofs.queue.FrameQueue.push.Goals as goal
 
 -- another frame may wait
-room_of : (held old : Held) → held ≡ old → AreOf held.class held.kept
-    → areas_in held.kept ≡ length held.waiting.bytes → (IsNextSettled old → ⊥) → HaveRoom held
+room_of : (held old : WaitingFrames) → held ≡ old → AreFieldsOfClass held.class held.kept
+    → areas_length held.kept ≡ length held.waiting.bytes → (IsNextSettled old → ⊥)
+    → HasFrameRoom held
 room_of held old view are same unsettled =
-    few-wait held are same (subst (λ (h : Held). IsNextSettled h → ⊥) (sym view) unsettled)
+    few-wait held are same (subst (λ (h : WaitingFrames). IsNextSettled h → ⊥) (sym view) unsettled)
 
 pub push-requires-clause-room : goal.push-requires-clause-room
 push-requires-clause-room c =
@@ -39,7 +41,7 @@ invariant_of-self c =
     (subst (λ (k : FrameFields). OnOk c.try_push_back.result (c.try_push_back.new.self ≡ buffer
     (queue.items ++ k ∷ []) queue.capacity)) c.front-front.ensures c.try_push_back.ensures.ok) in
     let class : class_of c.args.frame.now.kept.header ≡ c.self.inside.class =
-    c.requires.class ∙ sym (ap (λ (h : Held). h.class) c.self.view_is) in
+    c.requires.class ∙ sym (ap (λ (h : WaitingFrames). h.class) c.self.view_is) in
     let fits : SideFits c.self.inside.class c.args.frame.now.kept.side =
     subst (λ (d : ClassFields). SideFits d c.args.frame.now.kept.side) class
     (subst (λ (k : FrameFields). SideFits (class_of k.header) k.side)
@@ -47,13 +49,14 @@ invariant_of-self c =
     let is : IsHeader c.args.frame.now.kept.header = subst (λ (k : FrameFields). IsHeader k.header)
     c.front-front.ensures c.area-area.ensures.header in
     let bytes = c.self.inside.areas.bytes in
-    let long : length c.push.new.self.bytes ≡ length bytes + area_in k = c.push.ensures.long
-    ∙ ap (λ n. length bytes + n) (c.area-area.ensures.area ∙ ap area_in c.front-front.ensures) in (
+    let long : length c.push.new.self.bytes ≡ length bytes + frame_area k = c.push.ensures.long
+    ∙ ap (λ n. length bytes + n) (c.area-area.ensures.area ∙ ap frame_area c.front-front.ensures)
+    in (
       pushed.0,
       omega (arith, ap length pushed.1, length-append queue.items (k ∷ []), room.few),
-      ap (λ (ks : List FrameFields). areas_in ks) pushed.1
+      ap (λ (ks : List FrameFields). areas_length ks) pushed.1
           ∙ areas_in-pushed queue.items k bytes c.push.new.self.bytes c.self.invariant.2 long,
-      subst (AreOf c.self.inside.class) (sym pushed.1)
+      subst (AreFieldsOfClass c.self.inside.class) (sym pushed.1)
           (AreOf-more c.self.inside.class queue.items k c.self.invariant.3 is class fits),
     )
 
@@ -69,7 +72,7 @@ returns-clause-kept c =
     c.self.invariant.0 room.few c.try_push_back.ensures.variant
     (subst (λ (k : FrameFields). OnOk c.try_push_back.result (c.try_push_back.new.self ≡ buffer
     (queue.items ++ k ∷ []) queue.capacity)) c.front-front.ensures c.try_push_back.ensures.ok)).1
-    ∙ ap (λ (h : Held). h.kept ++ c.args.frame.now.kept ∷ []) c.self.view_is
+    ∙ ap (λ (h : WaitingFrames). h.kept ++ c.args.frame.now.kept ∷ []) c.self.view_is
 
 pub returns-clause-written : goal.returns-clause-written
 returns-clause-written c = λ taken fs are.
@@ -89,23 +92,24 @@ returns-clause-written c = λ taken fs are.
       kept = c.front-front.ensures i;
       payload = ap (λ (x : Frame). x.payload) c.frame.view_is i;
     } in
-    subst (λ (ks : List FrameFields). AreWritten taken
+    subst (λ (ks : List FrameFields). AreFramesWritten taken
     (record { class = c.self.inside.class; kept = ks; waiting = c.push.new.self })
     (fs ++ c.args.frame.now ∷ [])) (sym pushed.1)
-    (subst (λ (f : Frame). AreWritten taken (record {
+    (subst (λ (f : Frame). AreFramesWritten taken (record {
       class = c.self.inside.class;
       kept = queue.items ++ f.kept ∷ [];
       waiting = c.push.new.self;
     }) (fs ++ f ∷ [])) is
     (more-written taken c.self.inside.class queue.items c.self.inside.areas c.push.new.self fs f
     (λ given ps laid.
-    subst (λ n. AreLaid given
-    c.push.new.self (ps ++ record { payload = f.payload; begin = n; area = area_in f.kept } ∷ []))
+    subst (λ n. AreAreasLaid given
+    c.push.new.self (ps ++ record { payload = f.payload; begin = n; area = frame_area f.kept }
+    ∷ []))
     (c.from.ensures ∙ c.begin_in-begin.ensures.begin)
-    (subst (λ n. AreLaid given c.push.new.self (ps ++ record {
+    (subst (λ n. AreAreasLaid given c.push.new.self (ps ++ record {
       payload = f.payload;
       begin = c.from.result;
       area = n;
     } ∷ [])) c.area-area.ensures.area
     (c.push.ensures.laid given ps laid)))
-    (subst (λ h. AreWritten taken h fs) (sym c.self.view_is) are)))
+    (subst (λ h. AreFramesWritten taken h fs) (sym c.self.view_is) are)))

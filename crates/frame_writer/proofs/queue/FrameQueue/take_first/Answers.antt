@@ -2,12 +2,13 @@
 use Rattle.std.proofs.Common.{ap, arith, drop, length, List, option_copied, rules, subst, sym, take}
 use Rattle.std.proofs.{Common.{ℕ, ◌++◌, ◌<◌, ◌∙◌, ◌∷◌, ◌≡◌, ◌≤◌}, lemmas.Grind.common_steps}
 use Rattle.circular_buffer.specs.Buffer.{Buffer}
-use Rattle.frame_writer.proofs.FrameLaws.{first-framed, first-kept}
-use Rattle.frame_writer.proofs.WritingLaws.{err-map, first-handed, first-part, prefix-piece}
+use Rattle.frame_writer.proofs.FrameLemmas.{first-framed, first-kept}
+use Rattle.frame_writer.proofs.WritingLemmas.{err-map, first-handed, first-part, prefix-piece}
 use Rattle.frame_writer.proofs.queue.FrameQueue.take_first.Goals.{After-drop_first}
 use Rattle.frame_writer.proofs.queue.FrameQueue.take_first.Goals.{After-unwrap-first}
-use Rattle.frame_writer.specs.Frames.{area_in, areas_in, AreOf, first_bytes, framed, Held}
-use Rattle.frame_writer.specs.{Frames.held_bytes, Laid.{AreLaid, Piece}}
+use Rattle.frame_writer.specs.Frames.{areas_length, AreFieldsOfClass, first_bytes, frame_area}
+use Rattle.frame_writer.specs.Frames.{framed_bytes, held_bytes, WaitingFrames}
+use Rattle.frame_writer.specs.Laid.{AreAreasLaid, FrameData}
 use Rattle.side_info.specs.FrameFields.{FrameFields}
 use Rattle.frame_writer.proofs.queue.FrameQueue.take_first.Given as given
 use Rattle.frame_writer.proofs.queue.FrameQueue.take_first.Goals as goal
@@ -17,21 +18,21 @@ first : (g : given.Over) (c : After-unwrap-first g)
     → c.self.inside.kept.items ≡ c.unwrap-first.result.now ∷ drop 1 c.self.inside.kept.items
 first g c =
     first-kept c.self.inside.kept.items c.unwrap-first.result.now
-    (subst (λ (h : Held). 0 < length h.kept) (sym c.self.view_is) c.requires.some)
+    (subst (λ (h : WaitingFrames). 0 < length h.kept) (sym c.self.view_is) c.requires.some)
     (sym c.front.ensures ∙ ap option_copied c.unwrap-first.ensures)
 
 pub add_frame-added-requires-clause-class : goal.add_frame-added-requires-clause-class
 add_frame-added-requires-clause-class g c =
-    sym (subst (AreOf c.self.inside.class) (first g
+    sym (subst (AreFieldsOfClass c.self.inside.class) (first g
     (goal.at.add_frame-added-requires-clause-class g c).After-unwrap-first) c.self.invariant.3).1
 
 -- its area is there, and is dropped
 within : (g : given.Over) (c : After-unwrap-first g)
-    → area_in c.unwrap-first.result.now ≤ length c.self.inside.areas.bytes
+    → frame_area c.unwrap-first.result.now ≤ length c.self.inside.areas.bytes
 within g c =
-    let all : areas_in (c.unwrap-first.result.now ∷ drop 1 c.self.inside.kept.items)
+    let all : areas_length (c.unwrap-first.result.now ∷ drop 1 c.self.inside.kept.items)
     ≡ length c.self.inside.areas.bytes =
-    ap (λ (js : List FrameFields). areas_in js) (sym (first g c)) ∙ c.self.invariant.2 in
+    ap (λ (js : List FrameFields). areas_length js) (sym (first g c)) ∙ c.self.invariant.2 in
     omega (arith, all)
 
 pub add_frame-added-requires-clause-within : goal.add_frame-added-requires-clause-within
@@ -39,15 +40,17 @@ add_frame-added-requires-clause-within g c =
     within g (goal.at.add_frame-added-requires-clause-within g c).After-unwrap-first
 
 drops : (g : given.Over) (c : After-drop_first g) → c.drop_first.new.self.bytes
-    ≡ drop (area_in c.unwrap-first.result.now) c.self.inside.areas.bytes
+    ≡ drop (frame_area c.unwrap-first.result.now) c.self.inside.areas.bytes
 drops g c =
     c.drop_first.ensures.left ∙ ap (λ n. drop n c.self.inside.areas.bytes) c.area-area.ensures.area
 
-step : (g : given.Over) (c : After-drop_first g) (given : List ℕ) (ps : List Piece)
-    → AreLaid given c.self.inside.areas ps → AreLaid (given
-    ++ take (area_in c.unwrap-first.result.now) c.self.inside.areas.bytes) c.drop_first.new.self ps
-step g c = subst (λ n. (given : List ℕ) (ps : List Piece) → AreLaid given c.self.inside.areas ps
-    → AreLaid (given ++ take n c.self.inside.areas.bytes) c.drop_first.new.self ps)
+step : (g : given.Over) (c : After-drop_first g) (given : List ℕ) (ps : List FrameData)
+    → AreAreasLaid given c.self.inside.areas ps → AreAreasLaid (given
+    ++ take (frame_area c.unwrap-first.result.now) c.self.inside.areas.bytes)
+    c.drop_first.new.self ps
+step g c =
+    subst (λ n. (given : List ℕ) (ps : List FrameData) → AreAreasLaid given c.self.inside.areas ps
+    → AreAreasLaid (given ++ take n c.self.inside.areas.bytes) c.drop_first.new.self ps)
     c.area-area.ensures.area c.drop_first.ensures.laid
 
 pub returns : goal.returns
@@ -71,8 +74,8 @@ returns g c = record {
       let bytes = c.self.inside.areas.bytes in
       err-map c.add_frame-added.result
       (prefix-piece c.args.name.now c.args.unsent.now (first_bytes k bytes) _
-      (framed (drop 1 items) (drop (area_in k) bytes)) _ _
-      (first-framed k (drop 1 items) bytes ∙ ap (λ (js : List FrameFields). framed js bytes)
+      (framed_bytes (drop 1 items) (drop (frame_area k) bytes)) _ _
+      (first-framed k (drop 1 items) bytes ∙ ap (λ (js : List FrameFields). framed_bytes js bytes)
       (sym (first g (goal.at.returns g c).After-unwrap-first)) ∙ ap held_bytes c.self.view_is))
       c.add_frame-added.ensures.prefix;
   class = search rules;

@@ -1,17 +1,19 @@
 -- What waits goes into the buffer, and the buffer to the file.
 use Rattle.std.proofs.Common.{ap, ap₂, List, rules, subst, ℕ, ◌++◌, ◌∙◌, ◌≡◌}
-use Rattle.frame_writer.{proofs.WritingLaws.is-open, specs.Frames.{Held, held_bytes}}
-use Rattle.frame_writer.specs.{Writer.{IsSettled, Writer}, declared.writer.State.State}
-use Rattle.outside.proofs.PassedLaws.{on_err, passed_then_all, passed_then_prefix, passed_there}
-use Rattle.outside.specs.{Files.appended, Passed.AppendedPrefix}
+use Rattle.frame_writer.{proofs.WritingLemmas.is-open, specs.Frames.{held_bytes, WaitingFrames}}
+use Rattle.frame_writer.specs.{Writer.{IsWriterSettled, Writer}, declared.writer.State.State}
+use Rattle.outside.proofs.BufferOutputLemmas.{on_err, passed_then_all, passed_then_prefix}
+use Rattle.outside.{proofs.BufferOutputLemmas.passed_there, specs.BufferOutput.AppendedPrefix}
+use Rattle.outside.specs.Files.{with_appended_bytes}
 use Rattle.frame_writer.proofs.writer.Writer.finish.Goals as goal
 
 -- all that waits of an open writer are the frames
-all : (held : Held) (unsent : List ℕ) (state : State) (now : Writer) → IsSettled state held unsent →
+all : (held : WaitingFrames) (unsent : List ℕ) (state : State) (now : Writer)
+    → IsWriterSettled state held unsent →
     record { held = held; state = state } ≡ now → now.state ≡ State.Open
     → unsent ++ held_bytes held ≡ held_bytes now.held
 all held unsent state now settled view opened =
-    ap₂ (λ (xs : List ℕ) (h : Held). xs ++ held_bytes h)
+    ap₂ (λ (xs : List ℕ) (h : WaitingFrames). xs ++ held_bytes h)
     (is-open state held unsent settled (ap (λ (w : Writer). w.state) view ∙ opened)).0
     (ap (λ (w : Writer). w.held) view)
 
@@ -38,7 +40,7 @@ returns-in_err-finish-2 g c = record {
 pub returns : goal.returns
 returns g c = record {
   appended = passed_then_all c.in_ok-finish.ensures.passed c.in_ok-finish-2.ensures.appended
-      ∙ ap (appended (g.D.Folder.seen c.args.folder.now).files c.args.name.now)
+      ∙ ap (with_appended_bytes (g.D.Folder.seen c.args.folder.now).files c.args.name.now)
       (all c.self.inside.queue c.self.inside.unsent c.self.inside.state c.args.self.now
       c.self.invariant c.self.view_is c.requires.ready);
   none = search rules;

@@ -1,30 +1,30 @@
 -- The frame goes into the buffer, and the buffer to the file.
 use Rattle.std.proofs.Common.{ap, ap₂, List, rules, subst, ℕ, [], ◌∙◌, ◌≡◌}
 use Rattle.frame_header.specs.Fields.{HeaderFields}
-use Rattle.frame_writer.proofs.WritingLaws.{is-open, passed-sent, unsent-prefix, writes-sent}
-use Rattle.frame_writer.proofs.WritingLaws.{writes-unsent}
-use Rattle.frame_writer.specs.Frames.{Frame, frame_of, Held, held_bytes}
-use Rattle.frame_writer.specs.Writer.{IsSettled, Writer}
-use Rattle.frame_writer.specs.Writing.{bytes_with, WritesOn, WritesPart, Writing, writing}
-use Rattle.frame_writer.specs.declared.writer.State.{State}
-use Rattle.outside.proofs.PassedLaws.{on_err, passed_there}
-use Rattle.outside.specs.Passed.{AppendedPrefix, PassedOn}
+use Rattle.frame_writer.proofs.WritingLemmas.{is-open, passed-sent, unsent-prefix, writes-sent}
+use Rattle.frame_writer.proofs.WritingLemmas.{writes-unsent}
+use Rattle.frame_writer.specs.Frames.{Frame, frame_with_data, held_bytes, WaitingFrames}
+use Rattle.frame_writer.specs.Writer.{IsWriterSettled, Writer}
+use Rattle.frame_writer.specs.Writing.{AcceptsFrame, bytes_with_frame, WritesPart, Writing}
+use Rattle.frame_writer.specs.{Writing.writing_of, declared.writer.State.State}
+use Rattle.outside.proofs.BufferOutputLemmas.{on_err, passed_there}
+use Rattle.outside.specs.BufferOutput.{AppendedPrefix, AppendsWaiting}
 use Rattle.side_info.specs.{FrameFields.FrameFields, declared.side.Side.Side}
 use Rattle.frame_writer.proofs.writer.Writer.frame.Goals as goal
 
 -- nothing waits in the buffer of an open writer
-nothing : (held : Held) (unsent : List ℕ) (state : State) (now : Writer)
-    → IsSettled state held unsent →
+nothing : (held : WaitingFrames) (unsent : List ℕ) (state : State) (now : Writer)
+    → IsWriterSettled state held unsent →
     record { held = held; state = state } ≡ now → now.state ≡ State.Open
-    → writing held unsent ≡ writing now.held []
+    → writing_of held unsent ≡ writing_of now.held []
 nothing held unsent state now settled view opened =
-    ap₂ writing (ap (λ (w : Writer). w.held) view)
+    ap₂ writing_of (ap (λ (w : Writer). w.held) view)
     (is-open state held unsent settled (ap (λ (w : Writer). w.state) view ∙ opened)).0
 
 -- the frame that is given
 given_is : (h : HeaderFields) (s : Side) (payload : List ℕ) (front : FrameFields) (whole : List ℕ)
-    (frame : Frame) → frame ≡ record { kept = front; payload = whole }
-    → front ≡ record { header = h; side = s } → whole ≡ payload → frame ≡ frame_of h s payload
+    (frame : Frame) → frame ≡ record { kept = front; payload = whole } → front
+    ≡ record { header = h; side = s } → whole ≡ payload → frame ≡ frame_with_data h s payload
 given_is h s payload front whole frame is kept same =
     is ∙ ap₂ (λ (k : FrameFields) (p : List ℕ). record { kept = k; payload = p }) kept same
 
@@ -37,26 +37,26 @@ returns-in_err-finish-clause-answer g c = record {
   passed = search rules;
   part = let old = nothing c.self.inside.queue c.self.inside.unsent c.self.inside.state
       c.args.self.now c.self.invariant c.self.view_is c.requires.ready in
-      let new = writing c.frame.new.self c.frame.new.unsent in
+      let new = writing_of c.frame.new.self c.frame.new.unsent in
       on_err c.from_residual-in_err-finish.result
       (subst (λ (w : Writing). WritesPart c.args.name.now
-      (frame_of c.args.header.now c.args.side.now c.args.payload.now) w c.frame.new.self
+      (frame_with_data c.args.header.now c.args.side.now c.args.payload.now) w c.frame.new.self
       (g.D.Folder.seen c.args.folder.now).files (g.D.Folder.seen c.finish.new.folder).files) old
       (subst (λ (f : Frame). WritesPart c.args.name.now f
-      (writing c.self.inside.queue c.self.inside.unsent) c.frame.new.self
+      (writing_of c.self.inside.queue c.self.inside.unsent) c.frame.new.self
       (g.D.Folder.seen c.args.folder.now).files (g.D.Folder.seen c.finish.new.folder).files)
       (given_is c.args.header.now c.args.side.now c.args.payload.now c.new-front.result
       c.whole.result c.new-frame.result c.new-frame.ensures c.new-front.ensures c.whole.ensures)
       (writes-unsent new c.in_ok-frame.ensures.answer.written c.in_err-finish.ensures.prefix)));
   prefix = let old = nothing c.self.inside.queue c.self.inside.unsent c.self.inside.state
       c.args.self.now c.self.invariant c.self.view_is c.requires.ready in
-      let new = writing c.frame.new.self c.frame.new.unsent in
+      let new = writing_of c.frame.new.self c.frame.new.unsent in
       on_err c.from_residual-in_err-finish.result
-      (subst (λ (w : Writing). AppendedPrefix c.args.name.now (bytes_with w
-      (frame_of c.args.header.now c.args.side.now c.args.payload.now))
+      (subst (λ (w : Writing). AppendedPrefix c.args.name.now (bytes_with_frame w
+      (frame_with_data c.args.header.now c.args.side.now c.args.payload.now))
       (g.D.Folder.seen c.args.folder.now).files (g.D.Folder.seen c.finish.new.folder).files) old
       (subst (λ (f : Frame). AppendedPrefix c.args.name.now
-      (bytes_with (writing c.self.inside.queue c.self.inside.unsent) f)
+      (bytes_with_frame (writing_of c.self.inside.queue c.self.inside.unsent) f)
       (g.D.Folder.seen c.args.folder.now).files (g.D.Folder.seen c.finish.new.folder).files)
       (given_is c.args.header.now c.args.side.now c.args.payload.now c.new-front.result
       c.whole.result c.new-frame.result c.new-frame.ensures c.new-front.ensures c.whole.ensures)
@@ -72,24 +72,26 @@ pub returns-clause-answer : goal.returns-clause-answer
 returns-clause-answer g c = record {
   written = let old = nothing c.self.inside.queue c.self.inside.unsent c.self.inside.state
       c.args.self.now c.self.invariant c.self.view_is c.requires.ready in
-      let new = writing c.frame.new.self c.frame.new.unsent in
-      subst (λ (w : Writing). WritesOn c.args.name.now (frame_of c.args.header.now c.args.side.now
-      c.args.payload.now) w (writing c.frame.new.self [])
+      let new = writing_of c.frame.new.self c.frame.new.unsent in
+      subst (λ (w : Writing).
+      AcceptsFrame c.args.name.now (frame_with_data c.args.header.now c.args.side.now
+      c.args.payload.now) w (writing_of c.frame.new.self [])
       (g.D.Folder.seen c.args.folder.now).files (g.D.Folder.seen c.finish.new.folder).files) old
-      (subst (λ (f : Frame). WritesOn c.args.name.now f
-      (writing c.self.inside.queue c.self.inside.unsent) (writing c.frame.new.self [])
+      (subst (λ (f : Frame). AcceptsFrame c.args.name.now f
+      (writing_of c.self.inside.queue c.self.inside.unsent) (writing_of c.frame.new.self [])
       (g.D.Folder.seen c.args.folder.now).files (g.D.Folder.seen c.finish.new.folder).files)
       (given_is c.args.header.now c.args.side.now c.args.payload.now c.new-front.result
       c.whole.result c.new-frame.result c.new-frame.ensures c.new-front.ensures c.whole.ensures)
       (writes-sent new c.in_ok-frame.ensures.answer.written c.in_ok-finish.ensures.appended));
   passed = let old = nothing c.self.inside.queue c.self.inside.unsent c.self.inside.state
       c.args.self.now c.self.invariant c.self.view_is c.requires.ready in
-      let new = writing c.frame.new.self c.frame.new.unsent in
-      subst (λ (w : Writing). PassedOn c.args.name.now (bytes_with w
-      (frame_of c.args.header.now c.args.side.now c.args.payload.now)) (held_bytes c.frame.new.self)
+      let new = writing_of c.frame.new.self c.frame.new.unsent in
+      subst (λ (w : Writing). AppendsWaiting c.args.name.now (bytes_with_frame w
+      (frame_with_data c.args.header.now c.args.side.now c.args.payload.now))
+      (held_bytes c.frame.new.self)
       (g.D.Folder.seen c.args.folder.now).files (g.D.Folder.seen c.finish.new.folder).files) old
-      (subst (λ (f : Frame). PassedOn c.args.name.now (bytes_with
-      (writing c.self.inside.queue c.self.inside.unsent) f) (held_bytes c.frame.new.self)
+      (subst (λ (f : Frame). AppendsWaiting c.args.name.now (bytes_with_frame
+      (writing_of c.self.inside.queue c.self.inside.unsent) f) (held_bytes c.frame.new.self)
       (g.D.Folder.seen c.args.folder.now).files (g.D.Folder.seen c.finish.new.folder).files)
       (given_is c.args.header.now c.args.side.now c.args.payload.now c.new-front.result
       c.whole.result c.new-frame.result c.new-frame.ensures c.new-front.ensures c.whole.ensures)

@@ -1,13 +1,13 @@
 -- The survey, the change and the memory, each with its faults.
 use Rattle.std.proofs.Common.{ap₂, subst, sym, ◌∙◌}
-use Rattle.commands.proofs.{InputLaws.{fault_is_input, of_survey_input}, RefusingLaws.err_with}
+use Rattle.commands.proofs.{InputLemmas.{fault_is_input, of_survey_input}, RefusingLemmas.err_with}
 use Rattle.commands.specs.declared.fault.EditFault.TheVariants.{Memory}
-use Rattle.gain_edits.proofs.FadeLaws.{change_early, change_early_behind, change_numbers}
-use Rattle.gain_edits.proofs.FadeLaws.{fade_makes, input_early, input_numbers, making_in}
+use Rattle.gain_edits.proofs.FadeLemmas.{change_early, change_early_behind, change_numbers}
+use Rattle.gain_edits.proofs.FadeLemmas.{fade_makes, input_early, input_numbers, making_in}
 use Rattle.gain_edits.specs.Fade.{fade_refuses}
 use Rattle.moved_gains.specs.Change.{change_in}
-use Rattle.outside.specs.{Files.{Holds, IsThere}, Seen.seen}
-use Rattle.sync_survey.specs.Faults.{tells}
+use Rattle.outside.specs.{Files.{Holds, IsFileThere}, Seen.seen_folder}
+use Rattle.sync_survey.specs.Faults.{survey_view}
 use Rattle.gain_edits.proofs.fade_edit.FadeEditEdit.prepare.Goals as goal
 
 pub returns-in_err-survey-clause-refused : goal.returns-in_err-survey-clause-refused
@@ -28,9 +28,10 @@ returns-in_err-change-clause-refused g c =
     let edit = c.args.self.now in
     let old = g.D.Folder.seen c.args.folder.now in
     err_with _ _ c.from_residual-in_err-change.ensures.1
-    (change_early_behind edit.sheet.now edit.back edit.input.now (tells c.in_ok-survey.survey) old _
+    (change_early_behind edit.sheet.now edit.back edit.input.now (survey_view c.in_ok-survey.survey)
+    old _
     c.in_ok-survey.ensures.there c.in_ok-survey.ensures.surveyed _ _
-    (ap₂ seen c.survey_at.ensures.reads.files c.in_ok-survey.ensures.reads.done)
+    (ap₂ seen_folder c.survey_at.ensures.reads.files c.in_ok-survey.ensures.reads.done)
     c.in_err-change.ensures.refused)
 
 pub returns-in_err-change-clause-numbers : goal.returns-in_err-change-clause-numbers
@@ -43,20 +44,20 @@ pub returns-in_err-buffers-clause-refused : goal.returns-in_err-buffers-clause-r
 returns-in_err-buffers-clause-refused g c =
     let edit = c.args.self.now in
     err_with _ _ c.from_residual-in_err-buffers.ensures.1
-    (change_early edit.sheet.now edit.back edit.input.now (tells c.in_ok-survey.survey)
+    (change_early edit.sheet.now edit.back edit.input.now (survey_view c.in_ok-survey.survey)
     (g.D.Folder.seen c.args.folder.now) _
     c.in_ok-survey.ensures.there c.in_ok-survey.ensures.surveyed Memory
-    (ap₂ seen (c.fade_change.ensures.reads.files ∙ c.survey_at.ensures.reads.files)
+    (ap₂ seen_folder (c.fade_change.ensures.reads.files ∙ c.survey_at.ensures.reads.files)
     (c.in_ok-change.ensures.reads.done ∙ c.in_ok-survey.ensures.reads.done)))
 
 pub returns-clause-making : goal.returns-clause-making
 returns-clause-making g c =
     let edit = c.args.self.now in
-    let s = tells c.in_ok-survey.survey in
+    let s = survey_view c.in_ok-survey.survey in
     let same = c.survey_at.ensures.reads.files in
     fade_makes edit.sheet.now edit.back edit.input.now s
     (g.D.Folder.seen c.args.folder.now).files (change_in c.in_ok-change.change s)
     c.in_ok-survey.ensures.there c.in_ok-survey.ensures.surveyed c.in_ok-survey.ensures.octets
-    (subst (λ f. IsThere f edit.sheet.now) same c.in_ok-change.ensures.there)
+    (subst (λ f. IsFileThere f edit.sheet.now) same c.in_ok-change.ensures.there)
     (λ bytes holds. c.in_ok-change.ensures.change bytes
     (subst (λ f. Holds f edit.sheet.now bytes) (sym same) holds))

@@ -1,7 +1,7 @@
 -- The last kind is repeated as often as the definition says.
 use Rattle.std.proofs.Common.{ap, append_assoc, arith, length, map, min, replicate, ◌-◌, ◌∙◌, ◌≡◌}
 use Rattle.std.proofs.lemmas.List.{length-map, map-append}
-use Rattle.job_words.{proofs.Follow.map-replicate, specs.Code.{form_given, word_kind}}
+use Rattle.job_words.{proofs.FollowLemmas.map-replicate, specs.Code.{form_given, word_kind}}
 use Rattle.job_words.proofs.forms.Form.append_behind.Goals as goal
 
 pub returns : goal.returns

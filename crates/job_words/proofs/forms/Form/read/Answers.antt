@@ -2,11 +2,11 @@
 use Rattle.std.proofs.Common.{ap, arith, drop, inl, inr, length, List, map, refl, string_bytes, ◌-◌}
 use Rattle.std.proofs.{Common.{◌<◌, ◌∙◌, ◌≡◌, ◌⊎◌}, lemmas.List.{length-drop, length-map}}
 use Rattle.std.specs.List.{drop-map}
-use Rattle.job_words.proofs.Reading.{accepts, few, Found, refuses}
+use Rattle.job_words.proofs.ReadingLemmas.{accepts, few, Found, refuses}
 use Rattle.job_words.proofs.forms.Form.read.Goals.{After-as_slice-values}
 use Rattle.job_words.proofs.forms.Form.read.Goals.{then-count-words-via-else-count-words+then-count-len}
 use Rattle.job_words.proofs.forms.Form.read.Goals.{then-count-words-via-then-count-words}
-use Rattle.job_words.specs.{Code.{asked, form_given, value_said, word_kind}, Kinds.values_of}
+use Rattle.job_words.specs.{Code.{form_given, job_request, value_said, word_kind}, Kinds.values_of}
 use Rattle.job_words.specs.declared.kinds.WordKind.{WordKind}
 use Rattle.job_words.proofs.forms.Form.read.Goals as goal
 
@@ -19,7 +19,7 @@ found c =
     ≡ length (map string_bytes c.args.words.now) - c.len-front.result =
     omega (arith, c.saturating_sub.ensures, length-map c.args.words.now string_bytes) in
     record {
-      given-is = c.as_slice-given.ensures.value ∙ c.given_in-flags.ensures.given;
+      given-is = c.as_slice-given.ensures.value ∙ c.leading_flags-flags.ensures.given;
       front-is = omega (
         arith,
         c.len-front.ensures.value,
@@ -27,7 +27,8 @@ found c =
         ap length c.front_kinds-kinds.ensures.items,
       );
       kinds-is = c.append_behind.ensures ∙ rw (c.front_kinds-kinds.ensures.items, left) refl;
-      values-is = ap (map value_said) c.as_slice-values.ensures.value ∙ c.follow-read.ensures
+      values-is =
+          ap (map value_said) c.as_slice-values.ensures.value ∙ c.read_while_fits-read.ensures
           ∙ ap (λ (kinds : List WordKind). values_of (map word_kind kinds)
           (map string_bytes c.args.words.now)) c.as_slice.ensures.value;
     }
@@ -59,7 +60,7 @@ job-requires c =
     let values = c.as_slice-values.result.now in
     omega (
       arith,
-      ap length c.behind.ensures,
+      ap length c.skip.ensures,
       length-drop c.len-front.result values,
       length-drop c.len-front.result (map value_said values),
       length-map values value_said,
@@ -70,12 +71,12 @@ pub returns-clause-answer : goal.returns-clause-answer
 returns-clause-answer c =
     let words = map string_bytes c.args.words.now in
     let values = map value_said c.as_slice-values.result.now in
-    let values-are : map value_said c.behind.result.now ≡ drop c.len-front.result values =
-    rw (c.behind.ensures, drop-map) refl in
-    let words-are : map string_bytes c.behind-2.result.now ≡ drop c.len-front.result words =
-    rw (c.behind-2.ensures, drop-map) refl in
+    let values-are : map value_said c.skip.result.now ≡ drop c.len-front.result values =
+    rw (c.skip.ensures, drop-map) refl in
+    let words-are : map string_bytes c.skip-2.result.now ≡ drop c.len-front.result words =
+    rw (c.skip-2.ensures, drop-map) refl in
     accepts _ c.requires words _ _ _ values
-    (found (goal.at.returns-clause-answer c).After-as_slice-values) (asked c.job.result)
+    (found (goal.at.returns-clause-answer c).After-as_slice-values) (job_request c.job.result)
     (omega (
       arith,
       length-map c.args.words.now string_bytes,

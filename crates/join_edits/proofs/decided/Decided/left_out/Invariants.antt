@@ -1,8 +1,8 @@
 -- The number of each seam so far is there.
 use Rattle.std.proofs.Common.{take, ◌∷◌, ◌≡◌}
-use Rattle.join_edits.specs.Deciding.{outs_of}
+use Rattle.join_edits.specs.Deciding.{left_out_counts}
 use Rattle.join_edits.proofs.decided.Decided.left_out.Given as goal
 
 abbrev pub invariant-loop-joint : goal.invariant-loop-joint
 invariant-loop-joint l =
-    l.left_out.items ≡ l.self.front ∷ outs_of (take l.joint-index l.self.joints.items)
+    l.left_out.items ≡ l.self.front ∷ left_out_counts (take l.joint-index l.self.joints.items)

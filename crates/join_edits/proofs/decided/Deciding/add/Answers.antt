@@ -2,14 +2,15 @@
 use Rattle.std.proofs.Common.{ap, ap₂, arith, false, get_or, IfSome, length, map, None, Some}
 use Rattle.std.proofs.{Common.{string_bytes, subst, [], ◌<◌, ◌∙◌, ◌≡◌}, lemmas.List.length-map}
 use Rattle.std.{proofs.lemmas.Slice.Zip.AllZip-long, specs.Prelude.slice_get}
-use Rattle.exact_span.specs.PlayedPositions.{AreCounted, counted_of}
+use Rattle.exact_span.specs.PlayedPositions.{AreCounted, counted_positions}
 use Rattle.frame_header.specs.Fields.{ClassFields}
-use Rattle.join_edits.proofs.DecideAll.{all-of-one, get-here, input-few, input-of, is-next}
-use Rattle.join_edits.proofs.{DecideStep.{decided-step, IsInputOf}, KnownLaws.get-at}
+use Rattle.join_edits.proofs.DecideAllLemmas.{all-of-one, get-here, input-few, input-of, is-next}
+use Rattle.join_edits.proofs.{DecideStepLemmas.{decided-step, IsInputOf}, KnownLemmas.get-at}
 use Rattle.join_edits.proofs.decided.Deciding.add.Goals.{After-brought-input}
-use Rattle.join_edits.specs.{Deciding.{IsNext, needs_in}, declared.beginnings.Beginning.Beginning}
+use Rattle.join_edits.specs.Deciding.{input_needs, IsNextInput}
+use Rattle.join_edits.specs.declared.beginnings.Beginning.{Beginning}
 use Rattle.laying.specs.Needs.{need_of}
-use Rattle.sync_survey.specs.Faults.{SurveyFields, tells}
+use Rattle.sync_survey.specs.Faults.{survey_view, SurveyFields}
 use Rattle.join_edits.proofs.decided.Deciding.add.Given as given
 use Rattle.join_edits.proofs.decided.Deciding.add.Goals as goal
 
@@ -20,13 +21,14 @@ known_at-survey-requires g c =
       c.requires.within,
       AllZip-long _ _ _ c.requires.can.known,
       length-map c.args.sources.now.inputs.now string_bytes,
-      length-map c.args.sources.now.surveys.now tells,
+      length-map c.args.sources.now.surveys.now survey_view,
     )
 
 pub brought-input-requires : goal.brought-input-requires
 brought-input-requires g c =
     let found =
-    get-at (map tells c.args.sources.now.surveys.now) c.args.number c.known_at-survey.ensures in
+    get-at (map survey_view c.args.sources.now.surveys.now)
+    c.args.number c.known_at-survey.ensures in
     omega (
       arith,
       input-few _ _ _ _ c.args.number _ c.requires.can found,
@@ -42,12 +44,13 @@ no-beginning = record { head = None; blank = false }
 -- what the input is
 module _ (g : given.Over) (c : After-brought-input g) where
   abbrev s : SurveyFields
-  s = tells c.known_at-survey.result.now
+  s = survey_view c.known_at-survey.result.now
 
-  found : slice_get (map tells c.args.sources.now.surveys.now) c.args.number ≡ Some s
-  found = get-at (map tells c.args.sources.now.surveys.now) c.args.number c.known_at-survey.ensures
+  found : slice_get (map survey_view c.args.sources.now.surveys.now) c.args.number ≡ Some s
+  found = get-at (map survey_view c.args.sources.now.surveys.now)
+      c.args.number c.known_at-survey.ensures
 
-  parts : c.needs.result.now ≡ needs_in s
+  parts : c.needs.result.now ≡ input_needs s
   parts = c.needs.ensures ∙ c.in_ok-parts.ensures
 
   long : length c.needs.result.now ≡ length s.frames
@@ -69,26 +72,26 @@ module _ (g : given.Over) (c : After-brought-input g) where
       (subst (λ (k : ClassFields). IfSome c.brought-input.result.played (AreCounted k
       (length c.needs.result.now))) c.class.ensures c.brought-input.ensures.counted)
 
-  next-of : IsNext (map tells c.args.sources.now.surveys.now)
+  next-of : IsNextInput (map survey_view c.args.sources.now.surveys.now)
       c.args.number c.args.self.now.run c.brought-input.result
   next-of =
       is-next _ (map string_bytes c.args.sources.now.inputs.now)
-      (map tells c.args.sources.now.surveys.now)
+      (map survey_view c.args.sources.now.surveys.now)
       c.args.beginnings.now c.args.number c.args.self.now c.requires.can c.requires.before s found _
       (get-here c.args.beginnings.now c.args.number _ begun-within)
       c.brought-input.result (c.brought-input.ensures.needs ∙ parts) c.brought-input.ensures.blank
-      (c.brought-input.ensures.played ∙ ap₂ (λ (k : ClassFields) n. counted_of (get_or
+      (c.brought-input.ensures.played ∙ ap₂ (λ (k : ClassFields) n. counted_positions (get_or
       c.args.beginnings.now c.args.number no-beginning).head k n) c.class.ensures long) counted
 
-  of : IsInputOf (map tells c.args.sources.now.surveys.now)
+  of : IsInputOf (map survey_view c.args.sources.now.surveys.now)
       c.args.beginnings.now c.args.number c.requires.before.class c.brought-input.result
   of =
       input-of _ (map string_bytes c.args.sources.now.inputs.now)
-      (map tells c.args.sources.now.surveys.now)
+      (map survey_view c.args.sources.now.surveys.now)
       c.args.beginnings.now c.args.number c.args.self.now c.requires.can c.requires.before s found _
       (get-here c.args.beginnings.now c.args.number _ begun-within)
       c.brought-input.result (c.brought-input.ensures.needs ∙ parts) c.brought-input.ensures.blank
-      (c.brought-input.ensures.played ∙ ap₂ (λ (k : ClassFields) n. counted_of (get_or
+      (c.brought-input.ensures.played ∙ ap₂ (λ (k : ClassFields) n. counted_positions (get_or
       c.args.beginnings.now c.args.number no-beginning).head k n) c.class.ensures long) counted
 
 pub alike-requires-clause-next : goal.alike-requires-clause-next
@@ -102,7 +105,7 @@ join-joint-requires-clause-input g c =
 pub returns-clause-decided : goal.returns-clause-decided
 returns-clause-decided g c =
     let names = map string_bytes c.args.sources.now.inputs.now in
-    let ss = map tells c.args.sources.now.surveys.now in
+    let ss = map survey_view c.args.sources.now.surveys.now in
     let input = c.brought-input.result in
     let joint = c.join-joint.result in
     let within : c.args.number < length names =

@@ -1,27 +1,27 @@
 -- The run has all frames of the first input.
 use Rattle.std.proofs.{Common.{ap, ap₂, length, subst, sym, ◌∙◌}, lemmas.List.length-map}
-use Rattle.exact_span.specs.PlayedPositions.{counted_of}
+use Rattle.exact_span.specs.PlayedPositions.{counted_positions}
 use Rattle.frame_header.specs.Fields.{ClassFields}
 use Rattle.laying.specs.Needs.{need_of}
-use Rattle.seam_plan.specs.Decisions.{IsRun, places_from}
-use Rattle.sync_survey.specs.Faults.{tells}
+use Rattle.seam_plan.specs.Decisions.{frame_places, IsRun}
+use Rattle.sync_survey.specs.Faults.{survey_view}
 use Rattle.join_edits.proofs.decided.Deciding.begin.Goals as goal
 
 pub returns : goal.returns
 returns c =
-    let s = tells c.args.survey.now in
+    let s = survey_view c.args.survey.now in
     let b = c.args.beginning.now in
     let parts = c.needs-needs.ensures ∙ c.in_ok-parts.ensures in
     let needs = c.brought.ensures.needs ∙ parts in
     record {
       run = λ first brings.
-          subst (λ (k : ClassFields). IsRun k first.frames (places_from 0 0 (length first.frames))
+          subst (λ (k : ClassFields). IsRun k first.frames (frame_places 0 0 (length first.frames))
           first c.begin.result) c.class-class.ensures
           (c.begin.ensures.run first (record {
             needs = needs ∙ sym brings.needs;
             blank = c.brought.ensures.blank ∙ sym brings.blank;
             played = c.brought.ensures.played
-                ∙ ap₂ (λ (k : ClassFields) n. counted_of b.head k n)
+                ∙ ap₂ (λ (k : ClassFields) n. counted_positions b.head k n)
                 c.class-class.ensures (ap length parts ∙ length-map s.frames need_of)
                 ∙ sym brings.played;
           }));

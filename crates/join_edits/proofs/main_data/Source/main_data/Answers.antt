@@ -1,15 +1,15 @@
 -- The areas up to its own are read, and the main data are cut out of them.
 use Rattle.std.proofs.Common.{ap, slice_get, Some, subst, sym, true, ◌∙◌, ◌≡◌}
-use Rattle.join_edits.proofs.{FramePlaces.get-one, ReadingLaws.{holds-data, HoldsData}}
+use Rattle.join_edits.proofs.{FramePlaceLemmas.get-one, ReadingLemmas.{holds-data, HoldsData}}
 use Rattle.join_edits.proofs.main_data.Source.main_data.Goals.{After-from}
-use Rattle.laying.proofs.{ReadLaws.lost-is, RelayLaws.read-at}
-use Rattle.sync_survey.specs.{Faults.tells, MainData.own_area, Row.Row}
+use Rattle.laying.proofs.{ReadLemmas.lost-is, RelayLemmas.read-at}
+use Rattle.sync_survey.specs.{Faults.survey_view, MainData.own_area, Row.Row}
 use Rattle.join_edits.proofs.main_data.Source.main_data.Given as given
 use Rattle.join_edits.proofs.main_data.Source.main_data.Goals as goal
 
 pub returns-then-lost-clause-payload : goal.returns-then-lost-clause-payload
 returns-then-lost-clause-payload g c = λ file holds r found.
-    let s = tells c.args.self.now.survey.now in
+    let s = survey_view c.args.self.now.survey.now in
     let row = c.index-frames-i.result in
     let here : slice_get s.frames c.args.i ≡ Some row =
     read-at c.frames.result.now s.frames c.args.i row c.requires.within c.frames.ensures
@@ -22,10 +22,10 @@ returns-then-lost-clause-payload g c = λ file holds r found.
 -- the window holds the main data
 held : (g : given.Over) (c : After-from g) → HoldsData c.read_before.new.window
     c.args.self.now.name.now (g.D.Folder.seen c.args.folder.now).files
-    (tells c.args.self.now.survey.now) c.args.i c.area-area.result c.from.result
+    (survey_view c.args.self.now.survey.now) c.args.i c.area-area.result c.from.result
     c.extent-extent.result.bits
 held g c =
-    let s = tells c.args.self.now.survey.now in
+    let s = survey_view c.args.self.now.survey.now in
     let row = c.index-frames-i.result in
     holds-data c.read_before.new.window c.args.self.now.name.now
     (g.D.Folder.seen c.args.folder.now).files s c.args.i row

@@ -1,7 +1,7 @@
 -- The area of the frame is within the file, after what comes before it in the frame.
 use Rattle.std.proofs.Common.{ap, arith, length, List, replicate, sym, take, ℕ, ◌+◌, ◌∙◌, ◌≡◌}
 use Rattle.std.proofs.lemmas.List.{length-replicate, length-take-le}
-use Rattle.laying.proofs.ReadLaws.{area-at}
+use Rattle.laying.proofs.ReadLemmas.{area-at}
 use Rattle.join_edits.proofs.main_data.Source.push_area.Goals as goal
 
 pub overflow_add-at : goal.overflow_add-at

@@ -1,15 +1,15 @@
 -- One area more is read, up to frame i; then the last 2,048 bytes are there, or all.
 use Rattle.std.proofs.Common.{ap, arith, slice_get, Some, subst, ◌∙◌, ◌≡◌}
 use Rattle.frame_header.specs.Tables.{class_of, length_of}
-use Rattle.join_edits.proofs.ReadingLaws.{area-next}
-use Rattle.laying.proofs.{ReadLaws.{laid-within, last-whole}, RelayLaws.read-at}
-use Rattle.laying.specs.Passing.{IsOverLast}
-use Rattle.sync_survey.specs.Faults.{tells}
+use Rattle.join_edits.proofs.ReadingLemmas.{area-next}
+use Rattle.laying.proofs.{ReadLemmas.{laid-within, last-whole}, RelayLemmas.read-at}
+use Rattle.laying.specs.Passing.{IsWindowOverLast}
+use Rattle.sync_survey.specs.Faults.{survey_view}
 use Rattle.join_edits.proofs.main_data.Source.read_before.Goals as goal
 
 pub push_area-requires-clause-within : goal.push_area-requires-clause-within
 push_area-requires-clause-within g c =
-    let s = tells c.args.self.now.survey.now in
+    let s = survey_view c.args.self.now.survey.now in
     let row = c.index-rows-at.result in
     let found : slice_get s.frames c.loop-at.at ≡ Some row =
     read-at c.frames-rows.result.now s.frames c.loop-at.at row
@@ -28,7 +28,7 @@ push_area-requires-clause-within g c =
 pub loop-at-preserved : goal.loop-at-preserved
 loop-at-preserved g c =
     let self = c.args.self.now in
-    let s = tells self.survey.now in
+    let s = survey_view self.survey.now in
     let seen = g.D.Folder.seen in
     let at = c.loop-at.at in
     let row = c.index-rows-at.result in
@@ -50,9 +50,9 @@ loop-at-preserved g c =
 pub returns-clause-over : goal.returns-clause-over
 returns-clause-over g c =
     let self = c.args.self.now in
-    let s = tells self.survey.now in
+    let s = survey_view self.survey.now in
     let files = (g.D.Folder.seen c.args.folder.now).files in
     last-whole c.loop-at.window self.name.now files s c.first_held-first.result c.args.i
     c.requires.held.there c.first_held-first.ensures.held
-    (subst (IsOverLast c.loop-at.window self.name.now files s c.first_held-first.result)
+    (subst (IsWindowOverLast c.loop-at.window self.name.now files s c.first_held-first.result)
     (omega (arith, c.loop-at-test.false, c.loop-at.invariant.early)) c.loop-at.invariant.over)

@@ -4,17 +4,18 @@ use Rattle.std.proofs.Common.{refl, rules, Some, string_bytes, subst, suc, sym, 
 use Rattle.std.proofs.{Common.{◌+◌, ◌-◌, ◌<◌, ◌∙◌, ◌∷◌, ◌≡◌, ◌≤◌}, lemmas.Bool.leb-true}
 use Rattle.std.proofs.lemmas.List.{drop_all, length-drop, length-map, Elements.All-drop}
 use Rattle.std.specs.Prelude.{nat_le}
-use Rattle.join_edits.proofs.AlikeLaws.{ends-here, none-alike, tested-alike}
-use Rattle.join_edits.proofs.DecideLaws.{sounds_from}
-use Rattle.join_edits.specs.Sounds.{AreAt, frames_of, IsAt, same_sounds}
+use Rattle.join_edits.proofs.AlikeLemmas.{ends-here, none-alike, tested-alike}
+use Rattle.join_edits.proofs.DecideLemmas.{sounds_from}
+use Rattle.join_edits.specs.Sounds.{all_run_frames, AreFramePlaces, IsFramePlace, same_sounds}
 use Rattle.laying.specs.Needs.{need_of}
 use Rattle.outside.specs.Files.{Contents, Files, IfTold, Told, Untold}
-use Rattle.seam_plan.specs.{Decisions.{last_of, place_of}, declared.run.FramePlace.FramePlace}
-use Rattle.sync_survey.specs.Faults.{SurveyFields, tells}
+use Rattle.seam_plan.specs.Decisions.{frame_place, last_places}
+use Rattle.seam_plan.specs.declared.run.FramePlace.{FramePlace}
+use Rattle.sync_survey.specs.Faults.{survey_view, SurveyFields}
 use Rattle.join_edits.proofs.sounds.Sources.alike.Given as given
 use Rattle.join_edits.proofs.sounds.Sources.alike.Goals as goal
 
-last-places : (places last : List FramePlace) (count : ℕ) → Some last ≡ last_of places count
+last-places : (places last : List FramePlace) (count : ℕ) → Some last ≡ last_places places count
     → (count ≤ length places) × (last ≡ drop (length places - count) places)
 last-places places last count is = at (nat_le count (length places)) refl is
   where
@@ -34,31 +35,32 @@ drop-here (suc n) (p ∷ places) d within =
     ∙ ap (λ k. get_or places n d ∷ drop k (p ∷ places)) (sym more)
 
 all-compared : (files : Files) (names : List (List ℕ)) (ss : List SurveyFields) (number frame n : ℕ)
-    (places : List FramePlace) (all : Contents → Bool) → length places ≤ n
-    → IfTold files (λ f. sounds_from (frames_of f names ss) number frame (drop n places) ≡ all f)
+    (places : List FramePlace) (all : Contents → Bool) → length places ≤ n → IfTold files
+    (λ f. sounds_from (all_run_frames f names ss) number frame (drop n places) ≡ all f)
     → IfTold files (λ f. all f ≡ true)
 all-compared (Untold touched) names ss number frame n places all past is = tt
 all-compared (Told f) names ss number frame n places all past is =
-    sym is ∙ ap (sounds_from (frames_of f names ss) number frame) (drop_all n places past)
+    sym is ∙ ap (sounds_from (all_run_frames f names ss) number frame) (drop_all n places past)
 
 pub returns-in_default-last-clause-alike : goal.returns-in_default-last-clause-alike
 returns-in_default-last-clause-alike g c =
     none-alike (map string_bytes c.args.self.now.inputs.now)
-    (map tells c.args.self.now.surveys.now) c.args.number c.args.run.now c.args.input.now
+    (map survey_view c.args.self.now.surveys.now) c.args.number c.args.run.now c.args.input.now
     c.in-Some.overlap c.in-Some.ensures.overlap c.in-Some.ensures.can
     (g.D.Folder.seen c.args.folder.now).files None c.in_default-last.ensures refl
 
 pub sound_alike-requires-clause-first : goal.sound_alike-requires-clause-first
 sound_alike-requires-clause-first g c =
     let next = c.requires.next in
-    let ss = map tells c.args.self.now.surveys.now in
+    let ss = map survey_view c.args.self.now.surveys.now in
     let o = c.in-Some.overlap in
     let last = last-places next.places c.in-Some-last.places.now (o.frames - o.first_alike)
     (c.in-Some-last.ensures next.class next.frames next.places next.before next.is_run
     (omega (arith, c.in-Some.ensures.can.few))) in
-    let at : AreAt ss c.in-Some-last.places.now =
-    subst (AreAt ss) (sym last.1)
-    (All-drop (IsAt ss) (length next.places - (o.frames - o.first_alike)) next.places next.at) in
+    let at : AreFramePlaces ss c.in-Some-last.places.now =
+    subst (AreFramePlaces ss) (sym last.1)
+    (All-drop (IsFramePlace ss)
+    (length next.places - (o.frames - o.first_alike)) next.places next.at) in
     at c.loop-place.place-index _ (omega (arith, c.loop-place-test.true))
 
 pub sound_alike-requires-clause-second : goal.sound_alike-requires-clause-second
@@ -93,21 +95,22 @@ sound_alike-requires-clause-second g c =
 pub returns-then-not-branch-clause-alike : goal.returns-then-not-branch-clause-alike
 returns-then-not-branch-clause-alike g c =
     let names = map string_bytes c.args.self.now.inputs.now in
-    let ss = map tells c.args.self.now.surveys.now in
+    let ss = map survey_view c.args.self.now.surveys.now in
     let o = c.in-Some.overlap in
     let places = c.in-Some-last.places.now in
     let files = (g.D.Folder.seen c.args.folder.now).files in
     let n = c.loop-place.place-index in
     let p = get_or places n (record { input = 0; frame = 0 }) in
     let no : c.in_ok-sound_alike.field-0 ≡ false = search rules in
-    let same = subst (λ fs. IfTold fs (λ f. c.in_ok-sound_alike.field-0 ≡ same_sounds (frames_of f
-    names ss) p (place_of c.args.number c.loop-place.frame))) c.loop-place.invariant.files
+    let same =
+    subst (λ fs. IfTold fs (λ f. c.in_ok-sound_alike.field-0 ≡ same_sounds (all_run_frames f
+    names ss) p (frame_place c.args.number c.loop-place.frame))) c.loop-place.invariant.files
     c.in_ok-sound_alike.ensures.same in
     tested-alike names ss c.args.number c.args.run.now c.args.input.now o
     c.in-Some.ensures.overlap c.in-Some.ensures.can files places false c.in-Some-last.ensures
     (ends-here names ss c.args.number c.loop-place.frame p (drop n places) (drop (n + 1) places)
     (drop-here n places (record { input = 0; frame = 0 }) (omega (arith, c.loop-place-test.true)))
-    files (λ f. sounds_from (frames_of f names ss) c.args.number o.first_alike places)
+    files (λ f. sounds_from (all_run_frames f names ss) c.args.number o.first_alike places)
     c.in_ok-sound_alike.field-0 no same c.loop-place.invariant.alike)
 
 pub overflow_add-frame : goal.overflow_add-frame
@@ -136,12 +139,12 @@ overflow_add-frame g c =
 pub returns-clause-alike : goal.returns-clause-alike
 returns-clause-alike g c =
     let names = map string_bytes c.args.self.now.inputs.now in
-    let ss = map tells c.args.self.now.surveys.now in
+    let ss = map survey_view c.args.self.now.surveys.now in
     let o = c.in-Some.overlap in
     let places = c.in-Some-last.places.now in
     let files = (g.D.Folder.seen c.args.folder.now).files in
     tested-alike names ss c.args.number c.args.run.now c.args.input.now o
     c.in-Some.ensures.overlap c.in-Some.ensures.can files places true c.in-Some-last.ensures
     (all-compared files names ss c.args.number c.loop-place.frame c.loop-place.place-index places
-    (λ f. sounds_from (frames_of f names ss) c.args.number o.first_alike places)
+    (λ f. sounds_from (all_run_frames f names ss) c.args.number o.first_alike places)
     (omega (arith, c.loop-place-test.false)) c.loop-place.invariant.alike)

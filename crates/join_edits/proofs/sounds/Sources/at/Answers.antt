@@ -1,7 +1,7 @@
 -- The first of those from its place on.
 use Rattle.std.proofs.Common.{drop, map, string_bytes, ◌+◌}
-use Rattle.join_edits.proofs.FramePlaces.{drop-get}
-use Rattle.sync_survey.specs.Faults.{tells}
+use Rattle.join_edits.proofs.FramePlaceLemmas.{drop-get}
+use Rattle.sync_survey.specs.Faults.{survey_view}
 use Rattle.join_edits.proofs.sounds.Sources.at.Goals as goal
 
 pub returns-clause-name : goal.returns-clause-name
@@ -12,6 +12,6 @@ returns-clause-name c =
 
 pub returns-clause-survey : goal.returns-clause-survey
 returns-clause-survey c =
-    let ss = map tells c.args.self.now.surveys.now in
-    drop-get ss (drop (c.args.place + 1) ss) c.args.place (tells c.known_at.result.now)
+    let ss = map survey_view c.args.self.now.surveys.now in
+    drop-get ss (drop (c.args.place + 1) ss) c.args.place (survey_view c.known_at.result.now)
     c.known_at.ensures

@@ -1,10 +1,11 @@
 -- Two frames sound alike where header, side information and main data are the same.
 use Rattle.std.proofs.Common.{ap, ap₂, bytes_eq, map, string_bytes, subst, sym, ◌∙◌, ◌≡◌}
-use Rattle.join_edits.proofs.FramePlaces.{class-first, class-here, places-compared, places-differ}
+use Rattle.join_edits.proofs.FramePlaceLemmas.{class-first, class-here, places-compared}
+use Rattle.join_edits.proofs.FramePlaceLemmas.{places-differ}
 use Rattle.join_edits.proofs.sounds.Sources.sound_alike.Goals.{After-class-class}
-use Rattle.join_edits.specs.Sounds.{frames_of, payload_at_place, same_front, same_sounds}
+use Rattle.join_edits.specs.Sounds.{all_run_frames, payload_at_place, same_front, same_sounds}
 use Rattle.outside.specs.Files.{IfTold}
-use Rattle.sync_survey.specs.Faults.{tells}
+use Rattle.sync_survey.specs.Faults.{survey_view}
 use Rattle.join_edits.proofs.sounds.Sources.sound_alike.Given as given
 use Rattle.join_edits.proofs.sounds.Sources.sound_alike.Goals as goal
 
@@ -12,14 +13,15 @@ use Rattle.join_edits.proofs.sounds.Sources.sound_alike.Goals as goal
 of-one : (g : given.Over) (c : After-class-class g) → c.class-class.result ≡ c.requires.one.0
 of-one g c =
     let one = c.requires.one in
-    c.class-class.ensures ∙ ap (λ s. (tells s).class) (sym c.index-self-first.is)
-    ∙ class-first tells c.args.self.now.surveys.now c.args.first one.0 c.index-self-first.result
+    c.class-class.ensures ∙ ap (λ s. (survey_view s).class) (sym c.index-self-first.is)
+    ∙ class-first survey_view
+    c.args.self.now.surveys.now c.args.first one.0 c.index-self-first.result
     one.1 c.requires.first c.index-self-first.is
 
 pub same_front-requires-clause-first : goal.same_front-requires-clause-first
 same_front-requires-clause-first g c =
     let names = map string_bytes c.args.self.now.inputs.now in
-    let ss = map tells c.args.self.now.surveys.now in
+    let ss = map survey_view c.args.self.now.surveys.now in
     let files = (g.D.Folder.seen c.args.folder.now).files in
     let one = c.requires.one in
     let class = of-one g (goal.at.same_front-requires-clause-first g c).After-class-class in
@@ -30,7 +32,7 @@ same_front-requires-clause-first g c =
 pub same_front-requires-clause-second : goal.same_front-requires-clause-second
 same_front-requires-clause-second g c =
     let names = map string_bytes c.args.self.now.inputs.now in
-    let ss = map tells c.args.self.now.surveys.now in
+    let ss = map survey_view c.args.self.now.surveys.now in
     let files = (g.D.Folder.seen c.args.folder.now).files in
     let one = c.requires.one in
     let class = of-one g (goal.at.same_front-requires-clause-second g c).After-class-class in
@@ -41,7 +43,7 @@ same_front-requires-clause-second g c =
 pub returns-then-not-same_front-clause-same : goal.returns-then-not-same_front-clause-same
 returns-then-not-same_front-clause-same g c =
     let names = map string_bytes c.args.self.now.inputs.now in
-    let ss = map tells c.args.self.now.surveys.now in
+    let ss = map survey_view c.args.self.now.surveys.now in
     let files = (g.D.Folder.seen c.args.folder.now).files in
     let one = c.requires.one in
     let class = of-one g (goal.at.returns-then-not-same_front-clause-same g c).After-class-class in
@@ -55,7 +57,7 @@ returns-then-not-same_front-clause-same g c =
 pub returns-clause-same : goal.returns-clause-same
 returns-clause-same g c =
     let names = map string_bytes c.args.self.now.inputs.now in
-    let ss = map tells c.args.self.now.surveys.now in
+    let ss = map survey_view c.args.self.now.surveys.now in
     let files = (g.D.Folder.seen c.args.folder.now).files in
     let one = c.requires.one in
     let class = of-one g (goal.at.returns-clause-same g c).After-class-class in
@@ -70,7 +72,8 @@ returns-clause-same g c =
     subst (λ f. IfTold f (λ told. second ≡ payload_at_place told names ss c.args.second))
     c.main_data.ensures.reads.files c.in_ok-main_data-2.ensures.payload in
     subst
-    (λ b. IfTold files (λ f. b ≡ same_sounds (frames_of f names ss) c.args.first c.args.second))
+    (λ b. IfTold files
+    (λ f. b ≡ same_sounds (all_run_frames f names ss) c.args.first c.args.second))
     (sym tested)
     (places-compared names ss c.args.first c.args.second one.0 c.row.result.now c.row-2.result.now
     one.1 c.requires.first c.requires.second c.row.ensures c.row-2.ensures

@@ -1,7 +1,7 @@
 -- A part more after those before.
 use Rattle.std.proofs.Common.{ap, arith, length, length-append, map, rules, [], ◌++◌, ◌∙◌, ◌∷◌}
 use Rattle.std.proofs.lemmas.List.{length-map}
-use Rattle.laying.{proofs.PartsLaws.asked-push, specs.Needs.{Asked, need_of}}
+use Rattle.laying.{proofs.PartsLemmas.asked-push, specs.Needs.{need_of, PlanInput}}
 use Rattle.laying.proofs.parts.Parts.push.Goals as goal
 
 pub returns : goal.returns
@@ -17,7 +17,7 @@ returns c = record {
     ap length c.in_ok-append_needs.ensures.added,
     length-append c.self.inside.needs.items (map need_of c.args.rows.now),
     length-map c.args.rows.now need_of,
-    ap (λ (a : Asked). length a.needs) c.self.view_is,
+    ap (λ (a : PlanInput). length a.needs) c.self.view_is,
   );
   places = search rules;
   stays = search rules;

@@ -2,12 +2,13 @@
 use Rattle.std.proofs.Common.{ap, arith, drop, length, List, refl, rules, slice_index_or, subst}
 use Rattle.std.proofs.{Common.{sym, ℕ, [], ◌++◌, ◌+◌, ◌∙◌, ◌∷◌, ◌≡◌, ◌≤◌}, lemmas.List.drop_all}
 use Rattle.std.proofs.lemmas.Result.{err_from_is_err_and}
-use Rattle.laying.proofs.CopyLaws.{block-at, block-within, chosen-next}
+use Rattle.laying.proofs.CopyLemmas.{block-at, block-within, chosen-next}
 use Rattle.laying.proofs.relay.Relay.copy_blocks.Goals.{After-copy_chosen}
 use Rattle.laying.specs.Copying.{chosen_bytes}
-use Rattle.outside.proofs.PassLaws.{cause_behind, up_to_begun, up_to_end, up_to_more, up_to_prefix}
-use Rattle.outside.proofs.PassedLaws.{err_at}
-use Rattle.sync_survey.specs.{Faults.{SurveyFields, tells}, declared.places.Piece.Piece}
+use Rattle.outside.proofs.BufferOutputLemmas.{err_at}
+use Rattle.outside.proofs.PassLemmas.{cause_behind, up_to_begun, up_to_end, up_to_more}
+use Rattle.outside.proofs.PassLemmas.{up_to_prefix}
+use Rattle.sync_survey.specs.{Faults.{survey_view, SurveyFields}, declared.places.Piece.Piece}
 use Rattle.tag_blocks.specs.declared.block.Kind.TheVariants.{Id3v2}
 use Rattle.laying.proofs.relay.Relay.copy_blocks.Given as given
 use Rattle.laying.proofs.relay.Relay.copy_blocks.Goals as goal
@@ -19,7 +20,8 @@ no_block = record { offset = 0; block = record { kind = Id3v2; length = 0 } }
 pub loop-block-init : goal.loop-block-init
 loop-block-init g c =
     let self = c.args.self.now in
-    let all = chosen_bytes c.args.in_front (tells self.survey.now) (tells self.survey.now).blocks in
+    let all = chosen_bytes c.args.in_front (survey_view self.survey.now)
+    (survey_view self.survey.now).blocks in
     record {
       up_to = up_to_begun self.pass all
           c.args.waiting.now (g.D.Folder.seen c.args.folder.now).files c.requires.ready.pass.target;
@@ -29,7 +31,7 @@ loop-block-init g c =
 
 pub copy_chosen-requires-clause-within : goal.copy_chosen-requires-clause-within
 copy_chosen-requires-clause-within g c =
-    let s = tells c.args.self.now.survey.now in
+    let s = survey_view c.args.self.now.survey.now in
     let k = c.loop-block.block-index in
     let here = block-at s.blocks k no_block
     (omega (arith, c.loop-block-test.true, ap length c.blocks-block-items.ensures)) in
@@ -41,7 +43,7 @@ copy_chosen-requires-clause-within g c =
 -- the block that was asked for, and those after it
 module _ (g : given.Over) (c : After-copy_chosen g) where
   abbrev s : SurveyFields
-  s = tells c.args.self.now.survey.now
+  s = survey_view c.args.self.now.survey.now
 
   abbrev k : ℕ
   k = c.loop-block.block-index
@@ -69,7 +71,8 @@ returns-in_err-copy_chosen g c = record {
   prefix = let at = (goal.at.returns-in_err-copy_chosen g c).After-copy_chosen in
       err_at c.from_residual.result _ c.from_residual.ensures.1
       (up_to_prefix c.args.self.now.pass c.requires.ready.pass.apart c.loop-block.invariant.up_to _
-      (chosen g at (drop (c.loop-block.block-index + 1) (tells c.args.self.now.survey.now).blocks))
+      (chosen g at
+      (drop (c.loop-block.block-index + 1) (survey_view c.args.self.now.survey.now).blocks))
       (λ file holds. next g at file) c.in_err-copy_chosen.ensures.prefix);
   done = search rules;
   cause = let p = err_from_is_err_and c.from_residual.result c.from_residual.ensures.1 in
@@ -93,7 +96,7 @@ loop-block-preserved g c =
 pub returns : goal.returns
 returns g c = record {
   written = let self = c.args.self.now in
-      let s = tells self.survey.now in
+      let s = survey_view self.survey.now in
       let chosen = chosen_bytes c.args.in_front s in
       let k = c.loop-block.block-index in
       let none : drop k s.blocks ≡ [] = drop_all k

@@ -1,9 +1,10 @@
 -- A chosen block is copied, and one that is not chosen has no bytes here.
 use Rattle.std.proofs.Common.{ap, rules, sym, [], ◌∙◌, ◌∷◌}
-use Rattle.frame_writer.proofs.WritingLaws.{ok-both}
-use Rattle.laying.{proofs.{CopyLaws.chosen-none, PassLaws.ready-with}, specs.Copying.chosen_bytes}
-use Rattle.outside.proofs.PassLaws.{writes_nothing}
-use Rattle.sync_survey.specs.Faults.{tells}
+use Rattle.frame_writer.proofs.WritingLemmas.{ok-both}
+use Rattle.laying.proofs.{CopyLemmas.chosen-none, PassLemmas.ready-with}
+use Rattle.laying.specs.Copying.{chosen_bytes}
+use Rattle.outside.proofs.PassLemmas.{writes_nothing}
+use Rattle.sync_survey.specs.Faults.{survey_view}
 use mathlib.Core.Bool.{beq}
 use Rattle.laying.proofs.relay.Relay.copy_chosen.Goals as goal
 
@@ -22,7 +23,7 @@ pub returns-else-goes_in_front-in_front : goal.returns-else-goes_in_front-in_fro
 returns-else-goes_in_front-in_front g c = record {
   written =
       let self = c.args.self.now in
-      let s = tells self.survey.now in
+      let s = survey_view self.survey.now in
       writes_nothing self.pass (chosen_bytes c.args.in_front s (c.args.block.now ∷ []))
       c.args.waiting.now (g.D.Folder.seen c.args.folder.now).files c.requires.ready.pass.target
       (λ file holds. sym (chosen-none c.args.in_front s c.args.block.now file (sym (ap

@@ -1,7 +1,7 @@
 -- The files stay, so the input has the same bytes.
 use Rattle.std.proofs.Common.{arith, rules, subst}
-use Rattle.frame_writer.proofs.WritingLaws.{ok-both}
-use Rattle.laying.proofs.PassLaws.{ready-filled}
+use Rattle.frame_writer.proofs.WritingLemmas.{ok-both}
+use Rattle.laying.proofs.PassLemmas.{ready-filled}
 use Rattle.outside.specs.Files.{Holds}
 use Rattle.laying.proofs.relay.Relay.fill.Goals as goal
 

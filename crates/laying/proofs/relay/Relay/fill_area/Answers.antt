@@ -1,7 +1,7 @@
 -- The area of the frame is within the file, after what comes before it in the frame.
 use Rattle.std.proofs.{Common.{arith, sym, ◌∙◌}, lemmas.Result.on_ok_weaker}
-use Rattle.laying.proofs.ReadLaws.{area-at, laid-within}
-use Rattle.sync_survey.specs.Faults.{tells}
+use Rattle.laying.proofs.ReadLemmas.{area-at, laid-within}
+use Rattle.sync_survey.specs.Faults.{survey_view}
 use Rattle.laying.proofs.relay.Relay.fill_area.Goals as goal
 
 pub area_place-own-requires : goal.area_place-own-requires
@@ -10,7 +10,7 @@ area_place-own-requires g c = c.class.ensures
 
 pub fill-requires-clause-within : goal.fill-requires-clause-within
 fill-requires-clause-within g c =
-    let s = tells c.args.self.now.survey.now in
+    let s = survey_view c.args.self.now.survey.now in
     omega (
       arith,
       laid-within s.first s.length s.frames c.args.i c.args.row.now c.requires.ready.laid.frames

@@ -4,9 +4,9 @@ use Rattle.std.proofs.Common.{ap, arith, drop, length-drop, rules, subst, sym, t
 use Rattle.std.proofs.Common.{◌≡◌, ◌≤◌}
 use Rattle.std.proofs.lemmas.List.{drop-drop, drop-take, length-take-le, take-take}
 use Rattle.frame_header.specs.Tables.{class_of, overhead_of}
-use Rattle.laying.proofs.{ReachLaws.holds-given, ReadLaws.{area-at, laid-within}}
-use Rattle.laying.specs.Passing.{HoldsLast}
-use Rattle.sync_survey.specs.Faults.{tells}
+use Rattle.laying.proofs.{ReachLemmas.holds-given, ReadLemmas.{area-at, laid-within}}
+use Rattle.laying.specs.Passing.{HoldsLastAreas}
+use Rattle.sync_survey.specs.Faults.{survey_view}
 use Rattle.laying.proofs.relay.Relay.fill_frame.Goals as goal
 
 pub area_place-own-requires : goal.area_place-own-requires
@@ -15,7 +15,7 @@ area_place-own-requires g c = c.requires.next.known ∙ sym (c.requires.ready.la
 
 pub first_byte-requires-clause-within : goal.first_byte-requires-clause-within
 first_byte-requires-clause-within g c =
-    let s = tells c.args.self.now.survey.now in
+    let s = survey_view c.args.self.now.survey.now in
     omega (
       arith,
       laid-within s.first s.length s.frames c.args.reading.now.next c.args.known.now.row.now
@@ -25,7 +25,7 @@ first_byte-requires-clause-within g c =
 
 pub fill-requires-clause-within : goal.fill-requires-clause-within
 fill-requires-clause-within g c =
-    let s = tells c.args.self.now.survey.now in
+    let s = survey_view c.args.self.now.survey.now in
     omega (
       arith,
       laid-within s.first s.length s.frames c.args.reading.now.next c.args.known.now.row.now
@@ -36,14 +36,14 @@ fill-requires-clause-within g c =
 
 pub returns-clause-given : goal.returns-clause-given
 returns-clause-given g c = record {
-  over = let s = tells c.args.self.now.survey.now in
+  over = let s = survey_view c.args.self.now.survey.now in
       let seen = g.D.Folder.seen in
       let input = c.args.self.now.pass.input.now in
       let first = c.in_ok-first.first in
       let before = c.in_ok-first.before in
       let given = c.fill.new.feed.given in
       let near = c.in_ok-first.ensures.near in
-      let over = subst (λ f. HoldsLast c.first_byte.new.window input f s first before
+      let over = subst (λ f. HoldsLastAreas c.first_byte.new.window input f s first before
       c.args.reading.now.next) (sym c.fill.ensures.reads.files) c.in_ok-first.ensures.over in
       let many : before ≤ c.area_place-own.result.at - first + c.area_place-own.result.size =
       omega (arith, near) in
@@ -77,7 +77,7 @@ returns-clause-given g c = record {
   before = search rules;
   skip = search rules;
   at = search rules;
-  ends = let s = tells c.args.self.now.survey.now in
+  ends = let s = survey_view c.args.self.now.survey.now in
       let skip = c.area_place-own.result.at - c.in_ok-first.first in
       omega (
         arith,

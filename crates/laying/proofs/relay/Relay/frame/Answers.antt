@@ -3,20 +3,20 @@ use Rattle.std.proofs.Common.{ap, arith, drop, length, List, min, rules, subst, 
 use Rattle.std.proofs.{Common.{◌++◌, ◌+◌, ◌-◌, ◌<◌, ◌^◌, ◌∙◌, ◌∷◌, ◌≡◌, ◌≤◌}, lemmas.List.take_rest}
 use Rattle.frame_header.specs.Fields.{ClassFields, HeaderFields}
 use Rattle.frame_header.specs.Tables.{area_of, class_of, window_of}
-use Rattle.frame_writer.specs.{Frames.{area_in, Frame, reach_of, reach_with}, Writing.writing}
-use Rattle.laying.proofs.ChosenFrames.{side_fits}
-use Rattle.laying.proofs.PassLaws.{holds-later, lays_one, part_none, part_one, ready-later}
-use Rattle.laying.proofs.{PlannedFrames.begun_fits, ReachLaws.{holds-next, IsTaken}}
-use Rattle.laying.proofs.ReadLaws.{main-next}
+use Rattle.frame_writer.specs.Frames.{Frame, frame_area, reach_after_frame, reach_of}
+use Rattle.frame_writer.specs.Writing.{writing_of}
+use Rattle.laying.proofs.PassLemmas.{holds-later, lays_one, part_none, part_one, ready-later}
+use Rattle.laying.proofs.{PlannedFrameLemmas.begun_fits, ReachLemmas.{holds-next, IsTaken}}
+use Rattle.laying.proofs.{ReadLemmas.main-next, SurveyFrameLemmas.side_fits}
 use Rattle.laying.proofs.relay.Relay.frame.Goals.{After-with_area-frame, Start}
 use Rattle.laying.specs.Needs.{need_of}
-use Rattle.laying.specs.Passing.{GivesPart, HoldsWith, IsAreaOf, Lays, moved_frame, own_reach}
-use Rattle.laying.specs.Passing.{writing_in}
-use Rattle.outside.{proofs.PassedLaws.err_at, specs.Files.{Files, Holds}}
+use Rattle.laying.specs.Passing.{GivesPart, HoldsLastWithBytes, IsAreaOf, LaysFrames, own_reach}
+use Rattle.laying.specs.Passing.{relay_frame, writing_in}
+use Rattle.outside.{proofs.BufferOutputLemmas.err_at, specs.Files.{Files, Holds}}
 use Rattle.outside.specs.Pass.{HasPassCause, route_of}
 use Rattle.side_info.specs.{FrameFields.FrameFields, Side.{front_width, SideFits}}
 use Rattle.slot_plan.specs.declared.needs.Placed.{Placed as PlacedFields}
-use Rattle.sync_survey.specs.{Faults.{SurveyFields, tells}, MainData.side_of, Row.Row}
+use Rattle.sync_survey.specs.{Faults.{survey_view, SurveyFields}, MainData.row_side, Row.Row}
 use Rattle.laying.proofs.relay.Relay.frame.Given as given
 use Rattle.laying.proofs.relay.Relay.frame.Goals as goal
 
@@ -24,7 +24,7 @@ use Rattle.laying.proofs.relay.Relay.frame.Goals as goal
 abbrev placed : Row → PlacedFields → FrameFields
 placed r p = record {
   header = record r.header { slot = p.slot };
-  side = record (side_of r) { main_data_begin = p.begin };
+  side = record (row_side r) { main_data_begin = p.begin };
 }
 
 -- how far back main data may begin after a frame
@@ -42,10 +42,10 @@ front g c = c.with_area-frame.ensures
 
 -- the bytes are those that the feed gave
 with-bytes : (window bytes given input : List ℕ) (files : Files) (s : SurveyFields) (i n : ℕ)
-    → bytes ≡ given → HoldsWith window (take n given) input files s i
-    → HoldsWith window (take n bytes) input files s i
+    → bytes ≡ given → HoldsLastWithBytes window (take n given) input files s i
+    → HoldsLastWithBytes window (take n bytes) input files s i
 with-bytes window bytes given input files s i n same =
-    subst (λ (l : List ℕ). HoldsWith window (take n l) input files s i) (sym same)
+    subst (λ (l : List ℕ). HoldsLastWithBytes window (take n l) input files s i) (sym same)
 
 area-bytes : (bytes given input : List ℕ) (files : Files) (r : Row) (n : ℕ) → bytes ≡ given
     → IsAreaOf (drop n given) input files r
@@ -56,10 +56,10 @@ area-bytes bytes given input files r n same = subst (λ (l : List ℕ). IsAreaOf
 -- the writer gets the frame in its slot
 told : (g : given.Over) (c : After-with_area-frame g) → (file : List ℕ)
     → Holds (g.D.Folder.seen c.fill_frame.new.folder).files c.args.self.now.pass.input.now file
-    → c.with_area-frame.result ∷ [] ≡ moved_frame c.args.self.now c.args.reading.now.next
+    → c.with_area-frame.result ∷ [] ≡ relay_frame c.args.self.now c.args.reading.now.next
     c.args.known.now.row.now c.args.place.now file
 told g c file holds =
-    let s = tells c.args.self.now.survey.now in
+    let s = survey_view c.args.self.now.survey.now in
     let input = c.args.self.now.pass.input.now in
     let i = c.args.reading.now.next in
     let span = c.in_ok-span.span in
@@ -76,7 +76,7 @@ told g c file holds =
 
 -- how far back main data may begin behind it
 writer-reach : (g : given.Over) (c : After-with_area-frame g) (reach : ℕ)
-    → reach ≡ reach_with c.args.buffers.now.writer.class c.with_area-frame.result
+    → reach ≡ reach_after_frame c.args.buffers.now.writer.class c.with_area-frame.result
     → reach ≡ own_reach c.args.self.now c.args.known.now.row.now c.args.place.now
 writer-reach g c reach is =
     let h = (placed c.args.known.now.row.now c.args.place.now).header in
@@ -84,7 +84,7 @@ writer-reach g c reach is =
     let size : length c.cut_payload-payload.result ≡ (need_of c.args.known.now.row.now).bytes =
     c.cut_payload-payload.ensures.size in
     let class = c.requires.stands.on.class in
-    is ∙ ap (reach_with c.args.buffers.now.writer.class) (front g c)
+    is ∙ ap (reach_after_frame c.args.buffers.now.writer.class) (front g c)
     ∙ (λ j. behind (class j) h begin (size j))
 
 -- the class of the survey is that of the frame
@@ -97,12 +97,12 @@ class g c = c.requires.next.known ∙ sym (c.requires.stands.on.ready.laid.place
 fits : (g : given.Over) (c : Start g) → SideFits c.args.buffers.now.writer.class
     (placed c.args.known.now.row.now c.args.place.now).side
 fits g c =
-    let s = tells c.args.self.now.survey.now in
+    let s = survey_view c.args.self.now.survey.now in
     let row = c.args.known.now.row.now in
     let d = c.args.buffers.now.writer.class in
     let well =
     c.requires.stands.on.ready.laid.placed c.args.reading.now.next row c.requires.next.found in
-    begun_fits d (side_of row) c.args.place.now.begin (subst (λ k. SideFits k (side_of row))
+    begun_fits d (row_side row) c.args.place.now.begin (subst (λ k. SideFits k (row_side row))
     (sym c.requires.stands.on.class) (side_fits s.class row.lost row.side well.fits))
     (omega (arith, c.requires.begin))
 
@@ -123,7 +123,7 @@ with_area-frame-requires g c =
     let protected = c.protected.ensures ∙ ap (λ f. f.header.protected) c.front-3.ensures in
     c.area_of-area.ensures.area
     ∙ (λ j. area_of (class g at j) c.args.place.now.slot (protected j))
-    ∙ sym (ap area_in c.place_front.ensures)
+    ∙ sym (ap frame_area c.place_front.ensures)
 
 pub returns-in_err-span-clause-gives : goal.returns-in_err-span-clause-gives
 returns-in_err-span-clause-gives g c = record {
@@ -131,7 +131,7 @@ returns-in_err-span-clause-gives g c = record {
   part = let self = c.args.self.now in
       let old = (g.D.Folder.seen c.args.folder.now).files in
       let made =
-      moved_frame self c.args.reading.now.next c.args.known.now.row.now c.args.place.now in
+      relay_frame self c.args.reading.now.next c.args.known.now.row.now c.args.place.now in
       let last = own_reach self c.args.known.now.row.now c.args.place.now in
       let near : c.args.place.now.begin ≤ c.args.buffers.now.writer.waiting.free =
       omega (arith, c.requires.begin) in
@@ -162,7 +162,7 @@ write_frame-requires-clause-next g c =
 
 pub cut_payload-payload-requires : goal.cut_payload-payload-requires
 cut_payload-payload-requires g c =
-    let s = tells c.args.self.now.survey.now in
+    let s = survey_view c.args.self.now.survey.now in
     let input = c.args.self.now.pass.input.now in
     let mid = (g.D.Folder.seen c.fill_frame.new.folder).files in
     let span = c.in_ok-span.span in
@@ -185,7 +185,7 @@ returns-in_err-write_frame-clause-gives g c = record {
   part = let at = goal.at.returns-in_err-write_frame-clause-gives g c in
       let self = c.args.self.now in
       let made =
-      moved_frame self c.args.reading.now.next c.args.known.now.row.now c.args.place.now in
+      relay_frame self c.args.reading.now.next c.args.known.now.row.now c.args.place.now in
       let last = own_reach self c.args.known.now.row.now c.args.place.now in
       let seen = g.D.Folder.seen in
       let reach = writer-reach g at.After-with_area-frame (reach_of c.write_frame.new.writer)
@@ -218,10 +218,10 @@ returns-clause-gives g c = record {
       let pass = c.args.self.now.pass in
       let seen = g.D.Folder.seen in
       let old = writing_in c.args.buffers.now in
-      let new = writing c.write_frame.new.writer c.write_frame.new.unsent in
-      let made = moved_frame c.args.self.now c.args.reading.now.next c.args.known.now.row.now
+      let new = writing_of c.write_frame.new.writer c.write_frame.new.unsent in
+      let made = relay_frame c.args.self.now c.args.reading.now.next c.args.known.now.row.now
       c.args.place.now in
-      subst (λ f. Lays pass.input.now pass.output.now made old new f
+      subst (λ f. LaysFrames pass.input.now pass.output.now made old new f
       (seen c.write_frame.new.folder).files) c.fill_frame.ensures.reads.files
       (lays_one pass.input.now pass.output.now made _ old new
       (seen c.fill_frame.new.folder).files (seen c.write_frame.new.folder).files
@@ -244,7 +244,7 @@ returns-clause-stands g c = record {
     unsettled = search rules;
   };
   over = let on = c.in_ok-write_frame.ensures.written in
-      let s = tells c.args.self.now.survey.now in
+      let s = survey_view c.args.self.now.survey.now in
       let i = c.args.reading.now.next in
       let row = c.args.known.now.row.now in
       let span = c.in_ok-span.span in

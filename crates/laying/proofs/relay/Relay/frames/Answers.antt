@@ -4,19 +4,19 @@ use Rattle.std.proofs.Common.{rules, slice_get, slice_range, Some, subst, sym, �
 use Rattle.std.proofs.{Common.{◌<◌, ◌∙◌, ◌∷◌, ◌≡◌, ◌≤◌}, lemmas.List.drop_all}
 use Rattle.std.proofs.lemmas.Result.{err_from_is_err_and}
 use Rattle.frame_header.specs.Tables.{window_of}
-use Rattle.frame_writer.specs.{Frames.{Frame, pieces, reach_of}, Laid.BeginsWithin}
-use Rattle.laying.proofs.{HoldLaws.needs-range, PassLaws.{lays_none, lays_then, part_then}}
-use Rattle.laying.proofs.ReachLaws.{over-holds}
-use Rattle.laying.proofs.RelayLaws.{begins-left, fits-next, fits-none, fits-some, found-at}
-use Rattle.laying.proofs.RelayLaws.{item-next, last-next, lays-all, part_more, relaid-end}
-use Rattle.laying.proofs.RelayLaws.{relaid-next, step-most}
+use Rattle.frame_writer.specs.{Frames.{all_frame_data, Frame, reach_of}, Laid.BeginsWithin}
+use Rattle.laying.proofs.{HoldLemmas.needs-range, PassLemmas.{lays_none, lays_then, part_then}}
+use Rattle.laying.proofs.ReachLemmas.{over-holds}
+use Rattle.laying.proofs.RelayLemmas.{begins-left, fits-next, fits-none, fits-some, found-at}
+use Rattle.laying.proofs.RelayLemmas.{item-next, last-next, lays-all, part_more, relaid-end}
+use Rattle.laying.proofs.RelayLemmas.{relaid-next, step-most}
 use Rattle.laying.proofs.relay.Relay.frames.Goals.{After-index-rows-reading, After-place-item}
-use Rattle.laying.specs.Fits.{area_at, bytes_at, FitsFrom, last_reach, reach_behind}
+use Rattle.laying.specs.Fits.{FitsFromReach, last_reach, placed_area, placed_bytes, reach_behind}
 use Rattle.laying.specs.{Needs.need_of, Passing.writing_in}
-use Rattle.laying.specs.Relaid.{all_frames, frame_of, placed_as, relaid}
-use Rattle.outside.{proofs.{PassLaws.cause_later, PassedLaws.err_at}, specs.Files.Holds}
+use Rattle.laying.specs.Relaid.{all_frames, planned_frame, relaid_frames, survey_frame}
+use Rattle.outside.{proofs.{BufferOutputLemmas.err_at, PassLemmas.cause_later}, specs.Files.Holds}
 use Rattle.slot_plan.specs.declared.needs.Placed.{Placed}
-use Rattle.sync_survey.specs.{Faults.{SurveyFields, tells}, Row.Row}
+use Rattle.sync_survey.specs.{Faults.{survey_view, SurveyFields}, Row.Row}
 use Rattle.laying.proofs.relay.Relay.frames.Given as given
 use Rattle.laying.proofs.relay.Relay.frames.Goals as goal
 
@@ -27,7 +27,7 @@ loop-place-init g c =
       stands = record {
         on = c.requires.stands;
         over = over-holds c.args.buffers.now.window self.pass.input.now (g.D.Folder.seen
-            c.args.folder.now).files (tells self.survey.now) c.args.from c.requires.over;
+            c.args.folder.now).files (survey_view self.survey.now) c.args.from c.requires.over;
       };
       early = c.requires.ordered;
       fits = c.requires.fits;
@@ -45,7 +45,7 @@ loop-place-init g c =
 -- frame i at the place that is next
 module _ (g : given.Over) (c : After-index-rows-reading g) where
   abbrev s : SurveyFields
-  s = tells c.args.self.now.survey.now
+  s = survey_view c.args.self.now.survey.now
 
   abbrev p : Placed
   p = c.place-item.result
@@ -72,8 +72,8 @@ module _ (g : given.Over) (c : After-index-rows-reading g) where
   left = item-next c.args.placed.now c.loop-place.place-index p
       (omega (arith, c.loop-place-test.true)) c.place-item.is
 
-  fits : FitsFrom window reach (map need_of (slice_range s.frames i to)) (p ∷ more)
-  fits = subst (FitsFrom window reach (map need_of (slice_range s.frames i to))) left
+  fits : FitsFromReach window reach (map need_of (slice_range s.frames i to)) (p ∷ more)
+  fits = subst (FitsFromReach window reach (map need_of (slice_range s.frames i to))) left
       c.loop-place.invariant.fits
 
   some : i < to
@@ -85,7 +85,8 @@ module _ (g : given.Over) (c : After-index-rows-reading g) where
 
   module _ (next : ℕ) (next_is : next ≡ i + cond p.lead_in 0 1) where
     opened : (p.begin ≤ reach)
-        × (bytes_at p.lead_in (need_of row) ≤ p.begin + area_at p (need_of row)) × FitsFrom window
+        × (placed_bytes p.lead_in (need_of row) ≤ p.begin + placed_area p (need_of row))
+        × FitsFromReach window
         (reach_behind window p (need_of row)) (map need_of (slice_range s.frames next to)) more
     opened = fits-next s i to next row p more found some next_is window reach fits
 
@@ -98,19 +99,19 @@ module _ (g : given.Over) (c : After-index-rows-reading g) where
         ∙ c.loop-place.invariant.reach
 
     abbrev one : List ℕ → List Frame
-    one file = placed_as p (frame_of file s i row) ∷ []
+    one file = planned_frame p (survey_frame file s i row) ∷ []
 
     abbrev rest : List ℕ → List Frame
-    rest file = relaid (slice_range (all_frames file s) next to) more
+    rest file = relaid_frames (slice_range (all_frames file s) next to) more
 
     split : (file : List ℕ)
         → Holds (g.D.Folder.seen c.args.folder.now).files c.args.self.now.pass.input.now file
         → (c.loop-place.invariant.lays.made file ++ one file) ++ rest file
-        ≡ relaid (slice_range (all_frames file s) c.args.from to) c.args.placed.now
+        ≡ relaid_frames (slice_range (all_frames file s) c.args.from to) c.args.placed.now
     split file holds =
         append_assoc (c.loop-place.invariant.lays.made file) (one file) (rest file)
         ∙ ap (λ (l : List Frame). c.loop-place.invariant.lays.made file ++ l)
-        (sym (ap (relaid (slice_range (all_frames file s) i to)) left
+        (sym (ap (relaid_frames (slice_range (all_frames file s) i to)) left
         ∙ relaid-next s i to next row p more found some next_is file))
         ∙ sym (c.loop-place.invariant.lays.left file holds)
 
@@ -133,7 +134,7 @@ returns-in_err-reading-clause-gives g c = record {
   lays = search rules;
   part = let at = (goal.at.returns-in_err-reading-clause-gives g c).After-index-rows-reading in
       let self = c.args.self.now in
-      let s = tells self.survey.now in
+      let s = survey_view self.survey.now in
       let seen = g.D.Folder.seen in
       let sofar = c.loop-place.invariant.lays in
       let p = c.place-item.result in
@@ -146,18 +147,18 @@ returns-in_err-reading-clause-gives g c = record {
       let last = last_reach window (reach_of c.args.buffers.now.writer)
       (map need_of (slice_range s.frames c.args.from to)) placed in
       let one =
-      λ (file : List ℕ). placed_as p (frame_of file s c.loop-place.reading.next row) ∷ [] in
+      λ (file : List ℕ). planned_frame p (survey_frame file s c.loop-place.reading.next row) ∷ [] in
       err_at c.from_residual.result _ c.from_residual.ensures.1
       (part_more self.pass.input.now self.pass.output.now (λ file. sofar.made file ++ one file)
       (rest g at next refl)
-      (λ file. relaid (slice_range (all_frames file s) c.args.from to) placed) reach last
+      (λ file. relaid_frames (slice_range (all_frames file s) c.args.from to) placed) reach last
       (writing_in c.args.buffers.now) (seen c.args.folder.now).files (seen c.place.new.folder).files
       (λ file holds later begins.
       let has = c.requires.stands.ready.exact file holds in
       begins-left window reach (map need_of (slice_range s.frames next to))
       (slice_range (all_frames file s) next to) (drop (c.loop-place.place-index + 1) placed) later
       (needs-range file s next to has) (opened g at next refl).2
-      (subst (λ n. BeginsWithin n (pieces later)) (sym (last_is g at next refl)) begins))
+      (subst (λ n. BeginsWithin n (all_frame_data later)) (sym (last_is g at next refl)) begins))
       (split g at next refl)
       (part_then self.pass.input.now self.pass.output.now sofar.made one (writing_in
       c.args.buffers.now) (writing_in c.loop-place.buffers) (seen c.args.folder.now).files
@@ -165,7 +166,7 @@ returns-in_err-reading-clause-gives g c = record {
       (seen c.place.new.folder).files c.in_err-reading.ensures.gives.part));
   reach = search rules;
   done = search rules;
-  cause = let s = tells c.args.self.now.survey.now in
+  cause = let s = survey_view c.args.self.now.survey.now in
       let sofar = c.loop-place.invariant.lays in
       let q = err_from_is_err_and c.from_residual.result c.from_residual.ensures.1 in
       rw (q.1, q.2)
@@ -178,7 +179,7 @@ pub loop-place-preserved : goal.loop-place-preserved
 loop-place-preserved g c =
     let at = (goal.at.loop-place-preserved g c).After-index-rows-reading in
     let self = c.args.self.now in
-    let s = tells self.survey.now in
+    let s = survey_view self.survey.now in
     let seen = g.D.Folder.seen in
     let inv = c.loop-place.invariant in
     let p = c.place-item.result in
@@ -187,11 +188,13 @@ loop-place-preserved g c =
     let more = drop (c.loop-place.place-index + 1) c.args.placed.now in
     let window = window_of s.class.version in
     let one = λ (file : List ℕ).
-    placed_as p (frame_of file s c.loop-place.reading.next c.index-rows-reading.result) ∷ [] in
+    planned_frame p (survey_frame file s c.loop-place.reading.next c.index-rows-reading.result)
+    ∷ [] in
     record {
       stands = c.in_ok-reading.ensures.stands;
       early = omega (arith, next_is, step-most p.lead_in, some g at);
-      fits = subst (λ n. FitsFrom window n needs more) (sym c.in_ok-reading.ensures.gives.reach)
+      fits =
+          subst (λ n. FitsFromReach window n needs more) (sym c.in_ok-reading.ensures.gives.reach)
           (opened g at c.in_ok-reading.reading.next next_is).2;
       reach = ap (λ n. last_reach window n needs more) c.in_ok-reading.ensures.gives.reach
           ∙ last_is g at c.in_ok-reading.reading.next next_is;
@@ -211,17 +214,17 @@ loop-place-preserved g c =
 pub returns-clause-gives : goal.returns-clause-gives
 returns-clause-gives g c = record {
   lays = let self = c.args.self.now in
-      let s = tells self.survey.now in
+      let s = survey_view self.survey.now in
       let placed = c.args.placed.now in
       let k = c.loop-place.place-index in
       let none : drop k placed ≡ [] = drop_all k placed (omega (arith, c.loop-place-test.false)) in
       lays-all self.pass.input.now self.pass.output.now _ _ (writing_in c.args.buffers.now)
       (writing_in c.loop-place.buffers) _ _ c.loop-place.invariant.lays (λ file holds.
       let frames = slice_range (all_frames file s) c.loop-place.reading.next c.args.to in
-      ap (relaid frames) none ∙ relaid-end frames);
+      ap (relaid_frames frames) none ∙ relaid-end frames);
   part = search rules;
   reach = let self = c.args.self.now in
-      let s = tells self.survey.now in
+      let s = survey_view self.survey.now in
       let window = window_of s.class.version in
       let placed = c.args.placed.now in
       let i = c.loop-place.reading.next in
@@ -239,7 +242,7 @@ returns-clause-gives g c = record {
 bounded : (g : given.Over) (c : After-place-item g)
     → c.loop-place.reading.next < length c.frames-rows.result.now
 bounded g c =
-    let s = tells c.args.self.now.survey.now in
+    let s = survey_view c.args.self.now.survey.now in
     let placed = c.args.placed.now in
     let k = c.loop-place.place-index in
     let p = c.place-item.result in
@@ -248,7 +251,7 @@ bounded g c =
     let left : drop k placed ≡ p ∷ drop (k + 1) placed =
     item-next placed k p (omega (arith, c.loop-place-test.true)) c.place-item.is in
     let within = fits-some window reach s c.loop-place.reading.next c.args.to p
-    (drop (k + 1) placed) (subst (FitsFrom window reach (map need_of (slice_range s.frames
+    (drop (k + 1) placed) (subst (FitsFromReach window reach (map need_of (slice_range s.frames
     c.loop-place.reading.next c.args.to))) left c.loop-place.invariant.fits) in
     omega (arith, within, c.requires.within, ap length c.frames-rows.ensures)
 

@@ -1,15 +1,15 @@
 -- The frames before were given to the writer, and the others are to follow.
 use Rattle.std.proofs.Common.{drop, ◌≡◌, ◌≤◌}
 use Rattle.frame_writer.specs.Frames.{reach_of}
-use Rattle.laying.{proofs.RelayLaws.LaysUpTo, specs.Calls.StandsBefore}
-use Rattle.laying.specs.Passing.{FitsBehind, planned_frames, reach_behind_all, writing_in}
+use Rattle.laying.{proofs.RelayLemmas.LaysUpTo, specs.Calls.IsRelayAtFrame}
+use Rattle.laying.specs.Passing.{FitsRelayReach, planned_frames, reach_behind_all, writing_in}
 use Rattle.laying.proofs.relay.Relay.frames.Given as goal
 
 abbrev pub invariant-loop-place : goal.invariant-loop-place
 invariant-loop-place g l = record {
-  stands : StandsBefore l.self (g.D.Folder.seen l.folder).files l.buffers l.reading;
+  stands : IsRelayAtFrame l.self (g.D.Folder.seen l.folder).files l.buffers l.reading;
   early : l.reading.next ≤ l.to;
-  fits : FitsBehind
+  fits : FitsRelayReach
       (reach_of l.buffers.writer) l.self l.reading.next l.to (drop l.place-index l.placed);
   reach : reach_behind_all
       (reach_of l.buffers.writer) l.self l.reading.next l.to (drop l.place-index l.placed)

@@ -1,24 +1,26 @@
 -- What was handed on and what waits are the bytes of the frames.
 use Rattle.std.proofs.{Common.{ap, arith, rules, subst, sym, ◌∙◌, ◌≡◌}, lemmas.Result.on_ok_weaker}
 use Rattle.frame_header.specs.Tables.{window_of}
-use Rattle.frame_writer.specs.Frames.{frame_bytes, reach_of}
-use Rattle.laying.proofs.EndLaws.{lays-prefix, lays-written, new-behind, part-prefix}
-use Rattle.laying.{proofs.PassLaws.ready-passed, specs.Fits.FitsFrom}
-use Rattle.laying.specs.{Laid.{laid_in, needs_laid, selected_frames}, Passing.writing_in}
-use Rattle.outside.proofs.{PassLaws.{causes_later, prefix_nothing}, PassedLaws.{err_at, err_by}}
-use Rattle.outside.specs.{Files.appended, Pass.{Writes, WritesPrefix}}
+use Rattle.frame_writer.specs.Frames.{bytes_of_frames, reach_of}
+use Rattle.laying.proofs.EndLemmas.{lays-prefix, lays-written, new-behind, part-prefix}
+use Rattle.laying.{proofs.PassLemmas.ready-passed, specs.Fits.FitsFromReach}
+use Rattle.laying.specs.{Laid.{needs_laid, selected_frames, selected_part}, Passing.writing_in}
+use Rattle.outside.proofs.BufferOutputLemmas.{err_at, err_by}
+use Rattle.outside.proofs.PassLemmas.{causes_later, prefix_nothing}
+use Rattle.outside.specs.{Files.with_appended_bytes, Pass.{WritesMadeBytes, WritesPrefix}}
 use Rattle.slot_plan.specs.Plans.{entries}
-use Rattle.sync_survey.specs.Faults.{tells}
+use Rattle.sync_survey.specs.Faults.{survey_view}
 use Rattle.laying.proofs.relay.Relay.lay.Goals as goal
 
 pub frames-requires-clause-fits : goal.frames-requires-clause-fits
 frames-requires-clause-fits g c =
-    let s = tells c.args.self.now.survey.now in
-    let needs = needs_laid (laid_in c.args.selected.now) s in
+    let s = survey_view c.args.self.now.survey.now in
+    let needs = needs_laid (selected_part c.args.selected.now) s in
     let none : 0 ≡ reach_of c.args.buffers.now.writer = omega (arith, c.requires.new.free) in
-    subst (FitsFrom (window_of s.class.version) (reach_of c.args.buffers.now.writer) needs)
+    subst (FitsFromReach (window_of s.class.version) (reach_of c.args.buffers.now.writer) needs)
     (sym c.placed.ensures)
-    (subst (λ n. FitsFrom (window_of s.class.version) n needs (entries c.args.selected.now.plan))
+    (subst (λ n. FitsFromReach (window_of s.class.version) n needs
+    (entries c.args.selected.now.plan))
     none c.requires.writable.fits)
 
 pub returns-in_err-read_before : goal.returns-in_err-read_before
@@ -27,7 +29,8 @@ returns-in_err-read_before g c = record {
   prefix = let self = c.args.self.now in
       err_at c.from_residual.result _ c.from_residual.ensures.1
       (prefix_nothing self.pass
-      (λ file. frame_bytes (selected_frames (tells self.survey.now) c.args.selected.now file))
+      (λ file.
+      bytes_of_frames (selected_frames (survey_view self.survey.now) c.args.selected.now file))
       c.args.buffers.now.waiting _ _ c.in_err-read_before.ensures.reads.read
       c.read_before.ensures.reads.files c.requires.ready.pass.target);
   ready = search rules;
@@ -39,11 +42,11 @@ pub returns-in_err-frames : goal.returns-in_err-frames
 returns-in_err-frames g c = record {
   written = search rules;
   prefix = let self = c.args.self.now in
-      let made = selected_frames (tells self.survey.now) c.args.selected.now in
+      let made = selected_frames (survey_view self.survey.now) c.args.selected.now in
       let b = c.args.buffers.now in
       let seen = g.D.Folder.seen in
       err_at c.from_residual-in_err-frames.result _ c.from_residual-in_err-frames.ensures.1
-      (subst (λ f. WritesPrefix self.pass (λ file. frame_bytes (made file)) b.waiting f
+      (subst (λ f. WritesPrefix self.pass (λ file. bytes_of_frames (made file)) b.waiting f
       (seen c.frames.new.folder).files c.in_err-frames.field-0.0) c.read_before.ensures.reads.files
       (part-prefix self.pass made b.waiting (writing_in b)
       (seen c.read_before.new.folder).files (new-behind b.writer b.waiting c.requires.new)
@@ -56,20 +59,24 @@ returns-in_err-frames g c = record {
 
 pub returns : goal.returns
 returns g c = record {
-  written = let made = selected_frames (tells c.args.self.now.survey.now) c.args.selected.now in
+  written =
+      let made = selected_frames (survey_view c.args.self.now.survey.now) c.args.selected.now in
       let b = c.args.buffers.now in
       on_ok_weaker c.finish.result
-      (λ passed. subst (λ f. Writes c.args.self.now.pass (λ file. frame_bytes (made file))
+      (λ passed.
+      subst (λ f. WritesMadeBytes c.args.self.now.pass (λ file. bytes_of_frames (made file))
       b.waiting c.finish.new.unsent f (g.D.Folder.seen c.finish.new.folder).files)
       c.read_before.ensures.reads.files
       (lays-written c.args.self.now.pass made b.waiting (writing_in b) _
       (new-behind b.writer b.waiting c.requires.new) (writing_in c.frames.new.buffers) _
       (rw c.placed.ensures at c.in_ok-frames.ensures.gives.lays) c.finish.new.unsent _ passed))
       c.finish.ensures.passed;
-  prefix = let made = selected_frames (tells c.args.self.now.survey.now) c.args.selected.now in
+  prefix =
+      let made = selected_frames (survey_view c.args.self.now.survey.now) c.args.selected.now in
       let b = c.args.buffers.now in
       err_by c.finish.result
-      (λ fault part. subst (λ f. WritesPrefix c.args.self.now.pass (λ file. frame_bytes (made file))
+      (λ fault part.
+      subst (λ f. WritesPrefix c.args.self.now.pass (λ file. bytes_of_frames (made file))
       b.waiting f (g.D.Folder.seen c.finish.new.folder).files fault)
       c.read_before.ensures.reads.files
       (lays-prefix c.args.self.now.pass made b.waiting (writing_in b) _
@@ -85,7 +92,8 @@ returns g c = record {
       causes_later c.finish.result _ (seen c.args.folder.now).files
       (seen c.frames.new.folder).files self.pass.output.now lays.passed _ _ _
       (lays.files
-      ∙ ap (λ f. appended f self.pass.output.now lays.passed) c.read_before.ensures.reads.files)
+      ∙ ap (λ f. with_appended_bytes f self.pass.output.now lays.passed)
+      c.read_before.ensures.reads.files)
       (c.in_ok-frames.ensures.gives.done ∙ c.in_ok-read_before.ensures.reads.done)
       c.finish.ensures.cause;
 }

@@ -3,11 +3,11 @@ use Rattle.std.proofs.Common.{ap, arith, length, rules, subst, sym, ◌-◌, ◌
 use Rattle.frame_header.specs.Tables.{window_of}
 use Rattle.frame_writer.specs.Frames.{reach_of}
 use Rattle.laying.proofs.FramesFromLemmas.{fits-from, from-begins, lays-from, part-from, reach-is}
-use Rattle.laying.proofs.PassLaws.{part_none}
+use Rattle.laying.proofs.PassLemmas.{part_none}
 use Rattle.laying.specs.Passing.{GivesFrames, GivesPart, planned_frames, reach_behind_all}
 use Rattle.laying.specs.{Passing.writing_in, Places.places_for}
-use Rattle.outside.proofs.PassedLaws.{err_at}
-use Rattle.sync_survey.specs.Faults.{tells}
+use Rattle.outside.proofs.BufferOutputLemmas.{err_at}
+use Rattle.sync_survey.specs.Faults.{survey_view}
 use Rattle.laying.proofs.relay.Relay.lay_from.Goals as goal
 
 pub returns-in_err-read_before-clause-gives : goal.returns-in_err-read_before-clause-gives
@@ -15,7 +15,7 @@ returns-in_err-read_before-clause-gives g c = record {
   lays = search rules;
   part = let relay = c.args.self.now in
       let from = c.args.from in
-      let s = tells relay.survey.now in
+      let s = survey_view relay.survey.now in
       let to = length s.frames in
       let b = c.args.buffers.now in
       let placed = c.args.placed.now in
@@ -37,7 +37,7 @@ returns-in_err-read_before-clause-gives g c = record {
 
 pub frames-requires-clause-fits : goal.frames-requires-clause-fits
 frames-requires-clause-fits g c =
-    let s = tells c.args.self.now.survey.now in
+    let s = survey_view c.args.self.now.survey.now in
     fits-from s c.args.placed.now c.args.from _ _ (ap length c.frames-rows.ensures)
     c.places_for-count.ensures.places (window_of s.class.version)
     (reach_of c.args.buffers.now.writer) c.requires.fits
@@ -47,7 +47,7 @@ returns-in_err-frames-clause-gives g c = record {
   lays = search rules;
   part = let relay = c.args.self.now in
       let from = c.args.from in
-      let s = tells relay.survey.now in
+      let s = survey_view relay.survey.now in
       let to = length s.frames in
       let b = c.args.buffers.now in
       let placed = c.args.placed.now in
@@ -70,7 +70,7 @@ pub returns-clause-gives : goal.returns-clause-gives
 returns-clause-gives g c = record {
   lays = let relay = c.args.self.now in
       let from = c.args.from in
-      let s = tells relay.survey.now in
+      let s = survey_view relay.survey.now in
       let to = length s.frames in
       let b = c.args.buffers.now in
       let placed = c.args.placed.now in
@@ -85,7 +85,7 @@ returns-clause-gives g c = record {
       c.in_ok-frames.ensures.gives.lays);
   part = search rules;
   reach = c.in_ok-frames.ensures.gives.reach
-      ∙ reach-is (tells c.args.self.now.survey.now) c.args.placed.now c.args.from _ _
+      ∙ reach-is (survey_view c.args.self.now.survey.now) c.args.placed.now c.args.from _ _
       (ap length c.frames-rows.ensures) c.places_for-count.ensures.places
       (reach_of c.args.buffers.now.writer);
   done = search rules;

@@ -1,8 +1,9 @@
 -- What main_data_begin may be fits its bits.
 use Rattle.std.proofs.Common.{ap, arith, rules, subst, sym, ◌∙◌, ◌≡◌}
 use Rattle.frame_header.specs.Tables.{class_of}
-use Rattle.laying.proofs.{PlannedFrames.begun_fits, relay.Relay.lead_in.Goals.After-with_begin-side}
-use Rattle.side_info.{proofs.SideLaws.SideFits-no_side, specs.Side.{no_side, SideFits}}
+use Rattle.laying.proofs.PlannedFrameLemmas.{begun_fits}
+use Rattle.laying.proofs.relay.Relay.lead_in.Goals.{After-with_begin-side}
+use Rattle.side_info.{proofs.SideLemmas.SideFits-no_side, specs.Side.{no_side, SideFits}}
 use Rattle.side_info.specs.declared.side.Side.{Side}
 use Rattle.laying.proofs.relay.Relay.lead_in.Given as given
 use Rattle.laying.proofs.relay.Relay.lead_in.Goals as goal

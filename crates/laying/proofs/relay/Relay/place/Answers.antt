@@ -2,15 +2,16 @@
 use Rattle.std.proofs.Common.{ap, arith, Bool, cond, false, List, min, rules, subst, sym, ℕ, []}
 use Rattle.std.proofs.Common.{◌+◌, ◌-◌, ◌∙◌, ◌∷◌, ◌≤◌}
 use Rattle.frame_header.specs.Tables.{area_of, class_of, window_of}
-use Rattle.frame_writer.{proofs.WritingLaws.ok-map, specs.{Frames.Frame, Writing.writing}}
-use Rattle.laying.proofs.PassLaws.{holds-later, lays_one, part_one, ready-later}
-use Rattle.laying.{proofs.RelayLaws.reach-lead, specs.Needs.need_of}
-use Rattle.laying.specs.Passing.{GivesFrames, GivesPart, placed_frame, reach_at, window_in}
-use Rattle.laying.specs.{Passing.writing_in, Relaid.{frame_of, lead_in_before, moved_to}}
+use Rattle.frame_writer.{proofs.WritingLemmas.ok-map, specs.{Frames.Frame, Writing.writing_of}}
+use Rattle.laying.proofs.PassLemmas.{holds-later, lays_one, part_one, ready-later}
+use Rattle.laying.{proofs.RelayLemmas.reach-lead, specs.Needs.need_of}
+use Rattle.laying.specs.Passing.{GivesFrames, GivesPart, placed_reach, relay_planned_frame}
+use Rattle.laying.specs.Passing.{survey_window, writing_in}
+use Rattle.laying.specs.Relaid.{frame_with_place, lead_in_before, survey_frame}
 use Rattle.laying.specs.declared.relay.Relay.{Relay}
-use Rattle.outside.proofs.PassedLaws.{err_at, err_by}
+use Rattle.outside.proofs.BufferOutputLemmas.{err_at, err_by}
 use Rattle.slot_plan.specs.declared.needs.Placed.{Placed}
-use Rattle.sync_survey.specs.{Faults.tells, Row.Row}
+use Rattle.sync_survey.specs.{Faults.survey_view, Row.Row}
 use Rattle.laying.proofs.relay.Relay.place.Goals as goal
 
 pub lead_in-requires-clause-class : goal.lead_in-requires-clause-class
@@ -21,10 +22,10 @@ lead_in-requires-clause-class g c = (c.requires.stands.on.ready.laid.placed c.ar
 -- data may begin after it, by whether it is a lead-in
 abbrev frame_by : Relay → ℕ → Row → Placed → Bool → List ℕ → List Frame
 frame_by relay i row p lead file = cond lead (lead_in_before p row.header)
-    (moved_to p (frame_of file (tells relay.survey.now) i row)) ∷ []
+    (frame_with_place p (survey_frame file (survey_view relay.survey.now) i row)) ∷ []
 
 abbrev reach_by : Relay → Row → Placed → Bool → ℕ
-reach_by relay row p lead = min (window_in (tells relay.survey.now))
+reach_by relay row p lead = min (survey_window (survey_view relay.survey.now))
     (p.begin + area_of (class_of row.header) p.slot (cond lead false row.header.protected)
     - cond lead 0 (need_of row).bytes)
 
@@ -34,8 +35,8 @@ returns-in_err-lead_in-clause-gives g c = record {
   part = let self = c.args.self.now in
       let row = c.args.known.now.row.now in
       let p = c.args.place.now in
-      let window = window_in (tells self.survey.now) in
-      let reach : reach_at self row p ≤ c.lead_in.new.writer.waiting.free =
+      let window = survey_window (survey_view self.survey.now) in
+      let reach : placed_reach self row p ≤ c.lead_in.new.writer.waiting.free =
       omega (
         arith,
         reach-lead window p (need_of row) c.if-place.true,
@@ -44,7 +45,7 @@ returns-in_err-lead_in-clause-gives g c = record {
       ) in
       err_at c.from_residual.result _ c.from_residual.ensures.1
       (part_one self.pass.input.now self.pass.output.now
-      (placed_frame self c.args.reading.now.next row p) (reach_at self row p)
+      (relay_planned_frame self c.args.reading.now.next row p) (placed_reach self row p)
       (lead_in_before p row.header) (writing_in c.args.buffers.now) c.lead_in.new.writer
       (g.D.Folder.seen c.args.folder.now).files (g.D.Folder.seen c.lead_in.new.folder).files
       (λ file holds. ap (λ lead. frame_by self c.args.reading.now.next row p lead file)
@@ -82,8 +83,9 @@ returns-in_ok-lead_in-clause-gives g c = record {
       let p = c.args.place.now in
       let row = c.args.known.now.row.now in
       lays_one pass.input.now pass.output.now
-      (placed_frame c.args.self.now c.args.reading.now.next row p) (lead_in_before p row.header)
-      (writing_in c.args.buffers.now) (writing c.lead_in.new.writer c.lead_in.new.unsent)
+      (relay_planned_frame c.args.self.now c.args.reading.now.next row p)
+      (lead_in_before p row.header)
+      (writing_in c.args.buffers.now) (writing_of c.lead_in.new.writer c.lead_in.new.unsent)
       (g.D.Folder.seen c.args.folder.now).files (g.D.Folder.seen c.lead_in.new.folder).files
       (λ file holds. ap (λ lead. frame_by c.args.self.now c.args.reading.now.next row p lead file)
       (sym c.if-place.true)) c.in_ok-lead_in.ensures.written;
@@ -105,6 +107,7 @@ returns-in_ok-lead_in-clause-stands g c = record {
   over = let self = c.args.self.now in
       let on = c.in_ok-lead_in.ensures.written in
       holds-later c.args.buffers.now.window self.pass.input.now self.pass.output.now
-      (tells self.survey.now) c.args.reading.now.at c.args.reading.now.count c.args.reading.now.next
+      (survey_view self.survey.now)
+      c.args.reading.now.at c.args.reading.now.count c.args.reading.now.next
       _ _ on.passed c.requires.stands.on.ready.pass.apart on.files c.requires.stands.over;
 }

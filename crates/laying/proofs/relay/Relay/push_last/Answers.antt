@@ -1,17 +1,17 @@
 -- The area is in the window then.
 use Rattle.std.proofs.Common.{subst, sym}
-use Rattle.laying.{proofs.ReachLaws.{holds-given, holds-pushed}, specs.Passing.HoldsLast}
-use Rattle.sync_survey.specs.Faults.{tells}
+use Rattle.laying.{proofs.ReachLemmas.{holds-given, holds-pushed}, specs.Passing.HoldsLastAreas}
+use Rattle.sync_survey.specs.Faults.{survey_view}
 use Rattle.laying.proofs.relay.Relay.push_last.Goals as goal
 
 pub returns-clause-over : goal.returns-clause-over
 returns-clause-over g c = λ at within.
     let files = (g.D.Folder.seen c.fill.new.folder).files in
-    let s = tells c.args.self.now.survey.now in
+    let s = survey_view c.args.self.now.survey.now in
     let input = c.args.self.now.pass.input.now in
     let reading = c.args.reading.now in
     let given = c.fill.new.feed.given in
-    let over = subst (λ f. HoldsLast c.args.window.now input f s
+    let over = subst (λ f. HoldsLastAreas c.args.window.now input f s
     reading.at reading.count reading.next) (sym c.fill.ensures.reads.files) c.requires.over in
     holds-pushed c.args.window.now c.push_area.new.self given input files s
     reading.next (holds-given c.args.window.now given input files s

@@ -1,14 +1,14 @@
 -- One area more is read, up to frame i; then the last 2,048 bytes are there, or all.
 use Rattle.std.proofs.Common.{arith, List, slice_get, Some, subst, sym, ℕ, ◌∙◌, ◌≡◌}
-use Rattle.laying.proofs.{ReadLaws.{last-next, last-whole}, RelayLaws.read-at}
-use Rattle.laying.specs.Passing.{IsAreaOf, IsOverLast}
-use Rattle.sync_survey.specs.Faults.{tells}
+use Rattle.laying.proofs.{ReadLemmas.{last-next, last-whole}, RelayLemmas.read-at}
+use Rattle.laying.specs.Passing.{IsAreaOf, IsWindowOverLast}
+use Rattle.sync_survey.specs.Faults.{survey_view}
 use Rattle.laying.proofs.relay.Relay.read_before.Goals as goal
 
 pub fill_area-requires-clause-found : goal.fill_area-requires-clause-found
 fill_area-requires-clause-found g c =
     read-at c.frames-rows.result.now
-    (tells c.args.self.now.survey.now).frames c.loop-at.at c.index-rows-at.result
+    (survey_view c.args.self.now.survey.now).frames c.loop-at.at c.index-rows-at.result
     (omega (arith, c.loop-at-test.true, c.requires.within))
     c.frames-rows.ensures c.index-rows-at.is
 
@@ -18,7 +18,7 @@ overflow_add-at g c = omega (arith, c.loop-at-test.true, c.ranges.i.fits)
 pub loop-at-preserved : goal.loop-at-preserved
 loop-at-preserved g c =
     let self = c.args.self.now in
-    let s = tells self.survey.now in
+    let s = survey_view self.survey.now in
     let seen = g.D.Folder.seen in
     let at = c.loop-at.at in
     let first = c.first_held-first.result in
@@ -31,7 +31,7 @@ loop-at-preserved g c =
       early = omega (arith, c.loop-at-test.true);
       over = last-next c.loop-at.window c.push_area.new.self c.bytes.result.now self.pass.input.now
           (seen c.fill_area.new.folder).files s first at row found
-          (subst (λ f. IsOverLast c.loop-at.window self.pass.input.now f s first at)
+          (subst (λ f. IsWindowOverLast c.loop-at.window self.pass.input.now f s first at)
           (sym c.fill_area.ensures.reads.files) c.loop-at.invariant.over)
           (subst (λ (l : List ℕ). IsAreaOf l self.pass.input.now (seen c.fill_area.new.folder).files
           row) (sym c.bytes.ensures) c.in_ok-fill_area.ensures.area) c.push_area.ensures.main;
@@ -43,11 +43,11 @@ loop-at-preserved g c =
 pub returns-clause-over : goal.returns-clause-over
 returns-clause-over g c =
     let self = c.args.self.now in
-    let s = tells self.survey.now in
+    let s = survey_view self.survey.now in
     let seen = g.D.Folder.seen in
     last-whole c.loop-at.window self.pass.input.now (seen c.loop-at.folder).files s
     c.first_held-first.result c.args.i c.loop-at.invariant.ready.pass.source
     c.first_held-first.ensures.held
-    (subst (IsOverLast c.loop-at.window self.pass.input.now (seen c.loop-at.folder).files s
+    (subst (IsWindowOverLast c.loop-at.window self.pass.input.now (seen c.loop-at.folder).files s
     c.first_held-first.result)
     (omega (arith, c.loop-at-test.false, c.loop-at.invariant.early)) c.loop-at.invariant.over)

@@ -1,15 +1,15 @@
 -- The areas before this frame were read.
 use Rattle.std.proofs.Common.{◌-◌, ◌≡◌, ◌≤◌}
-use Rattle.laying.specs.Passing.{IsOverLast, IsReady}
-use Rattle.sync_survey.specs.Faults.{tells}
+use Rattle.laying.specs.Passing.{IsRelayReady, IsWindowOverLast}
+use Rattle.sync_survey.specs.Faults.{survey_view}
 use Rattle.laying.proofs.relay.Relay.read_before.Given as goal
 
 abbrev pub invariant-loop-at : goal.invariant-loop-at
 invariant-loop-at g l = record {
   early : l.at ≤ l.i;
-  over : IsOverLast l.window l.self.pass.input.now (g.D.Folder.seen l.folder).files
-      (tells l.self.survey.now) l.first l.at;
-  ready : IsReady l.self (g.D.Folder.seen l.folder).files l.feed;
+  over : IsWindowOverLast l.window l.self.pass.input.now (g.D.Folder.seen l.folder).files
+      (survey_view l.self.survey.now) l.first l.at;
+  ready : IsRelayReady l.self (g.D.Folder.seen l.folder).files l.feed;
   files : (g.D.Folder.seen l.folder).files ≡ (g.D.Folder.seen l.fn.folder).files;
   counts : (g.D.Folder.seen l.folder).counts ≡ (g.D.Folder.seen l.fn.folder).counts;
 }

@@ -1,12 +1,12 @@
 -- Before the first frame there is only the area of the head.
 use Rattle.std.proofs.Common.{ap, arith, sym, [], ◌+◌, ◌∙◌}
-use Rattle.laying.proofs.ReadLaws.{area-at, head-within, main-first, place-first}
-use Rattle.sync_survey.specs.{Faults.tells, MainData.{head_area, head_bytes}}
+use Rattle.laying.proofs.ReadLemmas.{area-at, head-within, main-first, place-first}
+use Rattle.sync_survey.specs.{Faults.survey_view, MainData.{head_area, head_bytes}}
 use Rattle.laying.proofs.relay.Relay.read_head.Goals as goal
 
 pub returns-in_default-clause-over : goal.returns-in_default-clause-over
 returns-in_default-clause-over g c =
-    let s = tells c.args.self.now.survey.now in
+    let s = survey_view c.args.self.now.survey.now in
     let none = sym c.head.ensures ∙ c.in_default.is in
     record {
       main = [];
@@ -17,7 +17,7 @@ returns-in_default-clause-over g c =
 
 pub overflow_add-at : goal.overflow_add-at
 overflow_add-at g c =
-    let s = tells c.args.self.now.survey.now in
+    let s = survey_view c.args.self.now.survey.now in
     let laid = c.requires.ready.laid in
     omega (
       arith,
@@ -29,7 +29,7 @@ overflow_add-at g c =
 
 pub fill-requires-clause-within : goal.fill-requires-clause-within
 fill-requires-clause-within g c =
-    let s = tells c.args.self.now.survey.now in
+    let s = survey_view c.args.self.now.survey.now in
     let laid = c.requires.ready.laid in
     omega (
       arith,
@@ -41,7 +41,7 @@ fill-requires-clause-within g c =
 
 pub returns-clause-over : goal.returns-clause-over
 returns-clause-over g c =
-    let s = tells c.args.self.now.survey.now in
+    let s = survey_view c.args.self.now.survey.now in
     let some = sym c.head.ensures ∙ c.in-Some.is in
     let head = c.in-Some.head in
     let given = c.in_ok-fill.ensures.given in

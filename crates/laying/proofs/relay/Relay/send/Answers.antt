@@ -1,15 +1,15 @@
 -- The bytes wait, and then all that waits is written.
 use Rattle.std.proofs.Common.{ap, append-nil, List, rules, sym, ℕ, [], ◌++◌, ◌∙◌, ◌≡◌}
-use Rattle.frame_writer.proofs.WritingLaws.{err-map, ok-map}
-use Rattle.outside.proofs.PassLaws.{causes_later}
-use Rattle.outside.proofs.PassedLaws.{passed_then_all, passed_then_prefix, passed_there}
-use Rattle.outside.specs.{Files.{appended, Files}, Passed.PassedOn}
+use Rattle.frame_writer.proofs.WritingLemmas.{err-map, ok-map}
+use Rattle.outside.proofs.BufferOutputLemmas.{passed_then_all, passed_then_prefix, passed_there}
+use Rattle.outside.{proofs.PassLemmas.causes_later, specs.BufferOutput.AppendsWaiting}
+use Rattle.outside.specs.Files.{Files, with_appended_bytes}
 use Rattle.laying.proofs.relay.Relay.send.Goals as goal
 
 -- some bytes were passed on, and then all others
-all_on : {name before mid after : List ℕ} {f g h : Files} → PassedOn name before mid f g
-    → after ≡ [] → h ≡ appended g name mid →
-    PassedOn name before after f h
+all_on : {name before mid after : List ℕ} {f g h : Files} → AppendsWaiting name before mid f g
+    → after ≡ [] → h ≡ with_appended_bytes g name mid →
+    AppendsWaiting name before after f h
 all_on {name} {before} {mid} {after} {f} {g} {h} p none all = record {
   passed = before;
   split = sym (ap (λ (xs : List ℕ). before ++ xs) none ∙ append-nil before);

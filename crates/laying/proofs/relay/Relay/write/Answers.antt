@@ -2,14 +2,15 @@
 -- is after them, and then what of these still waits.
 use Rattle.std.proofs.Common.{append-nil, List, rules, sym, ℕ, [], ◌++◌, ◌∙◌}
 use Rattle.std.{proofs.lemmas.Result.{err_from_is_err_and, on_ok_weaker}, specs.List.concat}
-use Rattle.laying.proofs.{LaidLaws.written-is, PassLaws.ready-later}
+use Rattle.laying.proofs.{LaidLemmas.written-is, PassLemmas.ready-later}
 use Rattle.laying.proofs.relay.Relay.write.Goals.{In_ok-copy_blocks}
-use Rattle.laying.specs.{Laid.{file_laid, laid_in, selected_front}, Written.back_blocks}
-use Rattle.outside.proofs.PassLaws.{cause_behind, causes_behind, part_behind_none, prefix_as}
-use Rattle.outside.proofs.PassLaws.{prefix_then, writes_all, writes_as, writes_behind_none}
-use Rattle.outside.proofs.{PassLaws.{writes_end, writes_then}, PassedLaws.{err_at, err_by}}
-use Rattle.outside.specs.{Files.Files, Pass.Writes}
-use Rattle.sync_survey.specs.Faults.{SurveyFields, tells}
+use Rattle.laying.specs.{Laid.{file_laid, selected_front, selected_part}, Written.back_blocks}
+use Rattle.outside.proofs.BufferOutputLemmas.{err_at, err_by}
+use Rattle.outside.proofs.PassLemmas.{cause_behind, causes_behind, part_behind_none, prefix_as}
+use Rattle.outside.proofs.PassLemmas.{prefix_then, writes_all, writes_as, writes_behind_none}
+use Rattle.outside.{proofs.PassLemmas.{writes_end, writes_then}, specs.Files.Files}
+use Rattle.outside.specs.Pass.{WritesMadeBytes}
+use Rattle.sync_survey.specs.Faults.{survey_view, SurveyFields}
 use Rattle.laying.proofs.relay.Relay.write.Given as given
 use Rattle.laying.proofs.relay.Relay.write.Goals as goal
 
@@ -20,11 +21,11 @@ back s file = concat (back_blocks file s)
 pub returns-in_err-write_frames : goal.returns-in_err-write_frames
 returns-in_err-write_frames g c = record {
   written = search rules;
-  prefix = let s = tells c.args.self.now.survey.now in
+  prefix = let s = survey_view c.args.self.now.survey.now in
       let selected = c.args.selected.now in
       err_at c.from_residual.result _ c.from_residual.ensures.1
       (part_behind_none c.requires.none
-      (prefix_as c.args.self.now.pass (λ file. file_laid (laid_in selected) file s) (back s)
+      (prefix_as c.args.self.now.pass (λ file. file_laid (selected_part selected) file s) (back s)
       (λ file holds. sym (written-is s selected file c.requires.writable
       (c.requires.ready.exact file holds))) c.in_err-write_frames.ensures.prefix));
   none = search rules;
@@ -36,13 +37,13 @@ returns-in_err-write_frames g c = record {
 pub returns-in_err-copy_blocks : goal.returns-in_err-copy_blocks
 returns-in_err-copy_blocks g c = record {
   written = search rules;
-  prefix = let s = tells c.args.self.now.survey.now in
+  prefix = let s = survey_view c.args.self.now.survey.now in
       let selected = c.args.selected.now in
       let pass = c.args.self.now.pass in
       err_at c.from_residual-in_err-copy_blocks.result _
       c.from_residual-in_err-copy_blocks.ensures.1
       (part_behind_none c.requires.none
-      (prefix_as pass (λ file. file_laid (laid_in selected) file s) (λ file. [])
+      (prefix_as pass (λ file. file_laid (selected_part selected) file s) (λ file. [])
       (λ file holds. sym (append-nil (selected_front s selected file ++ back s file)
       ∙ written-is s selected file c.requires.writable (c.requires.ready.exact file holds)))
       (prefix_then pass c.requires.ready.pass.apart c.in_ok-write_frames.ensures.written
@@ -59,7 +60,7 @@ returns-in_err-copy_blocks g c = record {
 -- the frames with what is before them, and then the other blocks
 module _ (g : given.Over) (c : In_ok-copy_blocks g) where
   abbrev s : SurveyFields
-  s = tells c.args.self.now.survey.now
+  s = survey_view c.args.self.now.survey.now
 
   abbrev old : Files
   old = (g.D.Folder.seen c.args.folder.now).files
@@ -68,14 +69,14 @@ module _ (g : given.Over) (c : In_ok-copy_blocks g) where
   new = (g.D.Folder.seen c.copy_blocks.new.folder).files
 
   abbrev made : List ℕ → List ℕ
-  made file = file_laid (laid_in c.args.selected.now) file s
+  made file = file_laid (selected_part c.args.selected.now) file s
 
-  both : Writes c.args.self.now.pass (λ file. selected_front s c.args.selected.now file
+  both : WritesMadeBytes c.args.self.now.pass (λ file. selected_front s c.args.selected.now file
       ++ back s file) c.args.buffers.now.waiting c.copy_blocks.new.waiting old new
   both = writes_then c.args.self.now.pass c.requires.ready.pass.apart
       c.in_ok-write_frames.ensures.written c.in_ok-copy_blocks.ensures.written
 
-  all : Writes c.args.self.now.pass made [] c.copy_blocks.new.waiting old new
+  all : WritesMadeBytes c.args.self.now.pass made [] c.copy_blocks.new.waiting old new
   all = writes_behind_none c.requires.none (writes_as c.args.self.now.pass made
       (λ file holds. written-is s c.args.selected.now file
       c.requires.writable (c.requires.ready.exact file holds)) both)

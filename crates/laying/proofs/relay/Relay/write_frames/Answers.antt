@@ -1,20 +1,20 @@
 -- What is before the frames, and the frames after it.
 use Rattle.std.proofs.{Common.{refl, rules}, lemmas.Result.on_ok_weaker}
-use Rattle.frame_writer.specs.Frames.{frame_bytes}
-use Rattle.laying.{proofs.PassLaws.ok_never, specs.Laid.{selected_frames, selected_front}}
-use Rattle.outside.proofs.PassLaws.{causes_behind, prefix_as, prefix_then, writes_then}
-use Rattle.outside.proofs.PassedLaws.{err_at, err_by}
-use Rattle.sync_survey.specs.Faults.{tells}
+use Rattle.frame_writer.specs.Frames.{bytes_of_frames}
+use Rattle.laying.{proofs.PassLemmas.ok_never, specs.Laid.{selected_frames, selected_front}}
+use Rattle.outside.proofs.BufferOutputLemmas.{err_at, err_by}
+use Rattle.outside.proofs.PassLemmas.{causes_behind, prefix_as, prefix_then, writes_then}
+use Rattle.sync_survey.specs.Faults.{survey_view}
 use Rattle.laying.proofs.relay.Relay.write_frames.Goals as goal
 
 pub returns-in_err-write_front : goal.returns-in_err-write_front
 returns-in_err-write_front g c = record {
   written = ok_never _ _ c.from_residual.result c.from_residual.ensures.1;
-  prefix = let s = tells c.args.self.now.survey.now in
+  prefix = let s = survey_view c.args.self.now.survey.now in
       let selected = c.args.selected.now in
       err_at c.from_residual.result _ c.from_residual.ensures.1
       (prefix_as c.args.self.now.pass (selected_front s selected)
-      (λ file. frame_bytes (selected_frames s selected file)) (λ file holds. refl)
+      (λ file. bytes_of_frames (selected_frames s selected file)) (λ file holds. refl)
       (rw c.as_slice.ensures.value at c.in_err-write_front.ensures.adds.prefix));
   done = ok_never _ _ c.from_residual.result c.from_residual.ensures.1;
   cause = err_at c.from_residual.result _

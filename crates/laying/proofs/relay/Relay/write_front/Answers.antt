@@ -1,15 +1,16 @@
 -- The blocks before the frames, and the bytes of the Info frame.
 use Rattle.std.proofs.{Common.{refl, rules, true, ◌++◌}, lemmas.Result.on_ok_weaker}
-use Rattle.laying.{proofs.PassLaws.{ok_never, ready-passed}, specs.Copying.chosen_bytes}
-use Rattle.outside.proofs.PassLaws.{causes_behind, prefix_as, prefix_piece, prefix_then}
-use Rattle.outside.proofs.{PassLaws.{writes_piece, writes_then}, PassedLaws.{err_at, err_by}}
-use Rattle.sync_survey.specs.Faults.{tells}
+use Rattle.laying.{proofs.PassLemmas.{ok_never, ready-passed}, specs.Copying.chosen_bytes}
+use Rattle.outside.proofs.BufferOutputLemmas.{err_at, err_by}
+use Rattle.outside.proofs.PassLemmas.{causes_behind, prefix_as, prefix_piece, prefix_then}
+use Rattle.outside.proofs.PassLemmas.{writes_piece, writes_then}
+use Rattle.sync_survey.specs.Faults.{survey_view}
 use Rattle.laying.proofs.relay.Relay.write_front.Goals as goal
 
 pub returns-in_err-copy_blocks-clause-adds : goal.returns-in_err-copy_blocks-clause-adds
 returns-in_err-copy_blocks-clause-adds g c = record {
   written = ok_never _ _ c.from_residual.result c.from_residual.ensures.1;
-  prefix = let s = tells c.args.self.now.survey.now in
+  prefix = let s = survey_view c.args.self.now.survey.now in
       let front = chosen_bytes true s s.blocks in
       err_at c.from_residual.result _ c.from_residual.ensures.1
       (prefix_as c.args.self.now.pass (λ file. front file ++ c.args.info.now)

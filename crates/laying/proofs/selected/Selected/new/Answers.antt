@@ -1,8 +1,8 @@
 -- The Info frame tells of the slots of the plan, which are those of the frames.
 use Rattle.std.proofs.Common.{ap, arith, length, map, sym, ◌∙◌}
-use Rattle.laying.{proofs.LaidLaws.laid-slots, specs.Laid.{frames_laid, laid_between}}
+use Rattle.laying.{proofs.LaidLemmas.laid-slots, specs.Laid.{frames_laid, laid_part}}
 use Rattle.slot_plan.specs.{Plans.entries, declared.needs.Placed.Placed}
-use Rattle.sync_survey.specs.Faults.{tells}
+use Rattle.sync_survey.specs.Faults.{survey_view}
 use Rattle.laying.proofs.selected.Selected.new.Goals as goal
 
 pub info_bytes-info-requires-clause-few : goal.info_bytes-info-requires-clause-few
@@ -14,8 +14,8 @@ returns-clause-writable c = record {
   within = c.requires.within;
   fits = c.requires.fitting.fits;
   info = λ file is first found.
-      let s = tells c.args.survey.now in
-      let laid = laid_between c.args.from c.args.to c.args.kept (entries c.args.plan) in
+      let s = survey_view c.args.survey.now in
+      let laid = laid_part c.args.from c.args.to c.args.kept (entries c.args.plan) in
       c.info_bytes-info.ensures first (frames_laid laid file s) found
       (laid-slots laid file s is c.requires.some c.requires.within c.requires.fitting
       ∙ sym (ap (map (λ (p : Placed). p.slot)) c.placed.ensures));

@@ -1,13 +1,13 @@
 -- The files that are there, and the frame, which is one of the survey's.
 use Rattle.std.proofs.Common.{ap, arith, get_or, length, List, subst, sym, ℕ, [], ◌∙◌, ◌∷◌, ◌≡◌}
-use Rattle.laying.{proofs.ChosenFrames.survey-had, specs.Surveys.HasSurvey}
-use Rattle.outside.{proofs.FilesLaws.emptied_there, specs.Files.{Holds, IsThere}}
-use Rattle.sync_survey.specs.Faults.{tells}
+use Rattle.laying.{proofs.SurveyFrameLemmas.survey-had, specs.Surveys.CanBeRelaid}
+use Rattle.outside.{proofs.FilesLemmas.emptied_there, specs.Files.{Holds, IsFileThere}}
+use Rattle.sync_survey.specs.Faults.{survey_view}
 use Rattle.laying_tests.proofs.tests.relays.lay_frame.Goals as goal
 
 pub plan_file-requires : goal.plan_file-requires
 plan_file-requires g c =
-    let count : 2 ≡ length (tells c.in-Ok-survey.survey).frames =
+    let count : 2 ≡ length (survey_view c.in-Ok-survey.survey).frames =
     sym c.if-assert.false ∙ ap length c.frames.ensures in
     record {
       laid = c.in-Ok-survey.ensures.laid;
@@ -19,17 +19,17 @@ plan_file-requires g c =
 pub write-requires-clause-ready : goal.write-requires-clause-ready
 write-requires-clause-ready g c =
     let seen = g.D.Folder.seen in
-    let s = tells c.in-Ok-survey.survey in
+    let s = survey_view c.in-Ok-survey.survey in
     let held : (file : List ℕ) → Holds (seen c.survey.new.folder).files (97 ∷ []) file
-    → HasSurvey file s = λ file holds. survey-had file 2 s (c.in-Ok-survey.ensures.exact file
+    → CanBeRelaid file s = λ file holds. survey-had file 2 s (c.in-Ok-survey.ensures.exact file
     (subst (λ f. Holds f (97 ∷ []) file) c.survey.ensures.files holds)) in
     record {
       pass = record {
         apart = λ e. let same : 97 ≡ 98 = ap (λ (l : List ℕ). get_or l 0 0) e in
             absurd (omega (arith, same));
-        source = subst (λ f. IsThere f (97 ∷ []))
+        source = subst (λ f. IsFileThere f (97 ∷ []))
             (sym c.survey.ensures.files) c.in-Ok-survey.ensures.there;
-        target = subst (λ f. IsThere f (98 ∷ []))
+        target = subst (λ f. IsFileThere f (98 ∷ []))
             (sym (c.survey.ensures.files ∙ c.in-Ok.ensures.answer.created))
             (emptied_there (seen c.args.folder.now).files (98 ∷ []));
         length_is = λ file holds. (held file holds).long ∙ sym c.length.ensures;

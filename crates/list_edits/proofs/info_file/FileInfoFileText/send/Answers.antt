@@ -2,24 +2,24 @@
 use Rattle.std.{proofs.Common.{Option, subst, ◌≡◌}, specs.Prelude.{OnErr, OnOk}}
 use Rattle.info_header.specs.declared.fields.Info.{Info}
 use Rattle.list_edits.specs.InfoText.{info_text}
-use Rattle.outside.specs.{Files.sent_more, Passed.SentPrefix}
-use Rattle.sync_survey.specs.Faults.{tells}
+use Rattle.outside.specs.{BufferOutput.SentPrefix, Files.sent_and_more}
+use Rattle.sync_survey.specs.Faults.{survey_view}
 use Rattle.list_edits.proofs.info_file.FileInfoFileText.send.Goals as goal
 
 pub returns-clause-sent : goal.returns-clause-sent
 returns-clause-sent g c =
     let heard = g.T.Sink.heard in
-    let s = tells c.args.survey.now in
+    let s = survey_view c.args.survey.now in
     let old = heard c.args.out.now in
     let new = heard c.send_info.new.out in
     subst (λ (h : Option Info).
-    OnOk c.send_info.result (new.sent ≡ sent_more old.sent (info_text h s)))
+    OnOk c.send_info.result (new.sent ≡ sent_and_more old.sent (info_text h s)))
     c.as_ref.ensures.value c.send_info.ensures.sent
 
 pub returns-clause-prefix : goal.returns-clause-prefix
 returns-clause-prefix g c =
     let heard = g.T.Sink.heard in
-    let s = tells c.args.survey.now in
+    let s = survey_view c.args.survey.now in
     let old = heard c.args.out.now in
     let new = heard c.send_info.new.out in
     subst (λ (h : Option Info).

@@ -1,6 +1,6 @@
 -- A number is the digits that are kept and the last four.
 use Rattle.std.proofs.Common.{arith}
-use Rattle.list_edits.proofs.DecimalLaws.{kept_myriads, put_behind}
+use Rattle.list_edits.proofs.DecimalLemmas.{kept_myriads, put_behind}
 use Rattle.list_edits.proofs.leading_digits.LeadingDigits.put_by_myriads.Goals as goal
 
 pub returns-then-behind-lt10000-clause-number : goal.returns-then-behind-lt10000-clause-number

@@ -1,5 +1,5 @@
 -- A number below 2 ^ 64 has at most 20 digits.
-use Rattle.list_edits.proofs.DecimalLaws.{few_before}
+use Rattle.list_edits.proofs.DecimalLemmas.{few_before}
 use Rattle.list_edits.proofs.line.Line.put_number.Goals as goal
 
 pub returns-then-number-lt10000-clause-few : goal.returns-then-number-lt10000-clause-few

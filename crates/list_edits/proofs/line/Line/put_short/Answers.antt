@@ -1,6 +1,6 @@
 -- Two digits, and the hundreds before them.
 use Rattle.std.proofs.Common.{ap, arith, refl, sym, ◌++◌, ◌∙◌}
-use Rattle.list_edits.proofs.DecimalLaws.{decimal_two, put_split}
+use Rattle.list_edits.proofs.DecimalLemmas.{decimal_two, put_split}
 use Rattle.list_edits.proofs.line.Line.put_short.Goals as goal
 
 pub returns-then-number-ge1000 : goal.returns-then-number-ge1000

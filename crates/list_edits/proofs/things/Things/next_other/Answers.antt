@@ -1,7 +1,8 @@
 -- The next entry of the walk over blocks and frames is the first of what is left.
 use Rattle.std.proofs.Common.{ap, Some, subst, sym, ◌∙◌, ◌∷◌}
-use Rattle.list_edits.{proofs.ThingsLaws.{block_alone, frame_met, none_met}, specs.Things.left}
-use Rattle.list_edits.specs.declared.things.{Thing.TheVariants.Frame, Things.Things}
+use Rattle.list_edits.proofs.ThingsLemmas.{block_alone, frame_met, none_met}
+use Rattle.list_edits.specs.{Things.things_left, declared.things.Thing.TheVariants.Frame}
+use Rattle.list_edits.specs.declared.things.Things.{Things}
 use Rattle.sync_survey.specs.{Merge.Meets, Row.Row, declared.merge.Entry.Entry}
 use Rattle.sync_survey.specs.declared.merge.{Entry.TheVariants.{First, Second}, Merge.Merge}
 use Rattle.sync_survey.specs.declared.places.Piece.{Piece}
@@ -25,7 +26,7 @@ returns-in-Second c =
     let met : IsMet t.others new.others (Second c.in-Second.row) =
     subst (IsMet t.others new.others) c.in-Second.is c.in_ok-piece.ensures in
     frame_met t new c.requires c.requires c.in-Second.row met.0 met.1
-    ∙ ap (λ n. Frame n c.in-Second.row ∷ left new) (sym c.seconds_met-number.ensures)
+    ∙ ap (λ n. Frame n c.in-Second.row ∷ things_left new) (sym c.seconds_met-number.ensures)
 
 pub returns-in_err-piece : goal.returns-in_err-piece
 returns-in_err-piece c = rw c.from_residual.ensures

@@ -1,7 +1,7 @@
 -- A lost frame is counted; of any other the main data and the gains are.
 use Rattle.std.proofs.Common.{ap, sym, ◌∙◌}
-use Rattle.list_edits.proofs.TotalsLaws.{with-lost, with-sound}
-use Rattle.moved_gains.specs.GainExtremes.{extremes, gains_in}
+use Rattle.list_edits.proofs.TotalsLemmas.{with-lost, with-sound}
+use Rattle.moved_gains.specs.GainExtremes.{extremes, side_gains}
 use Rattle.side_info.specs.{FrameFields.FrameFields, Side.payload_bytes, declared.side.Side.Side}
 use Rattle.list_edits.proofs.totals.SideTotals.add.Goals as goal
 
@@ -17,5 +17,5 @@ returns-clause-with c =
     (with-sound row c.args.self.now c.from.result c.gains_in.result c.gains_in-2.result
     (sym c.lost.ensures ∙ c.if-lost.false)
     (c.from.ensures ∙ c.payload_bytes.ensures ∙ ap payload_bytes side)
-    (c.gains_in.ensures ∙ ap (λ (s : Side). extremes (gains_in 0 s)) side)
-    (c.gains_in-2.ensures ∙ ap (λ (s : Side). extremes (gains_in 1 s)) side))
+    (c.gains_in.ensures ∙ ap (λ (s : Side). extremes (side_gains 0 s)) side)
+    (c.gains_in-2.ensures ∙ ap (λ (s : Side). extremes (side_gains 1 s)) side))

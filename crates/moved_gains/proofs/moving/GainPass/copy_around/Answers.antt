@@ -2,9 +2,10 @@
 use Rattle.std.proofs.Common.{List, refl, rules, ℕ, ◌++◌}
 use Rattle.std.proofs.lemmas.Result.{err_from_is_err_and, on_ok_weaker}
 use Rattle.moved_gains.specs.{Moving.bytes_around, declared.moving.NewTag.NewTag}
-use Rattle.outside.proofs.PassLaws.{cause_behind, causes_behind, prefix_as, prefix_piece}
-use Rattle.outside.proofs.PassLaws.{prefix_then, writes_piece, writes_then}
-use Rattle.outside.{proofs.PassedLaws.{err_at, err_by}, specs.Pass.bytes_between}
+use Rattle.outside.proofs.BufferOutputLemmas.{err_at, err_by}
+use Rattle.outside.proofs.PassLemmas.{cause_behind, causes_behind, prefix_as, prefix_piece}
+use Rattle.outside.proofs.PassLemmas.{prefix_then, writes_piece, writes_then}
+use Rattle.outside.specs.Pass.{bytes_between}
 use Rattle.moved_gains.proofs.moving.GainPass.copy_around.Goals as goal
 
 -- the new tag, and what is after what it replaces

@@ -1,11 +1,12 @@
 -- A frame that is held goes on with its gains moved.
 use Rattle.std.proofs.Common.{ap, ap₂, arith, drop, List, refl, rules, subst, sym, take, ℕ, ◌++◌}
 use Rattle.std.proofs.Common.{◌∙◌, ◌≡◌}
-use Rattle.moved_gains.proofs.BufferLaws.{held_piece, ready_after}
+use Rattle.moved_gains.proofs.BufferLemmas.{held_piece, ready_after}
 use Rattle.moved_gains.specs.Moving.{moved_bytes, moved_row_bytes, row_bytes, row_length}
-use Rattle.outside.proofs.{PassLaws.{input_holds, prefix_as}, PassedLaws.{err_at, passed_with}}
-use Rattle.outside.specs.{Files.Holds, Passed.PassedOn}
-use Rattle.side_info.{proofs.FrameLaws.side_in-take, specs.Frame.side_in}
+use Rattle.outside.proofs.BufferOutputLemmas.{err_at, passed_with}
+use Rattle.outside.{proofs.PassLemmas.{input_holds, prefix_as}, specs.BufferOutput.AppendsWaiting}
+use Rattle.outside.specs.Files.{Holds}
+use Rattle.side_info.{proofs.FrameLemmas.side_in-take, specs.Frame.side_in}
 use Rattle.moved_gains.proofs.moving.GainPass.move_frame.Goals as goal
 
 pub returns-in_err-fill : goal.returns-in_err-fill
@@ -50,7 +51,7 @@ returns g c = record {
               c.frame_length-length.ensures.length,
             )) ∙ c.requires.told file holds in
             made.2 side ∙ ap (moved_bytes steps row) is;
-        passed = subst (λ (l : List ℕ). PassedOn pass.output.now (c.args.buffers.now.waiting
+        passed = subst (λ (l : List ℕ). AppendsWaiting pass.output.now (c.args.buffers.now.waiting
             ++ made.0) l old mid) (sym made.1) (passed_with made.0 passed);
       };
   prefix = search rules;

@@ -4,16 +4,17 @@ use Rattle.std.proofs.Common.{subst, sym, ℕ, ◌++◌, ◌+◌, ◌<◌, ◌�
 use Rattle.std.proofs.lemmas.{List.{drop_all, drop_more}, Option.slice_get_read}
 use Rattle.std.proofs.lemmas.Result.{err_from_is_err_and, on_ok_weaker}
 use Rattle.frame_header.specs.Tables.{class_of}
-use Rattle.moved_gains.proofs.{CourseLaws.frame_steps, WrittenLaws.{left_at, left_behind}}
+use Rattle.moved_gains.proofs.{CourseLemmas.frame_steps, WrittenLemmas.{left_at, left_behind}}
 use Rattle.moved_gains.proofs.moving.GainPass.move_frames.Goals.{After-copy-2, After-from}
-use Rattle.moved_gains.specs.Course.{steps_in, steps_over}
-use Rattle.moved_gains.specs.Moving.{AreRowsOf, copied, moved_row_bytes, row_end, written_from}
-use Rattle.moved_gains.specs.declared.moving.NewTag.{NewTag}
-use Rattle.outside.proofs.PassLaws.{cause_behind, causes_behind, up_to_begun, up_to_held}
-use Rattle.outside.proofs.PassLaws.{up_to_last, up_to_last_prefix, up_to_more, up_to_prefix}
-use Rattle.outside.{proofs.PassedLaws.{err_at, err_by}, specs.Files.Holds}
+use Rattle.moved_gains.specs.Course.{course_steps, steps_at_offset}
+use Rattle.moved_gains.specs.Moving.{AreRowsOf, bytes_written_from, copied_bytes, moved_row_bytes}
+use Rattle.moved_gains.specs.{Moving.row_end, declared.moving.NewTag.NewTag}
+use Rattle.outside.proofs.BufferOutputLemmas.{err_at, err_by}
+use Rattle.outside.proofs.PassLemmas.{cause_behind, causes_behind, up_to_begun, up_to_held}
+use Rattle.outside.proofs.PassLemmas.{up_to_last, up_to_last_prefix, up_to_more, up_to_prefix}
+use Rattle.outside.specs.Files.{Holds}
 use Rattle.requests.specs.declared.shift.Steps.{Steps}
-use Rattle.sync_survey.{proofs.StepLaws.laid_end, specs.{Row.Row, Survey.AreLaid}}
+use Rattle.sync_survey.{proofs.StepLemmas.laid_end, specs.{Row.Row, Survey.FramesAreLaid}}
 use Rattle.moved_gains.proofs.moving.GainPass.move_frames.Given as given
 use Rattle.moved_gains.proofs.moving.GainPass.move_frames.Goals as goal
 
@@ -23,8 +24,8 @@ here : (rows : List Row) (i : ℕ) (row : Row) → i < length rows → row ≡ g
 here rows i row lt is = drop_more rows i row lt ∙ ap (λ r. r ∷ drop (i + 1) rows) (sym is)
 
 laid : (at size : ℕ) (rows : List Row) (i : ℕ) (row : Row) → drop i rows ≡ row ∷ drop (i + 1) rows
-    → AreLaid at (drop i rows) size → AreLaid at (row ∷ drop (i + 1) rows) size
-laid at size rows i row is before = subst (λ l. AreLaid at l size) is before
+    → FramesAreLaid at (drop i rows) size → FramesAreLaid at (row ∷ drop (i + 1) rows) size
+laid at size rows i row is before = subst (λ l. FramesAreLaid at l size) is before
 
 told : (file : List ℕ) (rows : List Row) (i : ℕ) (row : Row) → drop i rows ≡ row ∷ drop (i + 1) rows
     → AreRowsOf file (drop i rows) → AreRowsOf file (row ∷ drop (i + 1) rows)
@@ -33,22 +34,22 @@ told file rows i row is all = subst (AreRowsOf file) is all
 -- what is left after the bytes before the frame
 abbrev left : (ℕ → Steps) → Option NewTag → List Row → ℕ → Row → List ℕ → List ℕ
 left steps tag rows i row file = moved_row_bytes (steps row.offset) file row
-    ++ written_from steps tag file (row_end row) (drop (i + 1) rows)
+    ++ bytes_written_from steps tag file (row_end row) (drop (i + 1) rows)
 
 -- what is left from an offset on, with the bytes up to the frame by the number that its offset is
 left_up_to : (steps : ℕ → Steps) (tag : Option NewTag) (file : List ℕ) (at to : ℕ) (rows : List Row)
     (i : ℕ) (row : Row) → drop i rows ≡ row ∷ drop (i + 1) rows → to ≡ row.offset
-    → written_from steps tag file at (drop i rows)
-    ≡ copied tag file at to ++ left steps tag rows i row file
+    → bytes_written_from steps tag file at (drop i rows)
+    ≡ copied_bytes tag file at to ++ left steps tag rows i row file
 left_up_to steps tag file at to rows i row is offset = left_at steps tag file at rows i row is
-    ∙ ap (λ n. copied tag file at n ++ left steps tag rows i row file) (sym offset)
+    ∙ ap (λ n. copied_bytes tag file at n ++ left steps tag rows i row file) (sym offset)
 
 pub loop-frame-init : goal.loop-frame-init
 loop-frame-init g c = record {
   laid = c.requires.laid;
   told = c.requires.told;
   up_to = up_to_begun c.args.self.now.pass
-      (λ file. written_from (steps_over c.args.self.now.course.now c.args.rows.now)
+      (λ file. bytes_written_from (steps_at_offset c.args.self.now.course.now c.args.rows.now)
       c.args.self.now.tag file c.args.from c.args.rows.now) c.args.buffers.now.waiting
       (g.D.Folder.seen c.args.folder.now).files c.requires.ready.target;
   ready = c.requires.ready;
@@ -67,12 +68,12 @@ module _ (g : given.Over) (c : After-from g) where
   i = c.loop-frame.frame
 
   abbrev steps : ℕ → Steps
-  steps = steps_over c.args.self.now.course.now rows
+  steps = steps_at_offset c.args.self.now.course.now rows
 
   is : drop i rows ≡ row ∷ drop (i + 1) rows
   is = here rows i row (omega (arith, c.loop-frame-test.true)) c.index-rows-frame.is
 
-  all_laid : AreLaid c.loop-frame.at (row ∷ drop (i + 1) rows) c.args.self.now.pass.length
+  all_laid : FramesAreLaid c.loop-frame.at (row ∷ drop (i + 1) rows) c.args.self.now.pass.length
   all_laid =
       laid c.loop-frame.at c.args.self.now.pass.length rows i row is c.loop-frame.invariant.laid
 
@@ -80,19 +81,19 @@ module _ (g : given.Over) (c : After-from g) where
   within = laid_end (row_end row) (drop (i + 1) rows) c.args.self.now.pass.length all_laid.2
 
   abbrev up_to_row : List ℕ → List ℕ
-  up_to_row file = copied c.args.self.now.tag file c.loop-frame.at c.from.result
+  up_to_row file = copied_bytes c.args.self.now.tag file c.loop-frame.at c.from.result
 
   abbrev later : List ℕ → List ℕ
   later file = left steps c.args.self.now.tag rows i row file
 
   next : (file : List ℕ)
       → Holds (g.D.Folder.seen c.args.folder.now).files c.args.self.now.pass.input.now file
-      → written_from steps c.args.self.now.tag file c.loop-frame.at (drop i rows)
+      → bytes_written_from steps c.args.self.now.tag file c.loop-frame.at (drop i rows)
       ≡ up_to_row file ++ later file
   next file holds = left_up_to steps c.args.self.now.tag file c.loop-frame.at c.from.result rows i
       row is (c.from.ensures ∙ c.offset.ensures)
 
-  own : steps row.offset ≡ steps_in c.args.self.now.course.now i
+  own : steps row.offset ≡ course_steps c.args.self.now.course.now i
   own = frame_steps c.args.self.now.course.now rows i row
       c.requires.numbered (omega (arith, c.loop-frame-test.true)) c.index-rows-frame.is
 
@@ -144,9 +145,11 @@ returns-in_err-at g c = record {
       (up_to_row g at) (later g at) (next g at) c.in_ok-copy.ensures.written in
       err_at c.from_residual-in_err-at.result _ c.from_residual-in_err-at.ensures.1
       (up_to_prefix self.pass c.requires.ready.apart before
-      (λ file. moved_row_bytes c.steps-steps.result file row) (λ file. written_from (steps g at)
+      (λ file. moved_row_bytes c.steps-steps.result file row)
+      (λ file. bytes_written_from (steps g at)
       self.tag file (row_end row) (drop (c.loop-frame.frame + 1) c.args.rows.now))
-      (λ file holds. ap (λ s. moved_row_bytes s file row ++ written_from (steps g at) self.tag file
+      (λ file holds.
+      ap (λ s. moved_row_bytes s file row ++ bytes_written_from (steps g at) self.tag file
       (row_end row) (drop (c.loop-frame.frame + 1) c.args.rows.now))
       (own g at ∙ sym c.steps-steps.ensures)) c.in_err-at.ensures.prefix);
   done = search rules;
@@ -169,14 +172,14 @@ loop-frame-preserved g c =
     let before = up_to_more self.pass c.requires.ready.apart c.loop-frame.invariant.up_to
     (up_to_row g at) (later g at) (next g at) c.in_ok-copy.ensures.written in
     record {
-      laid = subst (λ n. AreLaid n behind self.pass.length) end_is (all_laid g at).2;
+      laid = subst (λ n. FramesAreLaid n behind self.pass.length) end_is (all_laid g at).2;
       told = λ file holds. (told file c.args.rows.now c.loop-frame.frame row (is g at)
           (c.loop-frame.invariant.told file holds)).1;
       up_to = up_to_more self.pass c.requires.ready.apart before
           (λ file. moved_row_bytes c.steps-steps.result file row)
-          (λ file. written_from (steps g at) self.tag file end behind)
+          (λ file. bytes_written_from (steps g at) self.tag file end behind)
           (λ file holds. ap₂ (λ s n. moved_row_bytes s file row
-          ++ written_from (steps g at) self.tag file n behind)
+          ++ bytes_written_from (steps g at) self.tag file n behind)
           (own g at ∙ sym c.steps-steps.ensures) end_is) c.in_ok-at.ensures.written;
       ready = c.in_ok-at.ensures.ready;
       counts = c.in_ok-at.ensures.done ∙ c.in_ok-copy.ensures.done ∙ c.loop-frame.invariant.counts;
@@ -185,14 +188,15 @@ loop-frame-preserved g c =
 -- after the last frame
 module _ (g : given.Over) (c : After-copy-2 g) where
   abbrev rest : List ℕ → List ℕ
-  rest file = copied c.args.self.now.tag file c.loop-frame.at c.args.self.now.pass.length
+  rest file = copied_bytes c.args.self.now.tag file c.loop-frame.at c.args.self.now.pass.length
 
   last : (file : List ℕ)
       → Holds (g.D.Folder.seen c.args.folder.now).files c.args.self.now.pass.input.now file
-      → written_from (steps_over c.args.self.now.course.now c.args.rows.now)
+      → bytes_written_from (steps_at_offset c.args.self.now.course.now c.args.rows.now)
       c.args.self.now.tag file c.loop-frame.at (drop c.loop-frame.frame c.args.rows.now) ≡ rest file
   last file holds =
-      left_behind (steps_over c.args.self.now.course.now c.args.rows.now) c.args.self.now.tag file
+      left_behind (steps_at_offset c.args.self.now.course.now c.args.rows.now)
+      c.args.self.now.tag file
       c.loop-frame.at c.args.self.now.pass.length (drop c.loop-frame.frame c.args.rows.now)
       (drop_all c.loop-frame.frame c.args.rows.now (omega (arith, c.loop-frame-test.false)))
       (c.requires.ready.length_is file holds)

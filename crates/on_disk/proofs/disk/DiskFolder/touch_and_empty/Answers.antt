@@ -1,6 +1,6 @@
 -- The name was noted, and no other.
 use Rattle.std.proofs.Common.{ap}
-use Rattle.on_disk.proofs.TouchedLaws.{touch_emptied, touch_failed, touch_there}
+use Rattle.on_disk.proofs.TouchedLemmas.{touch_emptied, touch_failed, touch_there}
 use Rattle.on_disk.specs.Names.{touched_in}
 use Rattle.on_disk.proofs.disk.DiskFolder.touch_and_empty.Goals as goal
 

@@ -1,6 +1,6 @@
 use Rattle.std.proofs.Common.{arith}
-use Rattle.on_disk.proofs.KnownLaws.{kept_appends}
-use Rattle.outside.proofs.PassedLaws.{on_err}
+use Rattle.on_disk.proofs.KnownLemmas.{kept_appends}
+use Rattle.outside.proofs.BufferOutputLemmas.{on_err}
 use Rattle.on_disk.proofs.stream.StdSink.pass_on.Goals as goal
 
 pub returns-in_err-count-clause-prefix : goal.returns-in_err-count-clause-prefix

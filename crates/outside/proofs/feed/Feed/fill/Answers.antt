@@ -1,6 +1,6 @@
 use Rattle.std.proofs.Common.{ap, arith, drop, length, length-drop, rules, subst, sym, take, ◌+◌}
 use Rattle.std.proofs.{Common.{◌-◌, ◌∙◌, ◌≡◌}, lemmas.List.{drop-drop, length-take-le}}
-use Rattle.outside.{proofs.FeedLaws.{fed_front, parts_same}, specs.Feed.Fed}
+use Rattle.outside.{proofs.FeedLemmas.{fed_front, parts_same}, specs.Feed.Fed}
 use Rattle.outside.proofs.feed.Feed.fill.Goals as goal
 
 pub returns-then-at-n : goal.returns-then-at-n

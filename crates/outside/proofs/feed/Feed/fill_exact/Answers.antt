@@ -1,7 +1,7 @@
 -- Where the files are told, all bytes come.
 use Rattle.std.proofs.Common.{ap, arith, drop, length, length-drop, length-take, refl, rules, ◌<◌}
 use Rattle.std.proofs.Common.{◌≡◌}
-use Rattle.outside.proofs.FilesLaws.{nothing_told}
+use Rattle.outside.proofs.FilesLemmas.{nothing_told}
 use Rattle.outside.proofs.feed.Feed.fill_exact.Goals as goal
 
 pub returns-in-Ok : goal.returns-in-Ok

@@ -1,6 +1,6 @@
 use Rattle.std.proofs.Common.{ap, arith, drop, length, length-drop, List, min, rules, subst, sym}
 use Rattle.std.proofs.{Common.{take, ℕ, ◌++◌, ◌-◌, ◌∙◌, ◌≡◌}, lemmas.List.length-take-le}
-use Rattle.outside.proofs.FeedLaws.{fed_by, fed_front, fills, given_is, within_filled}
+use Rattle.outside.proofs.FeedLemmas.{fed_by, fed_front, fills, given_is, within_filled}
 use Rattle.outside.{proofs.feed.Feed.refill.Given.Over, specs.{Feed.Fed, Files.Holds}}
 use Rattle.outside.proofs.feed.Feed.refill.Goals as goal
 

@@ -1,13 +1,13 @@
 -- A name that wasn't there was created.
 use Rattle.std.proofs.{Common.{None, subst, sym, ◌∙◌, ◌≡◌}, lemmas.Result.on_ok_weaker}
-use Rattle.outside.proofs.{FilesLaws.emptied_there, ShortLaws.{created-new, none-copied}}
-use Rattle.outside.specs.{Files.{IsThere, Told}, Memory.contents_of}
+use Rattle.outside.proofs.{FilesLemmas.emptied_there, ShortLemmas.{created-new, none-copied}}
+use Rattle.outside.specs.{Files.{IsFileThere, Told}, Memory.contents_of}
 use Rattle.outside.proofs.memory.short.create_missing.Goals as goal
 
 pub returns-clause-there : goal.returns-clause-there
 returns-clause-there c =
     let name = c.args.name.now in
-    on_ok_weaker c.create.result (λ made. subst (λ f. IsThere f name) (sym made)
+    on_ok_weaker c.create.result (λ made. subst (λ f. IsFileThere f name) (sym made)
     (emptied_there (Told (contents_of c.args.folder.now)) name)) c.create.ensures.answer.created
 
 pub returns-clause-made : goal.returns-clause-made

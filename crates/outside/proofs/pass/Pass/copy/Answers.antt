@@ -1,6 +1,6 @@
 -- One piece more goes on.
 use Rattle.std.proofs.Common.{arith}
-use Rattle.outside.proofs.PassLaws.{copies_begun, copies_failed, copies_more}
+use Rattle.outside.proofs.PassLemmas.{copies_begun, copies_failed, copies_more}
 use Rattle.outside.proofs.pass.Pass.copy.Goals as goal
 
 pub loop-at-init : goal.loop-at-init

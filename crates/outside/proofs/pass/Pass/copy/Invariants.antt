@@ -1,6 +1,6 @@
 -- The bytes up to `at` went on.
 use Rattle.std.proofs.Common.{◌-◌}
-use Rattle.outside.proofs.PassLaws.{CopiesUpTo}
+use Rattle.outside.proofs.PassLemmas.{CopiesUpTo}
 use Rattle.outside.proofs.pass.Pass.copy.Given as goal
 
 abbrev pub invariant-loop-at : goal.invariant-loop-at

@@ -1,7 +1,7 @@
 use Rattle.std.proofs.Common.{rules}
 -- A piece that was read goes on, and all is ready for the next.
 use Rattle.std.proofs.lemmas.Result.{on_ok_weaker}
-use Rattle.outside.proofs.{PassLaws.{passed_ready, prefix_nothing}, PassedLaws.err_at}
+use Rattle.outside.proofs.{BufferOutputLemmas.err_at, PassLemmas.{passed_ready, prefix_nothing}}
 use Rattle.outside.specs.Pass.{bytes_at}
 use Rattle.outside.proofs.pass.Pass.copy_piece.Goals as goal
 

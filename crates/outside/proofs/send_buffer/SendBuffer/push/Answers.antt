@@ -1,5 +1,5 @@
 -- A piece that fits waits, and nothing is sent.
-use Rattle.outside.proofs.SentLaws.{sent_none}
+use Rattle.outside.proofs.SentLemmas.{sent_none}
 use Rattle.outside.proofs.send_buffer.SendBuffer.push.Goals as goal
 
 pub returns-then-piece-free-clause-passed : goal.returns-then-piece-free-clause-passed

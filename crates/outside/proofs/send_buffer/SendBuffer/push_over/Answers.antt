@@ -1,6 +1,6 @@
 -- A long piece is sent after what waited.
-use Rattle.outside.proofs.PassedLaws.{on_err}
-use Rattle.outside.proofs.SentLaws.{sent_over, sent_over_prefix, sent_prefix_of}
+use Rattle.outside.proofs.BufferOutputLemmas.{on_err}
+use Rattle.outside.proofs.SentLemmas.{sent_over, sent_over_prefix, sent_prefix_of}
 use Rattle.outside.proofs.send_buffer.SendBuffer.push_over.Goals as goal
 
 pub returns-in_err-finish-clause-prefix : goal.returns-in_err-finish-clause-prefix

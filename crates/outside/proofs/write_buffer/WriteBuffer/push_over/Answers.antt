@@ -1,9 +1,9 @@
 use Rattle.std.proofs.Common.{ap, drop, length, List, rules, subst, sym, take, ℕ, ◌++◌, ◌+◌, ◌-◌}
 use Rattle.std.proofs.{Common.{◌∙◌, ◌≡◌}, lemmas.List.drop-drop}
-use Rattle.outside.proofs.FilesLaws.{appended_there}
-use Rattle.outside.proofs.PassedLaws.{on_err, passed_front, passed_then, passed_then_prefix}
-use Rattle.outside.proofs.{PassedLaws.{passed_waiting, prefix_waiting}, Pieces.part_from}
-use Rattle.outside.specs.{Files.IsThere, Passed.PassedOn}
+use Rattle.outside.proofs.BufferOutputLemmas.{on_err, passed_front, passed_then, passed_then_prefix}
+use Rattle.outside.proofs.BufferOutputLemmas.{passed_waiting, prefix_waiting}
+use Rattle.outside.proofs.{FilesLemmas.appended_there, PieceLemmas.part_from}
+use Rattle.outside.specs.{BufferOutput.AppendsWaiting, Files.IsFileThere}
 use Rattle.outside.proofs.write_buffer.WriteBuffer.push_over.Goals as goal
 
 pub returns-in_err-finish : goal.returns-in_err-finish
@@ -21,7 +21,7 @@ returns-in_err-finish g c = record {
 }
 
 pub write_whole-requires : goal.write_whole-requires
-write_whole-requires g c = subst (λ f. IsThere f c.args.name.now)
+write_whole-requires g c = subst (λ f. IsFileThere f c.args.name.now)
     (sym c.in_ok-finish.ensures.appended) (appended_there _ c.args.name.now _)
 
 pub returns-in_err-done : goal.returns-in_err-done
@@ -53,7 +53,7 @@ returns g c = record {
       ∙ part_from (free + done) piece
       ∙ sym (drop-drop done free piece) in
       subst
-      (λ (after : List ℕ). PassedOn c.args.name.now (c.args.self.now ++ piece) after
+      (λ (after : List ℕ). AppendsWaiting c.args.name.now (c.args.self.now ++ piece) after
       (g.D.Folder.seen c.args.folder.now).files (g.D.Folder.seen c.write_whole.new.folder).files)
       (sym rest_is)
       (passed_then

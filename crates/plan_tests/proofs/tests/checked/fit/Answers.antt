@@ -1,6 +1,6 @@
 -- One frame more, and the last.
 use Rattle.std.proofs.Common.{arith}
-use Rattle.slot_plan.proofs.CheckedLaws.{fit-all, fit-next}
+use Rattle.slot_plan.proofs.CheckedLemmas.{fit-all, fit-next}
 use Rattle.plan_tests.proofs.tests.checked.fit.Goals as goal
 
 pub loop-need-preserved : goal.loop-need-preserved

@@ -1,6 +1,6 @@
 -- Where the frames from here on fit, all do.
 use Rattle.std.proofs.Common.{drop, map, ◌≤◌}
-use Rattle.slot_plan.{proofs.ReserveLaws.AllFit, specs.Parts.own_frame}
+use Rattle.slot_plan.{proofs.ReserveLemmas.AllFit, specs.Parts.own_frame}
 use Rattle.plan_tests.proofs.tests.checked.fit.Given as goal
 
 abbrev pub invariant-loop-need : goal.invariant-loop-need

@@ -1,5 +1,5 @@
 -- Frames of one class that fit behind so many bytes fit behind more.
-use Rattle.slot_plan.proofs.CheckedLaws.{behind-free, behind-window, joins-window}
+use Rattle.slot_plan.proofs.CheckedLemmas.{behind-free, behind-window, joins-window}
 use Rattle.plan_tests.proofs.tests.checked.fit_behind.Goals as goal
 
 pub returns-clause-free : goal.returns-clause-free

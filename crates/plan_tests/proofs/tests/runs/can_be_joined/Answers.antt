@@ -1,6 +1,6 @@
 -- All frames are of the class of the first.
 use Rattle.std.proofs.Common.{arith, rules, subst, sym, ◌∙◌}
-use Rattle.slot_plan.{proofs.PartLaws.one-class, specs.Behind.FitsBehind}
+use Rattle.slot_plan.{proofs.PartLemmas.one-class, specs.FreeBytes.FitsBehind}
 use Rattle.plan_tests.proofs.tests.runs.can_be_joined.Goals as goal
 
 pub returns : goal.returns

@@ -1,8 +1,8 @@
 -- The table has what no bytes want, and the largest area is one of the menu's.
 use Rattle.std.proofs.Common.{ap, arith, length, subst, sym, ◌<◌}
 use Rattle.frame_header.specs.Tables.{class_of, overhead_of}
-use Rattle.rate_plan.proofs.FitLaws.{has-greatest}
-use Rattle.slot_plan.proofs.TableLaws.{table-within}
+use Rattle.rate_plan.proofs.FitLemmas.{has-greatest}
+use Rattle.slot_plan.proofs.TableLemmas.{table-within}
 use Rattle.rate_plan.proofs.menu.MenuOffer.largest_area_for.Goals as goal
 
 pub largest_area-requires : goal.largest_area-requires

@@ -1,7 +1,8 @@
 -- The table has what the largest slot has.
 use Rattle.std.proofs.Common.{ap, length, subst, sym, ◌+◌, ◌<◌, ◌≤◌}
 use Rattle.frame_header.specs.Tables.{overhead_of}
-use Rattle.slot_plan.{proofs.TableLaws.table-within, specs.{Parts.areas_with, Reserve.greatest}}
+use Rattle.slot_plan.{proofs.TableLemmas.table-within, specs.Parts.slot_areas}
+use Rattle.slot_plan.specs.Reserve.{greatest_number}
 use Rattle.rate_plan.proofs.menu.MenuOffer.least_slot_for.Goals as goal
 
 pub least_slot-requires : goal.least_slot-requires
@@ -9,7 +10,7 @@ least_slot-requires c =
     let table = c.args.table.now in
     let menu = c.args.self.now.slots.now in
     let protected = c.args.header.now.protected in
-    let enough = subst (λ k. c.args.wanted ≤ greatest (areas_with k protected menu))
+    let enough = subst (λ k. c.args.wanted ≤ greatest_number (slot_areas k protected menu))
     (sym c.requires.table.class_is) c.requires.enough in
     let within = table-within table menu protected c.args.wanted c.requires.table.of_slots enough in
     record {

@@ -1,6 +1,6 @@
 -- The byte's first bits, and zeros.
 use Rattle.std.proofs.Common.{arith, length-append, ◌++◌, ◌-◌, ◌<◌}
-use Rattle.reservoir.proofs.WindowLaws.{last-packed, none-packed}
+use Rattle.reservoir.proofs.WindowLemmas.{last-packed, none-packed}
 use Rattle.reservoir.proofs.window.Window.last_byte.Goals as goal
 
 pub returns-then-bits-eq0-clause-packed : goal.returns-then-bits-eq0-clause-packed

@@ -1,9 +1,9 @@
 -- Whole bytes of the main data, and the bits after them.
 use Rattle.std.proofs.Common.{ap, append_assoc, arith, drop, length, length-append, List, refl}
 use Rattle.std.proofs.Common.{subst, sym, take, ℕ, [], ◌%◌, ◌++◌, ◌+◌, ◌-◌, ◌/◌, ◌∙◌, ◌≡◌}
-use Rattle.bit_fields.{proofs.BitsLaws.AreBelow-append, specs.Bits.AreBytes}
-use Rattle.reservoir.proofs.WindowLaws.{packed, part_past}
-use Rattle.reservoir.specs.Window.{ArePacked, byte_of, main_bits}
+use Rattle.bit_fields.{proofs.BitsLemmas.AreBelow-append, specs.Bits.AreBytes}
+use Rattle.reservoir.proofs.WindowLemmas.{packed, part_past}
+use Rattle.reservoir.specs.Window.{AreBitsPacked, byte_of, main_bits}
 use Rattle.reservoir.proofs.window.Window.main_data_with.Goals as goal
 
 pub returns-clause-payload : goal.returns-clause-payload
@@ -27,7 +27,8 @@ returns-clause-payload c = λ main last_of.
     (omega (arith, c.min-passed.ensures, long)) (omega (arith, c.min-first.ensures, long))
     (c.part.ensures.part ∙ ap (λ (xs : List ℕ). take c.min-first.result
     (drop c.min-passed.result xs)) (c.as_slices.ensures ∙ c.self.view_is)) own in
-    let done : ArePacked (((parts.0.now ++ parts.1.now) ++ (areas.0.now ++ areas.1.now)) ++ last) n
+    let done : AreBitsPacked
+    (((parts.0.now ++ parts.1.now) ++ (areas.0.now ++ areas.1.now)) ++ last) n
     (main_bits (main ++ more) (length main + length c.args.before.now - c.args.begin) n) =
     packed held main more ((parts.0.now ++ parts.1.now) ++ (areas.0.now ++ areas.1.now)) last from
     (length main + length c.args.before.now - c.args.begin) (n / 8) (n % 8) n last_of
@@ -48,7 +49,7 @@ returns-clause-payload c = λ main last_of.
     ∙ ap (λ (xs : List ℕ). parts.0.now ++ (parts.1.now ++ xs))
     (append_assoc areas.0.now areas.1.now last)
     ∙ sym c.new.ensures in
-    subst (λ (xs : List ℕ). ArePacked xs n
+    subst (λ (xs : List ℕ). AreBitsPacked xs n
     (main_bits (main ++ more) (length main + length c.args.before.now - c.args.begin) n)) order done
 
 pub returns-clause-bytes : goal.returns-clause-bytes

@@ -1,7 +1,7 @@
 -- The last bytes of all, with an area more.
 use Rattle.std.proofs.Common.{ap, ap₂, ◌++◌, ◌∙◌}
 use Rattle.circular_buffer.specs.Buffer.{keep_last}
-use Rattle.reservoir.proofs.WindowLaws.{window-more}
+use Rattle.reservoir.proofs.WindowLemmas.{window-more}
 use Rattle.reservoir.proofs.window.Window.push_area.Goals as goal
 
 pub returns-clause-main : goal.returns-clause-main

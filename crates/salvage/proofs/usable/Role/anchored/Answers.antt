@@ -1,7 +1,7 @@
 -- The anchored frame, if it is usable.
 use Rattle.std.proofs.Common.{sym, ◌∙◌}
-use Rattle.salvage.proofs.SearchLaws.{header_of}
-use Rattle.salvage.proofs.UsableLaws.{frame_anchored, frame_refused, none_anchored, room_shown}
+use Rattle.salvage.proofs.SearchLemmas.{header_of}
+use Rattle.salvage.proofs.UsableLemmas.{frame_anchored, frame_refused, none_anchored, room_shown}
 use Rattle.salvage.proofs.usable.Role.anchored.Goals as goal
 
 pub returns-in_default-clause-frame : goal.returns-in_default-clause-frame

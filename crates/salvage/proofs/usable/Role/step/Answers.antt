@@ -1,8 +1,8 @@
 -- The item that is passed, if it is read.
 use Rattle.std.proofs.Common.{sym, ◌∙◌}
-use Rattle.salvage.proofs.SearchLaws.{header_of}
-use Rattle.salvage.proofs.UsableLaws.{item_refused, item_taken, none_read, step_whole}
-use Rattle.sync_survey.proofs.StepLaws.{shown_room}
+use Rattle.salvage.proofs.SearchLemmas.{header_of}
+use Rattle.salvage.proofs.UsableLemmas.{item_refused, item_taken, none_read, step_whole}
+use Rattle.sync_survey.proofs.StepLemmas.{shown_room}
 use Rattle.salvage.proofs.usable.Role.step.Goals as goal
 
 pub returns-in_default-clause-read : goal.returns-in_default-clause-read

@@ -1,8 +1,8 @@
 -- The slot in which the first frame joins, as `joins` answers it.
 use Rattle.std.proofs.Common.{length, rules, subst, ◌≡◌}
 use Rattle.frame_header.specs.{Fields.IsClass, Tables.window_of}
-use Rattle.seam_plan.proofs.JoinLaws.{join-fit, joining-empty, joins-none, joins-some}
-use Rattle.slot_plan.specs.{Behind.IsJoin, Parts.AreOfClass}
+use Rattle.seam_plan.proofs.JoinLemmas.{join-fit, joining-empty, joins-none, joins-some}
+use Rattle.slot_plan.specs.{FreeBytes.IsJoinSlot, Parts.AreNeedsOfClass}
 use Rattle.seam_plan.proofs.run.Run.joining.Goals as goal
 
 pub returns-then-is_empty-clause-joining : goal.returns-then-is_empty-clause-joining
@@ -12,22 +12,23 @@ returns-then-is_empty-clause-joining c = λ class frames rest places before is n
 
 pub returns-in_default-clause-joining : goal.returns-in_default-clause-joining
 returns-in_default-clause-joining c = λ class frames rest places before is needs.
-    let same = subst (λ k. AreOfClass k c.args.needs.now) is.of_class c.requires.same in
+    let same = subst (λ k. AreNeedsOfClass k c.args.needs.now) is.of_class c.requires.same in
     joins-none class c.args.seam frames c.args.self.now.left c.args.needs.now same
     (subst IsClass is.of_class c.requires.within.known) is.left rest needs
-    (subst (IsJoin (window_of class.version) c.args.self.now.left c.args.needs.now)
+    (subst (IsJoinSlot (window_of class.version) c.args.self.now.left c.args.needs.now)
     c.in_default.is (c.joins.ensures class same))
 
 pub returns-clause-joining : goal.returns-clause-joining
 returns-clause-joining c = λ class frames rest places before is needs.
-    let same = subst (λ k. AreOfClass k c.args.needs.now) is.of_class c.requires.same in
+    let same = subst (λ k. AreNeedsOfClass k c.args.needs.now) is.of_class c.requires.same in
     joins-some class c.args.seam frames c.args.self.now.left c.args.needs.now same
     (subst IsClass is.of_class c.requires.within.known) is.left rest c.in-Some.slot needs
-    (subst (IsJoin (window_of class.version) c.args.self.now.left c.args.needs.now)
+    (subst (IsJoinSlot (window_of class.version) c.args.self.now.left c.args.needs.now)
     c.in-Some.is (c.joins.ensures class same))
 
 pub returns-clause-fit : goal.returns-clause-fit
 returns-clause-fit c =
     join-fit c.args.self.now.class c.args.self.now.left c.args.needs.now c.in-Some.slot
-    (subst (IsJoin (window_of c.args.self.now.class.version) c.args.self.now.left c.args.needs.now)
+    (subst
+    (IsJoinSlot (window_of c.args.self.now.class.version) c.args.self.now.left c.args.needs.now)
     c.in-Some.is (c.joins.ensures c.args.self.now.class c.requires.same))

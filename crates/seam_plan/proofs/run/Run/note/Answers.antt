@@ -1,6 +1,6 @@
 -- One place more, and that the last seven are enough.
 use Rattle.std.proofs.Common.{arith, subst, ◌≡◌}
-use Rattle.seam_plan.proofs.PlaceLaws.{note-all, note-from, note-slid, Notes}
+use Rattle.seam_plan.proofs.PlaceLemmas.{note-all, note-from, note-slid, Notes}
 use Rattle.seam_plan.proofs.run.Run.note.Goals as goal
 
 pub loop-frame-preserved : goal.loop-frame-preserved

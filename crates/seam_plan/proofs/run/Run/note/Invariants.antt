@@ -1,6 +1,6 @@
 -- The places so far, behind those that were there.
 use Rattle.std.proofs.Common.{◌≡◌}
-use Rattle.seam_plan.proofs.PlaceLaws.{Notes}
+use Rattle.seam_plan.proofs.PlaceLemmas.{Notes}
 use Rattle.seam_plan.proofs.run.Run.note.Given as goal
 
 abbrev pub invariant-loop-frame : goal.invariant-loop-frame

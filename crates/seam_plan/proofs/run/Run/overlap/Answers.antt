@@ -1,7 +1,7 @@
 -- The frames that are shared are of the input, and few of them are to be alike.
 use Rattle.std.{proofs.Common.{length, rules, Some, subst, ◌≡◌, ◌≤◌}, specs.Prelude.IfSome}
 use Rattle.exact_span.specs.PlayedPositions.{AreCounted, longest_rest}
-use Rattle.seam_plan.proofs.RunLaws.{can-follow}
+use Rattle.seam_plan.proofs.RunLemmas.{can-follow}
 use Rattle.seam_plan.proofs.run.Run.overlap.Goals as goal
 
 pub returns-clause-can : goal.returns-clause-can

@@ -2,19 +2,19 @@
 use Rattle.std.proofs.Common.{ap, ap₂, arith, length, List, subst, sym, take, ℕ, ◌∙◌, ◌≡◌}
 use Rattle.bit_fields.specs.{Bits.bits, Groups.group}
 use Rattle.frame_header.specs.{Fields.ClassFields, Tables.{class_of, side_size_of}}
-use Rattle.side_info.proofs.FrontLaws.{begin-read, fits, side_read, written, written_size}
+use Rattle.side_info.proofs.FrontLemmas.{begin-read, fits, side_read, written, written_size}
 use Rattle.side_info.specs.FrameFields.{FrameFields}
-use Rattle.side_info.specs.FrontBytes.{AreWritten, begin_width, fields_of, header_of, own_side}
+use Rattle.side_info.specs.FrontBytes.{AreFrontBytes, begin_width, front_view, header_of, own_side}
 use Rattle.side_info.specs.{Side.SideFits, declared.frame_front.FrameFront.TheInside.Inside}
 use Rattle.side_info.proofs.frame_front.FrameFront.begin_in.Goals as goal
 
 -- the class is that of the bytes
-class_is : (a : Inside) (f : FrameFields) (k : ClassFields) → fields_of a ≡ f
+class_is : (a : Inside) (f : FrameFields) (k : ClassFields) → front_view a ≡ f
     → k ≡ class_of f.header → k ≡ class_of (header_of a)
 class_is a f k view is = is ∙ ap (λ (g : FrameFields). class_of g.header) (sym view)
 
 -- so many bytes are the side information
-long : (a : Inside) → AreWritten a → (n : ℕ) → n ≡ side_size_of (class_of (header_of a))
+long : (a : Inside) → AreFrontBytes a → (n : ℕ) → n ≡ side_size_of (class_of (header_of a))
     → length (take n a.side) ≡ n
 long a is n size = subst (λ m. length (take m a.side) ≡ m) (sym size) (written_size a is)
 

@@ -1,9 +1,9 @@
 -- Version, frequency and mode are in bits of the header's four bytes.
 use Rattle.std.proofs.Common.{ap, cond, subst, sym, ℕ, ◌==◌, ◌∙◌, ◌≡◌}
-use Rattle.frame_header.proofs.HeaderLaws.{IsClass-class_of}
+use Rattle.frame_header.proofs.HeaderLemmas.{IsClass-class_of}
 use Rattle.frame_header.specs.{Fields.{ClassFields, IsClass, IsHeader}, Tables.class_of}
 use Rattle.frame_header.specs.declared.version.Version.{Version, TheVariants.{One, Two, TwoFive}}
-use Rattle.side_info.proofs.FrontLaws.{class_read}
+use Rattle.side_info.proofs.FrontLemmas.{class_read}
 use Rattle.side_info.proofs.frame_front.FrameFront.class.Goals.{After-channels_of}
 use Rattle.side_info.specs.{FrameFields.FrameFields, FrontBytes.header_of}
 use Rattle.side_info.proofs.frame_front.FrameFront.class.Goals as goal

@@ -1,6 +1,6 @@
 -- The four bytes are those of the header.
 use Rattle.std.{proofs.Common.{ap, sym, ◌∙◌}, specs.Result.is_ok}
-use Rattle.side_info.proofs.FrontLaws.{header_read, written}
+use Rattle.side_info.proofs.FrontLemmas.{header_read, written}
 use Rattle.side_info.proofs.frame_front.FrameFront.header.Goals as goal
 
 pub unwrap-requires : goal.unwrap-requires

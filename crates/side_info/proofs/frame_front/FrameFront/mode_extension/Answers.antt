@@ -1,6 +1,6 @@
 -- The mode extension is in bits of the header's four bytes.
 use Rattle.std.proofs.Common.{ap, sym, ◌∙◌}
-use Rattle.side_info.proofs.FrontLaws.{mode_extension_read}
+use Rattle.side_info.proofs.FrontLemmas.{mode_extension_read}
 use Rattle.side_info.proofs.frame_front.FrameFront.mode_extension.Goals as goal
 
 pub returns-clause-value : goal.returns-clause-value

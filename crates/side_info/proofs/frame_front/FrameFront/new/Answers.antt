@@ -1,12 +1,13 @@
 -- The bytes that are written are those of the fields.
 use Rattle.std.proofs.Common.{ap, length, List, subst, ℕ, ◌∙◌, ◌≡◌}
-use Rattle.bit_fields.{proofs.BitsLaws.AreBytes-bytes, specs.Bits.{AreBytes, bits, bytes}}
-use Rattle.frame_header.{proofs.HeaderLaws.IsHeader-header_at, specs.Fields.IsHeader}
+use Rattle.bit_fields.{proofs.BitsLemmas.AreBytes-bytes, specs.Bits.{AreBytes, bits, bytes}}
+use Rattle.frame_header.{proofs.HeaderLemmas.IsHeader-header_at, specs.Fields.IsHeader}
 use Rattle.frame_header.specs.Tables.{class_of, side_size_of}
-use Rattle.side_info.proofs.{FrontLaws.{are_written, written_fields}, SideLaws.AreBits-side_bits}
+use Rattle.side_info.proofs.FrontLemmas.{are_written, written_fields}
+use Rattle.side_info.proofs.SideLemmas.{AreBits-side_bits}
 use Rattle.side_info.proofs.frame_front.FrameFront.new.Goals.{After-room_of}
-use Rattle.side_info.specs.{FrameFields.FrameFields, FrontBytes.padded, Side.{side_at, side_bits}}
-use Rattle.side_info.specs.declared.side.Side.{Side}
+use Rattle.side_info.specs.{FrameFields.FrameFields, FrontBytes.padded_side}
+use Rattle.side_info.specs.{Side.{side_at, side_bits}, declared.side.Side.Side}
 use Rattle.side_info.proofs.frame_front.FrameFront.new.Goals as goal
 
 known : (c : After-room_of) → IsHeader c.args.header.now
@@ -25,9 +26,9 @@ unfolding part
 all c = AreBytes-bytes (side_bits (class_of c.args.header.now) c.args.side.now)
     (AreBits-side_bits (class_of c.args.header.now) c.args.side.now)
 
-room : (c : After-room_of) → c.room_of.result ≡ padded (part c)
+room : (c : After-room_of) → c.room_of.result ≡ padded_side (part c)
 unfolding part
-room c = subst (λ d. c.room_of.result ≡ padded (bytes (side_bits d c.args.side.now)))
+room c = subst (λ d. c.room_of.result ≡ padded_side (bytes (side_bits d c.args.side.now)))
     c.class.ensures c.room_of.ensures.room
 
 back : (c : After-room_of) → side_at (class_of c.args.header.now) (bits (part c)) ≡ c.args.side.now

@@ -1,16 +1,16 @@
 -- The header, and the check word after it.
 use Rattle.std.proofs.Common.{drop, rules, sym, ◌∙◌}
-use Rattle.side_info.proofs.FrontLaws.{head-alone, head-word}
+use Rattle.side_info.proofs.FrontLemmas.{head-alone, head-word}
 use Rattle.side_info.proofs.frame_front.FrameFront.put_head.Goals as goal
 
 pub returns-then-protected : goal.returns-then-protected
 returns-then-protected c = record {
   place = search rules;
   head = let f = c.args.self.now in
-      head-word f.header f.side c.right_word.result c.copy_from_slice.new.self c.args.room.now
-      c.put_word.new.frame (c.copy_from_slice.ensures.after ∙ c.four.ensures)
-      (sym c.protected.ensures ∙ c.if-protected.true) c.right_word.ensures
-      c.put_word.ensures;
+      head-word f.header f.side c.right_crc.result c.copy_from_slice.new.self c.args.room.now
+      c.put_crc.new.frame (c.copy_from_slice.ensures.after ∙ c.four.ensures)
+      (sym c.protected.ensures ∙ c.if-protected.true) c.right_crc.ensures
+      c.put_crc.ensures;
 }
 
 pub returns-else-protected : goal.returns-else-protected

@@ -3,7 +3,7 @@ use Rattle.std.proofs.Common.{ap, arith, drop, length, List, subst, take, â„•, â
 use Rattle.std.proofs.lemmas.List.{length-take-le}
 use Rattle.bit_fields.specs.Bits.{bytes}
 use Rattle.frame_header.specs.Tables.{class_of, side_size_of}
-use Rattle.side_info.proofs.FrontLaws.{part-size, put-first, room-is}
+use Rattle.side_info.proofs.FrontLemmas.{part-size, put-first, room-is}
 use Rattle.side_info.specs.{FrameFields.FrameFields, Side.side_bits}
 use Rattle.side_info.proofs.frame_front.FrameFront.put_room.Goals as goal
 

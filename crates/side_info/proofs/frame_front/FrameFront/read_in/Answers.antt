@@ -1,16 +1,16 @@
 -- The first four bytes are the header's, and the part is the side information.
 use Rattle.std.proofs.Common.{ap, arith, drop, length, length-drop, List, subst, sym, take, ℕ, ◌∙◌}
 use Rattle.std.proofs.{Common.{◌≡◌, ◌≤◌}, lemmas.List.length-take-le}
-use Rattle.bit_fields.{proofs.BitsLaws.AreBits-bits, specs.Bits.bits}
-use Rattle.frame_header.proofs.HeaderLaws.{header_bits-header_at, IsClass-class_of}
-use Rattle.frame_header.proofs.HeaderLaws.{IsHeader-header_at}
+use Rattle.bit_fields.{proofs.BitsLemmas.AreBits-bits, specs.Bits.bits}
+use Rattle.frame_header.proofs.HeaderLemmas.{header_bits-header_at, IsClass-class_of}
+use Rattle.frame_header.proofs.HeaderLemmas.{IsHeader-header_at}
 use Rattle.frame_header.specs.{Fields.{HeaderFields, IsHeader}, HeaderBits.header_bits}
 use Rattle.frame_header.specs.Tables.{class_of, overhead_of, side_size_of}
-use Rattle.side_info.proofs.FrameLaws.{overhead-is, overhead-least}
-use Rattle.side_info.proofs.{FrontLaws.{are_written, written_fields}, SideLaws.SideFits-side_at}
+use Rattle.side_info.proofs.FrameLemmas.{overhead-is, overhead-least}
+use Rattle.side_info.proofs.{FrontLemmas.{are_written, written_fields}, SideLemmas.SideFits-side_at}
 use Rattle.side_info.proofs.frame_front.FrameFront.read_in.Goals.{After-room_of_frame}
 use Rattle.side_info.specs.{Frame.{side_in, side_part, side_place}, FrameFields.FrameFields}
-use Rattle.side_info.specs.{FrontBytes.fields_of, Side.SideFits}
+use Rattle.side_info.specs.{FrontBytes.front_view, Side.SideFits}
 use Rattle.side_info.proofs.frame_front.FrameFront.read_in.Goals as goal
 
 least : (h : HeaderFields) (frame : List ℕ) → overhead_of (class_of h) h.protected ≤ length frame
@@ -36,7 +36,7 @@ size h frame room = length-take-le (side_size_of (class_of h)) (drop (side_place
     (simp length-drop (omega (arith, room, overhead-is (class_of h) h.protected)))
 
 fields : (c : After-room_of_frame)
-    → fields_of (record { header = c.first_four.result; side = c.room_of_frame.result })
+    → front_view (record { header = c.first_four.result; side = c.room_of_frame.result })
     ≡ record { header = c.args.header.now; side = side_in c.args.header.now c.args.frame.now }
 unfolding side_in
 fields c = written_fields c.args.header.now (known c) c.first_four.result

@@ -3,11 +3,11 @@ use Rattle.std.proofs.Common.{ap, ap₂, arith, drop, length, List, subst, sym, 
 use Rattle.std.proofs.Common.{◌^◌, ◌∙◌, ◌≡◌}
 use Rattle.bit_fields.specs.Bits.{bits, bits_of}
 use Rattle.frame_header.specs.Tables.{class_of, side_size_of}
-use Rattle.side_info.proofs.FrontLaws.{begin_width-is, fits, front_with, shaped, side_at-begin}
-use Rattle.side_info.proofs.FrontLaws.{side_fields-written, side_written, written, written_size}
+use Rattle.side_info.proofs.FrontLemmas.{begin_width-is, fits, front_with, shaped, side_at-begin}
+use Rattle.side_info.proofs.FrontLemmas.{side_fields-written, side_written, written, written_size}
 use Rattle.side_info.proofs.frame_front.FrameFront.set_begin.Goals.{After-side_size-size}
 use Rattle.side_info.specs.FrameFields.{FrameFields}
-use Rattle.side_info.specs.FrontBytes.{AreWritten, begin_width, fields_of, header_of, own_side}
+use Rattle.side_info.specs.FrontBytes.{AreFrontBytes, begin_width, front_view, header_of, own_side}
 use Rattle.side_info.specs.{FrontBytes.side_of, Side.{front_width, side_at}}
 use Rattle.side_info.specs.declared.side.Side.{Side}
 use Rattle.side_info.proofs.frame_front.FrameFront.set_begin.Goals as goal
@@ -64,7 +64,7 @@ pub invariant_of-self : goal.invariant_of-self
 invariant_of-self c =
     let at = (goal.at.invariant_of-self c).After-side_size-size in
     let part = c.put_begin.new.part in
-    subst AreWritten (counted at part) (side_written c.self.inside c.self.invariant part
+    subst AreFrontBytes (counted at part) (side_written c.self.inside c.self.invariant part
     (part_size at part (omega (arith, c.put_begin.auto.part))) c.put_begin.ensures.octets)
 
 pub returns : goal.returns
@@ -84,7 +84,7 @@ returns c =
     side_at-begin d (written a c.self.invariant).class (side_of a)
     c.args.begin (bits (take (side_size_of d) a.side)) (bits part) (shaped a)
     (fits a c.self.invariant) (small at) (written a c.self.invariant).side first in
-    ap fields_of (sym (counted at part))
+    ap front_view (sym (counted at part))
     ∙ side_fields-written a c.self.invariant part
     (part_size at part (omega (arith, c.put_begin.auto.part))) c.put_begin.ensures.octets
     ∙ ap {A = Side} {B = FrameFields} (λ s. record { header = header_of a; side = s }) side

@@ -2,7 +2,7 @@
 use Rattle.std.proofs.Common.{ap, refl, ◌∙◌, ◌≡◌}
 use Rattle.bit_fields.specs.Bits.{bits}
 use Rattle.frame_header.specs.{Fields.{HeaderFields, IsHeader, SlotFields}, HeaderBits.header_bits}
-use Rattle.side_info.proofs.FrontLaws.{header_fields-written, header_written, written}
+use Rattle.side_info.proofs.FrontLemmas.{header_fields-written, header_written, written}
 use Rattle.side_info.proofs.frame_front.FrameFront.set_slot.Goals.{After-put_slot}
 use Rattle.side_info.specs.{FrameFields.FrameFields, FrontBytes.header_of}
 use Rattle.side_info.proofs.frame_front.FrameFront.set_slot.Goals as goal

@@ -2,7 +2,7 @@
 use Rattle.std.proofs.Common.{ap, ap₂, subst, sym, take, ◌∙◌, ◌≡◌}
 use Rattle.bit_fields.specs.Bits.{bits}
 use Rattle.frame_header.specs.Tables.{class_of, side_size_of}
-use Rattle.side_info.{proofs.FrontLaws.{fits, side_read}, specs.FrontBytes.{header_of, own_side}}
+use Rattle.side_info.{proofs.FrontLemmas.{fits, side_read}, specs.FrontBytes.{header_of, own_side}}
 use Rattle.side_info.specs.Side.{side_at, SideFits}
 use Rattle.side_info.proofs.frame_front.FrameFront.side_in.Goals as goal
 

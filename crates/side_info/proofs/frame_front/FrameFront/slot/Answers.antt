@@ -1,7 +1,7 @@
 -- The slot is in bits of the header's four bytes.
 use Rattle.std.proofs.Common.{ap, ap₂, subst, sym, ℕ, ◌==◌, ◌∙◌}
 use Rattle.frame_header.specs.Fields.{IsSlot, SlotFields}
-use Rattle.side_info.proofs.FrontLaws.{slot_read}
+use Rattle.side_info.proofs.FrontLemmas.{slot_read}
 use Rattle.side_info.proofs.frame_front.FrameFront.slot.Goals as goal
 
 pub invariant_of-result : goal.invariant_of-result

@@ -1,7 +1,7 @@
 -- The four bytes are those of the header.
 use Rattle.std.proofs.Common.{ap, ◌∙◌}
 use Rattle.frame_header.specs.HeaderBits.{header_bits}
-use Rattle.side_info.proofs.FrontLaws.{word_bits, word_fields, written}
+use Rattle.side_info.proofs.FrontLemmas.{word_bits, word_fields, written}
 use Rattle.side_info.proofs.frame_front.FrameFront.word.Goals as goal
 
 pub returns-clause-bits : goal.returns-clause-bits

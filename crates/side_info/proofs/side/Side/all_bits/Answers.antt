@@ -1,6 +1,6 @@
 -- Two granules.
 use Rattle.std.proofs.Common.{ap₂, arith, ◌+◌, ◌∙◌}
-use Rattle.side_info.proofs.SideLaws.{payload_bits-sum}
+use Rattle.side_info.proofs.SideLemmas.{payload_bits-sum}
 use Rattle.side_info.proofs.side.Side.all_bits.Goals as goal
 
 pub returns-clause-bits : goal.returns-clause-bits

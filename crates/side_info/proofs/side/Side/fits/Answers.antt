@@ -1,6 +1,6 @@
 -- The parts are all that has to fit.
 use Rattle.std.{proofs.Common.{arith, sym, ◌∙◌}, specs.Bool.IsTrue}
-use Rattle.side_info.proofs.SideLaws.{SideFits-from_parts}
+use Rattle.side_info.proofs.SideLemmas.{SideFits-from_parts}
 use Rattle.side_info.proofs.side.Side.fits.Goals.{else-front_fits, then-front_fits}
 use Rattle.side_info.proofs.side.Side.fits.Goals as goal
 

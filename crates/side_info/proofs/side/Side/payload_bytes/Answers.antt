@@ -1,6 +1,6 @@
 -- Rounded up.
 use Rattle.std.{proofs.Common.{ap, ◌∙◌}, specs.Int.div_ceil}
-use Rattle.side_info.{proofs.SideLaws.div_ceil-eight, specs.Side.{payload_bits, payload_bytes}}
+use Rattle.side_info.{proofs.SideLemmas.div_ceil-eight, specs.Side.{payload_bits, payload_bytes}}
 use Rattle.side_info.proofs.side.Side.payload_bytes.Goals as goal
 
 pub returns : goal.returns

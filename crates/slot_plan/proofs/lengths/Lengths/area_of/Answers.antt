@@ -1,7 +1,7 @@
 -- The entry of the table, with the padding and without what is before the area.
 use Rattle.std.proofs.Common.{ap, subst, sym, ◌+◌, ◌-◌, ◌∙◌, ◌≡◌, ◌≤◌}
 use Rattle.frame_header.specs.{Fields.{ClassFields, SlotFields}, Tables.{area_of, overhead_of}}
-use Rattle.slot_plan.proofs.LengthLaws.{area-looked}
+use Rattle.slot_plan.proofs.LengthLemmas.{area-looked}
 use Rattle.slot_plan.proofs.lengths.Lengths.area_of.Goals as goal
 
 abbrev Is : goal.After-from-2 → SlotFields → ClassFields → Type 0

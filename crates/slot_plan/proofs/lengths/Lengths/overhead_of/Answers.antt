@@ -1,6 +1,6 @@
 -- No overhead has more bytes.
 use Rattle.std.proofs.Common.{arith, false, true}
-use Rattle.slot_plan.proofs.LengthLaws.{overhead-most}
+use Rattle.slot_plan.proofs.LengthLemmas.{overhead-most}
 use Rattle.slot_plan.proofs.lengths.Lengths.overhead_of.Goals as goal
 
 pub returns-then-protected-clause-most : goal.returns-then-protected-clause-most

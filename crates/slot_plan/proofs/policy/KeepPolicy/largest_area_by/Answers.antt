@@ -1,7 +1,7 @@
 -- The only area is the greatest.
 use Rattle.std.proofs.Common.{ap₂, rules, sym, ◌∙◌}
 use Rattle.frame_header.specs.Tables.{area_of}
-use Rattle.slot_plan.proofs.AreaLaws.{greatest-one}
+use Rattle.slot_plan.proofs.AreaLemmas.{greatest-one}
 use Rattle.slot_plan.proofs.policy.KeepPolicy.largest_area_by.Goals as goal
 
 pub returns : goal.returns

@@ -1,7 +1,7 @@
 -- The only slot is the smallest.
 use Rattle.std.proofs.Common.{ap, subst, sym, [], ◌∷◌}
 use Rattle.frame_header.specs.Tables.{class_of}
-use Rattle.slot_plan.{proofs.AreaLaws.least-one, specs.Reserve.IsLeastSlot}
+use Rattle.slot_plan.{proofs.AreaLemmas.least-one, specs.Reserve.IsLeastSlot}
 use Rattle.slot_plan.proofs.policy.KeepPolicy.least_slot_by.Goals as goal
 
 pub returns : goal.returns

@@ -1,7 +1,7 @@
 -- The slots of the class are all slots, and a header's own is one of them.
 use Rattle.std.proofs.Common.{Contains, subst, sym}
 use Rattle.frame_header.specs.Fields.{IsSlot}
-use Rattle.slot_plan.proofs.AreaLaws.{class-ascend}
+use Rattle.slot_plan.proofs.AreaLemmas.{class-ascend}
 use Rattle.slot_plan.proofs.policy.LeastPolicy.choices.Goals as goal
 
 pub returns-clause-ascending : goal.returns-clause-ascending

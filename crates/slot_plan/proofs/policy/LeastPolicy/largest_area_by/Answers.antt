@@ -1,9 +1,9 @@
 -- Of all slots the last has the largest area, and a header's own is one of them.
 use Rattle.std.proofs.Common.{ap, ap₂, subst, ◌∙◌}
-use Rattle.frame_header.proofs.{HeaderLaws.IsClass-class_of, SlotLaws.Contains-all_slots}
+use Rattle.frame_header.proofs.{HeaderLemmas.IsClass-class_of, SlotLemmas.Contains-all_slots}
 use Rattle.frame_header.specs.{Fields.{IsHeader, IsSlot}, Slots.largest_slot}
 use Rattle.frame_header.specs.Tables.{area_of, class_of}
-use Rattle.slot_plan.proofs.AreaLaws.{greatest-all}
+use Rattle.slot_plan.proofs.AreaLemmas.{greatest-all}
 use Rattle.slot_plan.proofs.policy.LeastPolicy.largest_area_by.Goals as goal
 
 pub returns : goal.returns

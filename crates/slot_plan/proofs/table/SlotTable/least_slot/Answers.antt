@@ -1,7 +1,7 @@
 -- The entry of the table is the slot.
 use Rattle.std.proofs.Common.{ap, get_or, subst, sym, ℕ, ◌+◌, ◌∙◌, ◌≡◌}
 use Rattle.frame_header.specs.{Fields.SlotFields, Tables.overhead_of}
-use Rattle.slot_plan.{proofs.TableLaws.least-looked, specs.SlotTables.IsShortest}
+use Rattle.slot_plan.{proofs.TableLemmas.least-looked, specs.SlotTables.IsShortestSlot}
 use Rattle.slot_plan.proofs.table.SlotTable.least_slot.Goals as goal
 
 pub returns : goal.returns
@@ -13,6 +13,6 @@ returns c = record {
       ap (λ n. get_or c.args.self.now.by_length.items (c.args.wanted + n) slot)
       (sym c.overhead_of-overhead.ensures.overhead) ∙ sym c.index.ensures in
       least-looked c.args.self.now slots c.args.protected c.args.wanted slot is
-      (subst (IsShortest c.args.self.now.lengths slots length) at
+      (subst (IsShortestSlot c.args.self.now.lengths slots length) at
       (is.least length slot c.requires.within));
 }

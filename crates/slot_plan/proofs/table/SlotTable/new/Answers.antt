@@ -1,7 +1,7 @@
 -- One slot more.
 use Rattle.std.proofs.Common.{ap, arith, replicate, subst, sym, take, ◌++◌, ◌+◌, ◌-◌, ◌∙◌}
-use Rattle.slot_plan.proofs.TableLaws.{IsTableTo, Rise, rise-areas, table-all, table-more}
-use Rattle.slot_plan.proofs.TableLaws.{table-none}
+use Rattle.slot_plan.proofs.TableLemmas.{IsTableTo, Rise, rise-areas, table-all, table-more}
+use Rattle.slot_plan.proofs.TableLemmas.{table-none}
 use Rattle.slot_plan.proofs.table.SlotTable.new.Goals as goal
 
 pub loop-slot-init : goal.loop-slot-init

@@ -1,5 +1,5 @@
 -- The table of the slots before this one.
-use Rattle.slot_plan.proofs.TableLaws.{IsTableTo}
+use Rattle.slot_plan.proofs.TableLemmas.{IsTableTo}
 use Rattle.slot_plan.proofs.table.SlotTable.new.Given as goal
 
 abbrev pub invariant-loop-slot : goal.invariant-loop-slot

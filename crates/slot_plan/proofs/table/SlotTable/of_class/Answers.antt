@@ -1,6 +1,6 @@
 -- The areas of all slots ascend.
 use Rattle.std.proofs.Common.{false, ◌∙◌}
-use Rattle.slot_plan.proofs.AreaLaws.{lead-any, lead-ascend}
+use Rattle.slot_plan.proofs.AreaLemmas.{lead-any, lead-ascend}
 use Rattle.slot_plan.proofs.table.SlotTable.of_class.Goals as goal
 
 pub new-requires : goal.new-requires

@@ -2,7 +2,7 @@
 use Rattle.std.proofs.Common.{ap, map, subst, sym, ◌∙◌}
 use Rattle.exact_span.specs.Places.{IsExactPlace}
 use Rattle.exact_span.specs.declared.exact_place.ExactPlace.TheVariants.{Place as Position}
-use Rattle.split_edits.{proofs.SheetLaws.exact-sound, specs.Cutting.ArePlaces}
+use Rattle.split_edits.{proofs.SheetLemmas.exact-sound, specs.Cutting.ArePlaces}
 use Rattle.split_edits.proofs.exact_points.ExactPointsCut.places.Goals as goal
 
 pub returns-in_ok-places-in-Sheet-clause-sound : goal.returns-in_ok-places-in-Sheet-clause-sound

@@ -1,25 +1,26 @@
 -- The survey once its head is set apart.
 use Rattle.std.proofs.Common.{ap, arith, length, subst, sym}
-use Rattle.cut_edits.proofs.{HeadLaws.apart-length, PieceLaws.apart_had}
-use Rattle.sync_survey.{proofs.EmptiedLaws.apart-laid, specs.Faults.{SurveyFields, tells}}
-use Rattle.sync_survey.specs.Survey.{IsLaidOut}
+use Rattle.cut_edits.proofs.{HeadLemmas.apart-length, PieceLemmas.apart_had}
+use Rattle.sync_survey.{proofs.EmptiedLemmas.apart-laid, specs.Faults.{survey_view, SurveyFields}}
+use Rattle.sync_survey.specs.Survey.{IsSurveyLaidOut}
 use Rattle.split_edits.proofs.exact_points.ExactPointsCut.read.Goals as goal
 
 pub returns-clause-source : goal.returns-clause-source
 returns-clause-source g c = λ bytes holds. record {
   survey = c.set_apart.ensures;
-  has = apart_had bytes (tells c.args.survey) (c.requires.surveyed bytes holds);
+  has = apart_had bytes (survey_view c.args.survey) (c.requires.surveyed bytes holds);
   head_is = c.in_ok-head.ensures.head bytes holds;
 }
 
 pub returns-clause-laid : goal.returns-clause-laid
 returns-clause-laid g c =
-    subst IsLaidOut (sym c.set_apart.ensures) (apart-laid (tells c.args.survey) c.requires.laid)
+    subst IsSurveyLaidOut (sym c.set_apart.ensures)
+    (apart-laid (survey_view c.args.survey) c.requires.laid)
 
 pub returns-clause-few : goal.returns-clause-few
 returns-clause-few g c = omega (
   arith,
   ap (λ (s : SurveyFields). length s.frames) c.set_apart.ensures,
-  apart-length (tells c.args.survey),
+  apart-length (survey_view c.args.survey),
   c.requires.few,
 )

@@ -1,5 +1,5 @@
 -- A header that was read is that of the first four bytes.
-use Rattle.sync_survey.proofs.ItemsLaws.{header_at-front}
+use Rattle.sync_survey.proofs.ItemsLemmas.{header_at-front}
 use Rattle.sync_survey.proofs.rows.Row.read_in.Goals as goal
 
 pub read_in-requires-clause-heads : goal.read_in-requires-clause-heads

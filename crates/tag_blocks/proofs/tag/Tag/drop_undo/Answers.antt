@@ -1,6 +1,6 @@
 -- The undo item goes, and all others stay.
 use Rattle.std.{proofs.Common.{ap, refl, subst, sym, ◌∙◌, ◌≡◌}, specs.Prelude.position}
-use Rattle.tag_blocks.proofs.UndoItemsLaws.{IsTag-without_undo, none_removed, removed}
+use Rattle.tag_blocks.proofs.UndoItemsLemmas.{IsTag-without_undo, none_removed, removed}
 use Rattle.tag_blocks.specs.{Items.is_undo, Tags.IsTag, UndoItems.without_undo}
 use Rattle.tag_blocks.proofs.tag.Tag.drop_undo.Goals as goal
 

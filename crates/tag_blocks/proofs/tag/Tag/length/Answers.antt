@@ -1,6 +1,6 @@
 -- The bytes of a tag are header, items and footer.
 use Rattle.std.proofs.Common.{ap, arith, sym, ◌+◌, ◌∙◌, ◌≡◌}
-use Rattle.tag_blocks.proofs.TagsLaws.{items_length-most, length-tag_bytes}
+use Rattle.tag_blocks.proofs.TagsLemmas.{items_length-most, length-tag_bytes}
 use Rattle.tag_blocks.specs.{Items.items_length, Tags.TagFields}
 use Rattle.tag_blocks.proofs.tag.Tag.length.Goals as goal
 

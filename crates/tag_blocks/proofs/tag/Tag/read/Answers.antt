@@ -1,7 +1,7 @@
 -- A block has a header and a footer, and the place of a fault is in it.
 use Rattle.std.proofs.Common.{Err, inl, inr, length, List, Ok, rules, ℕ, ◌≡◌, ◌≤◌, ◌⊎◌}
 use Rattle.std.specs.Prelude.{IfErr, MatchResult, Result}
-use Rattle.tag_blocks.{proofs.TagsLaws.{block-long, place-within}, specs.Laws.AreOctets}
+use Rattle.tag_blocks.{proofs.TagsLemmas.{block-long, place-within}, specs.Laws.AreByteValues}
 use Rattle.tag_blocks.specs.Tags.{IsPlaceIn, tag_of, TagFields}
 use Rattle.tag_blocks.specs.declared.tag_fault.TagFault.{TagFault, TheVariants.{BadTag, Memory}}
 use Rattle.tag_blocks.proofs.tag.Tag.read.Goals as goal
@@ -9,7 +9,7 @@ use Rattle.tag_blocks.proofs.tag.Tag.read.Goals as goal
 pub read_block-requires-clause-long : goal.read_block-requires-clause-long
 read_block-requires-clause-long c = block-long c.args.block.now c.requires.block
 
-within_cases : (block : List ℕ) → AreOctets block → 64 ≤ length block
+within_cases : (block : List ℕ) → AreByteValues block → 64 ≤ length block
     → (r : Result TagFields TagFault) → MatchResult r (λ tag. tag_of block ≡ Ok tag)
     (λ fault. (fault ≡ Memory) ⊎ (tag_of block ≡ Err fault)) → IfErr r (IsPlaceIn block)
 within_cases block octets long (Err (BadTag place)) (inl e) = absurd cc

@@ -1,7 +1,7 @@
 -- A tag with another undo item is a tag, and after a refusal it is the same tag.
 use Rattle.std.proofs.Common.{Err, List, Ok, subst, sym, ℕ, ◌≡◌}
 use Rattle.std.specs.Prelude.{OnErr, OnOk, Result}
-use Rattle.tag_blocks.{proofs.UndoItemsLaws.IsTag-with_undo, specs.{Items.TagItem, Tags.IsTag}}
+use Rattle.tag_blocks.{proofs.UndoItemsLemmas.IsTag-with_undo, specs.{Items.TagItem, Tags.IsTag}}
 use Rattle.tag_blocks.specs.{UndoItems.with_undo, declared.undo.Undo.Undo}
 use Rattle.tag_blocks.proofs.tag.Tag.set_undo.Goals as goal
 

@@ -1,6 +1,6 @@
 -- The places stay within the tag.
 use Rattle.std.proofs.{Common.{ap, arith}, lemmas.List.Sums.sum_by-drop_more}
-use Rattle.tag_blocks.{proofs.TagsLaws.items_length-most, specs.Items.{item_length, items_length}}
+use Rattle.tag_blocks.{proofs.TagsLemmas.items_length-most, specs.Items.{item_length, items_length}}
 use Rattle.tag_blocks.proofs.tag.Tag.undo.Goals as goal
 
 pub length-requires : goal.length-requires

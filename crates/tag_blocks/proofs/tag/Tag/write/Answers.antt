@@ -1,7 +1,7 @@
 -- Header, items and footer, one after the other.
 use Rattle.std.proofs.Common.{ap, arith, length, subst, ◌++◌, ◌+◌, ◌∙◌, ◌≡◌}
-use Rattle.tag_blocks.proofs.TagsLaws.{block_front-tag_bytes, count-most, items_length-most}
-use Rattle.tag_blocks.proofs.TagsLaws.{tag_bytes-added, tag_of-tag_bytes}
+use Rattle.tag_blocks.proofs.TagsLemmas.{block_front-tag_bytes, count-most, items_length-most}
+use Rattle.tag_blocks.proofs.TagsLemmas.{tag_bytes-added, tag_of-tag_bytes}
 use Rattle.tag_blocks.specs.{Items.{items_bytes, items_length}, Tags.{IsTag, tag_bytes, tag_of}}
 use Rattle.tag_blocks.proofs.tag.Tag.write.Goals as goal
 

@@ -1,6 +1,6 @@
 -- The numbers that the parts spell are within 16 bits.
 use Rattle.std.proofs.Common.{sym, true, ◌∙◌, ◌≡◌}
-use Rattle.tag_blocks.proofs.UndoTextLaws.{most_in_bits, no_undo, undo_parts, undo_read}
+use Rattle.tag_blocks.proofs.UndoTextLemmas.{most_in_bits, no_undo, undo_parts, undo_read}
 use Rattle.tag_blocks.proofs.undo.Undo.read.Goals.{Else-not-is_undo_text}
 use Rattle.tag_blocks.specs.UndoText.{is_undo_text}
 use Rattle.tag_blocks.proofs.undo.Undo.read.Goals as goal

@@ -1,6 +1,7 @@
 use Rattle.std.proofs.{Common.{sym, ◌∙◌, ◌≡◌}, lemmas.Result.on_ok_weaker}
 use Rattle.std.specs.Prelude.{Err, Ok, OnErr, OnOk, Result}
-use Rattle.outside.{proofs.FilesLaws.update_held, specs.{Memory.contents_of, Slots.content_of}}
+use Rattle.outside.{proofs.FilesLemmas.update_held, specs.FileRooms.content_of}
+use Rattle.outside.specs.Memory.{contents_of}
 use Rattle.outside.proofs.memory.folder.MemFolder.reserve.Goals as goal
 
 either_way : {T E P : Type 0} (r : Result T E) → OnOk r P → OnErr r P → P

@@ -1,5 +1,5 @@
 use Rattle.std.proofs.Common.{rules}
-use Rattle.outside.{proofs.FilesLaws.emptied_is, specs.Memory.contents_of}
+use Rattle.outside.{proofs.FilesLemmas.emptied_is, specs.Memory.contents_of}
 use Rattle.outside.proofs.memory.folder.MemFolderFolder.create.Goals as goal
 
 pub returns-clause-answer : goal.returns-clause-answer

@@ -1,5 +1,5 @@
 use Rattle.std.proofs.Common.{arith, rules}
-use Rattle.outside.{proofs.FilesLaws.appended_is, specs.Memory.contents_of}
+use Rattle.outside.{proofs.FilesLemmas.appended_is, specs.Memory.contents_of}
 use Rattle.outside.proofs.memory.folder.MemFolderFolder.write.Goals as goal
 
 pub returns-clause-answer : goal.returns-clause-answer

@@ -1,5 +1,5 @@
 use Rattle.std.proofs.Common.{rules}
-use Rattle.outside.proofs.FilesLaws.{untold_written}
+use Rattle.outside.proofs.FilesLemmas.{untold_written}
 use Rattle.outside.proofs.memory.short.ShortFolderFolder.write.Goals as goal
 
 pub returns-clause-answer : goal.returns-clause-answer

@@ -3,19 +3,19 @@ use Rattle.std.proofs.Common.{ap, arith, Bool, get_or, inl, inr, length, List, s
 use Rattle.std.proofs.{Common.{◌<◌, ◌∙◌, ◌≡◌}, lemmas.Bool.cases_lt}
 use Rattle.std.proofs.lemmas.List.{get_or-map, length-map, Kept.AllPairs-from_increasing}
 use Rattle.frame_header.specs.{Fields.{ClassFields, SlotFields}, Tables.area_of}
-use Rattle.slot_plan.specs.Parts.{areas_with}
+use Rattle.slot_plan.specs.Parts.{slot_areas}
 use Rattle.plan_tests.proofs.tests.menus.planned.ascend.Goals as goal
 
 area-here : (class : ClassFields) (protected : Bool) (menu : List SlotFields) (i : ℕ)
     (slot : SlotFields) → i < length menu → slot ≡ get_or menu i slot
-    → get_or (areas_with class protected menu) i 0 ≡ area_of class slot protected
+    → get_or (slot_areas class protected menu) i 0 ≡ area_of class slot protected
 area-here class protected menu i slot within is =
     get_or-map (λ s. area_of class s protected) menu i slot 0 within
     ∙ ap (λ s. area_of class s protected) (sym is)
 
 pub loop-i-preserved : goal.loop-i-preserved
 loop-i-preserved c = λ k before.
-    let areas : List ℕ = areas_with c.args.class c.args.protected c.args.menu.now in
+    let areas : List ℕ = slot_areas c.args.class c.args.protected c.args.menu.now in
     let i : ℕ = c.loop-i.i in
     elim (cases_lt (k + 1) i) as (λ _. get_or areas k 0 < get_or areas (k + 1) 0) [
       | inl earlier ↦ c.loop-i.invariant k earlier
@@ -41,7 +41,7 @@ loop-i-preserved c = λ k before.
 
 pub returns : goal.returns
 returns c = λ is.
-    let areas : List ℕ = areas_with c.args.class c.args.protected c.args.menu.now in
+    let areas : List ℕ = slot_areas c.args.class c.args.protected c.args.menu.now in
     AllPairs-from_increasing areas
     (λ k before. c.loop-i.invariant k (omega (
       arith,

@@ -2,18 +2,18 @@
 use Rattle.std.proofs.Common.{AllPairs, arith, false, get_or, length, List, subst, true, [], ◌<◌}
 use Rattle.std.proofs.Common.{◌∷◌, ◌≡◌}
 use Rattle.frame_header.specs.{Fields.{ClassFields, SlotFields}, Tables.class_of}
-use Rattle.rate_plan.specs.Menus.{AreAscending, IsMenu}
-use Rattle.slot_plan.specs.{Parts.areas_with, declared.needs.Need.Need}
+use Rattle.rate_plan.specs.Menus.{HasAscendingAreas, IsMenu}
+use Rattle.slot_plan.specs.{Parts.slot_areas, declared.needs.Need.Need}
 use Rattle.plan_tests.proofs.tests.menus.planned.is_menu.Goals as goal
 
 menu-is : (class : ClassFields) (menu : List SlotFields) (needs : List Need) (d : Need)
     → 0 < length needs → class ≡ class_of (get_or needs 0 d).header
-    → AllPairs (λ m n. m < n) (areas_with class false menu)
-    → AllPairs (λ m n. m < n) (areas_with class true menu) → IsMenu menu needs
+    → AllPairs (λ m n. m < n) (slot_areas class false menu)
+    → AllPairs (λ m n. m < n) (slot_areas class true menu) → IsMenu menu needs
 menu-is class menu [] d some is plain marked = absurd (omega (arith, some))
 menu-is class menu (first ∷ needs) d some is plain marked =
-    subst (λ c. AreAscending c menu) is (λ protected. elim protected
-    as (λ p. AllPairs (λ m n. m < n) (areas_with class p menu)) [ true ↦ marked | false ↦ plain ])
+    subst (λ c. HasAscendingAreas c menu) is (λ protected. elim protected
+    as (λ p. AllPairs (λ m n. m < n) (slot_areas class p menu)) [ true ↦ marked | false ↦ plain ])
 
 pub returns-then-ascend : goal.returns-then-ascend
 returns-then-ascend c = λ is.

@@ -1,6 +1,6 @@
 -- All slots are 28.
 use Rattle.std.proofs.Common.{ap, length, ◌∙◌}
-use Rattle.frame_header.proofs.SlotLaws.{length-all_slots}
+use Rattle.frame_header.proofs.SlotLemmas.{length-all_slots}
 use Rattle.plan_tests.proofs.tests.parts.larger.slots_from.Goals as goal
 
 pub prove-unreachable-requires : goal.prove-unreachable-requires

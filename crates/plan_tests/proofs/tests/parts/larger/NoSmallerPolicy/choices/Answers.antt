@@ -1,19 +1,19 @@
 -- Slots side by side ascend, and a header's own is the first of those from its place on.
 use Rattle.std.proofs.Common.{AllPairs, ap, arith, Contains, get_or, List, subst, sym, ◌<◌, ◌∙◌}
 use Rattle.std.{proofs.Common.◌≡◌, specs.Prelude.slice_range}
-use Rattle.frame_header.proofs.HeaderLaws.{IsClass-class_of}
-use Rattle.frame_header.proofs.SlotLaws.{get_or-place_of, place_of, place_of-below}
+use Rattle.frame_header.proofs.HeaderLemmas.{IsClass-class_of}
+use Rattle.frame_header.proofs.SlotLemmas.{get_or-place_of, place_of, place_of-below}
 use Rattle.frame_header.specs.{Fields.{HeaderFields, IsHeader, IsSlot, SlotFields}, Slots.all_slots}
 use Rattle.frame_header.specs.Tables.{class_of}
-use Rattle.rate_plan.{proofs.MenuLaws.{slice-at, slice-many}, specs.Laws.SlicesAreMenus}
-use Rattle.slot_plan.specs.Parts.{areas_for, areas_with}
+use Rattle.rate_plan.{proofs.MenuLemmas.{slice-at, slice-many}, specs.Laws.SlicesAreMenus}
+use Rattle.slot_plan.specs.Parts.{header_areas, slot_areas}
 use Rattle.plan_tests.proofs.tests.parts.larger.NoSmallerPolicy.choices.Goals as goal
 
 abbrev larger : HeaderFields → List SlotFields
 larger h = slice_range all_slots (place_of h.slot) 28
 
 larger-ascend : (h : HeaderFields) → IsHeader h → SlicesAreMenus
-    → AllPairs (λ m n. m < n) (areas_for larger h)
+    → AllPairs (λ m n. m < n) (header_areas larger h)
 larger-ascend h is menus = (menus (class_of h) (place_of h.slot) 28 (IsClass-class_of h is)
     (place_of-below h.slot is.slot) (omega arith)).0 h.protected
 
@@ -38,7 +38,7 @@ module _ (c : goal.After-slots_from) where
 pub returns-clause-ascending : goal.returns-clause-ascending
 returns-clause-ascending c =
     subst (λ slots. AllPairs (λ m n. m < n)
-    (areas_with (class_of c.args.header.now) c.args.header.now.protected slots)) (sym (are c))
+    (slot_areas (class_of c.args.header.now) c.args.header.now.protected slots)) (sym (are c))
     (larger-ascend c.args.header.now (header c) c.slices_are_menus.ensures)
 
 pub returns-clause-own : goal.returns-clause-own

@@ -1,0 +1,250 @@
+-- In front of a row in which each free byte spares at most one, the
+-- first area that leaves enough for the frames after it is the best.
+use Rattle.std.proofs.Common.{All, ap, append-nil, append_assoc, ap₂, arith, drop, get_or, inl, inr}
+use Rattle.std.proofs.Common.{length, length-append, List, replicate, subst, suc, sym, take, zero}
+use Rattle.std.proofs.{Common.{ℕ, ◌++◌, ◌+◌, ◌-◌, ◌<◌, ◌∙◌, ◌≡◌, ◌≤◌}, lemmas.Bool.cases_lt}
+use Rattle.std.proofs.lemmas.List.{drop_all, get_or-append-add, get_or-replicate}
+use Rattle.std.proofs.lemmas.List.{get_or_append_left, length-replicate, take_all}
+use Rattle.best_plan.proofs.{RowLemmas.not-greater, UnitSlopeLemmas.end-rises}
+use Rattle.best_plan.specs.Rows.{AppendsRow, area_sum, AreSums, HasSlopeAtMostOne, IsAreaChoice}
+use Rattle.best_plan.specs.Rows.{IsEndAt, IsSum, nothing}
+use Rattle.slot_plan.{proofs.AreaLemmas.Ascend, specs.Reserve.free_bytes_behind}
+
+-- so many free bytes more spare no more than that
+near-more : (sums : List ℕ) (least free more : ℕ) → HasSlopeAtMostOne sums least → least ≤ free
+    → free + more < length sums → get_or sums free 0 ≤ get_or sums (free + more) 0 + more
+near-more sums least free zero near from within =
+    omega (arith, ap (λ n. get_or sums n 0) (same free))
+  where
+    same : (n : ℕ) → n + 0 ≡ n
+    same n = omega arith
+near-more sums least free (suc more) near from within =
+    let on : get_or sums free 0 ≤ get_or sums (free + more) 0 + more =
+    near-more sums least free more near from (omega (arith, within)) in
+    let step : get_or sums (free + more) 0 ≤ get_or sums (free + more + 1) 0 + 1 =
+    near.near (free + more) (omega (arith, from)) (omega (arith, within)) in
+    omega (arith, on, step, ap (λ n. get_or sums n 0) (next free more))
+  where
+    next : (m n : ℕ) → m + suc n ≡ m + n + 1
+    next m n = omega arith
+
+module _ (window free bytes least place cost at : ℕ) (areas later : List ℕ)
+    (width : length later ≡ window + 1) (near : HasSlopeAtMostOne later least)
+    (ascend : Ascend areas)
+    (small : (k : ℕ) → k < place → free + get_or areas k 0 < bytes + least)
+    (most : cost ≤ nothing) where
+  -- an area before this place leaves too little
+  none-before : (k : ℕ) → k < place → bytes ≤ free + get_or areas k 0
+      → nothing ≤ get_or later (free_bytes_behind window free bytes (get_or areas k 0)) 0
+  none-before k before fits = near.none (free_bytes_behind window free bytes (get_or areas k 0))
+      (omega (arith, fits, small k before)) (omega (arith, width))
+
+  -- where no area leaves enough there is no sum
+  pub no-choice : length areas ≤ place → cost ≡ nothing
+      → IsAreaChoice window free bytes areas later cost at
+  no-choice past none = record {
+    least = λ k less fits. omega (arith, most, none-before k (omega (arith, less, past)) fits);
+    within = λ some. absurd (omega (arith, some, none));
+    fits = λ some. absurd (omega (arith, some, none));
+    found = λ some. absurd (omega (arith, some, none));
+    first = λ k before some fits. absurd (omega (arith, some, none));
+  }
+
+  module _ (within : place < length areas) (large : bytes + least ≤ free + get_or areas place 0)
+      (is : IsSum window free bytes (get_or areas place 0) later cost) where
+    abbrev left : ℕ
+    left = free_bytes_behind window free bytes (get_or areas place 0)
+
+    -- a later area spares no more than it has more
+    from-place : (k : ℕ) → place ≤ k → k < length areas
+        → cost ≤ area_sum window free bytes later (get_or areas k 0)
+    from-place k from less =
+        let more : ℕ = free_bytes_behind window free bytes (get_or areas k 0) in
+        let grows = not-greater areas place k ascend from less in
+        elim (cases_lt left least)
+        as (λ _. cost ≤ area_sum window free bytes later (get_or areas k 0)) [
+          | inl few ↦
+              let none : nothing ≤ get_or later more 0 =
+              near.none more (omega (arith, few, large)) (omega (arith, width)) in
+              omega (arith, most, none)
+          | inr enough ↦
+              let on : get_or later left 0 ≤ get_or later (left + (more - left)) 0 + (more - left) =
+              near-more later least left (more - left) near enough (omega (arith, width, grows)) in
+              let there : left + (more - left) ≡ more = omega (arith, grows) in
+              omega (
+                arith,
+                is.least (omega (arith, large)),
+                on,
+                ap (λ n. get_or later n 0) there,
+                grows,
+                large,
+              )
+        ]
+
+    near-choice : IsAreaChoice window free bytes areas later cost place
+    near-choice = record {
+      least = λ k less fits.
+          elim (cases_lt k place)
+          as (λ _. cost ≤ area_sum window free bytes later (get_or areas k 0)) [
+            | inl before ↦ omega (arith, most, none-before k before fits)
+            | inr from ↦ from-place k from less
+          ];
+      within = λ some. within;
+      fits = is.fits;
+      found = is.found;
+      first = λ k before some fits. omega (arith, some, none-before k before fits);
+    }
+
+    -- at the first area that leaves enough is the least sum
+    pub near-at : at ≡ place → IsAreaChoice window free bytes areas later cost at
+    near-at here =
+        subst (λ n. IsAreaChoice window free bytes areas later cost n) (sym here) near-choice
+
+-- the place is that of the first area that leaves enough, or there is none
+module _ (window free bytes least wanted place cost at : ℕ) (areas later : List ℕ) where
+  -- the first area that leaves enough has the least sum
+  pub near-one : window ≤ 511 → free ≤ window → length later ≡ window + 1
+      → HasSlopeAtMostOne later least → Ascend areas → All (λ n. n ≤ 1441) areas
+      → wanted ≤ bytes + least → (wanted < nothing → wanted ≡ bytes + least)
+      → ((k : ℕ) → k < place → free + get_or areas k 0 < wanted)
+      → (place < length areas → wanted ≤ free + get_or areas place 0) → cost ≤ nothing
+      → (place < length areas → IsSum window free bytes (get_or areas place 0) later cost)
+      → (place < length areas → at ≡ place) → (length areas ≤ place → cost ≡ nothing)
+      → IsAreaChoice window free bytes areas later cost at
+  near-one narrow within width near ascend areas_most most whole small large low sum here none =
+      let before : (k : ℕ) → k < place → free + get_or areas k 0 < bytes + least =
+      λ k less. omega (arith, most, small k less) in
+      elim (cases_lt place (length areas))
+      as (λ _. IsAreaChoice window free bytes areas later cost at) [
+        | inl some ↦
+            let fits = large some in
+            let exact : wanted ≡ bytes + least =
+            whole (omega (arith, fits, narrow, within, areas_most place 0 some)) in
+            near-at window free bytes least place cost at areas later width near ascend before low
+            some (omega (arith, exact, fits)) (sum some) (here some)
+        | inr past ↦ no-choice window free bytes least place cost at areas later width near ascend
+            before low past (none past)
+      ]
+
+-- what was written back to all of a list is what is there
+pub wrote-back : (n : ℕ) (new old : List ℕ) → length new ≡ length old → n ≡ length old
+    → take n (new ++ drop (length new) old) ≡ new
+wrote-back n new old same all =
+    ap (λ (l : List ℕ). take n (new ++ l)) (drop_all (length new) old (omega (arith, same)))
+    ∙ ap (take n) (append-nil new) ∙ take_all n new (omega (arith, same, all))
+
+-- ---- from the last area to the first
+
+-- the row for the free bytes up to here, each with the first area that leaves enough
+pub record IsNearTo (window bytes wanted : ℕ) (areas later : List ℕ) (place start : ℕ)
+    (row old new : List ℕ) : Type 0 where
+  pub cells : List ℕ
+  pub appended : new ≡ old ++ cells
+  pub many : length cells ≡ start
+  pub width : length row ≡ window + 1
+  pub ends : IsEndAt window wanted areas place start
+  pub each : (free : ℕ) → free < start
+      → IsAreaChoice window free bytes areas later (get_or row free 0) (get_or cells free 0)
+
+module _ (window bytes least wanted : ℕ) (areas later : List ℕ) (narrow : window ≤ 511)
+    (wide : length later ≡ window + 1) (near : HasSlopeAtMostOne later least)
+    (ascend : Ascend areas)
+    (areas_most : All (λ n. n ≤ 1441) areas)
+    (most : wanted ≤ bytes + least) (whole : wanted < nothing → wanted ≡ bytes + least) where
+  -- no area leaves enough
+  pub near-begin : (start : ℕ) (row old new : List ℕ)
+      → IsEndAt window wanted areas (length areas) start → length row ≡ window + 1
+      → ((free : ℕ) → free < start → get_or row free 0 ≡ nothing)
+      → new ≡ take (length old + start) old ++ replicate (length old + start - length old) 0
+      → IsNearTo window bytes wanted areas later (length areas) start row old new
+  near-begin start row old new ends width none gives = record {
+    cells = replicate start 0;
+    appended = gives ∙ ap₂ (λ (l : List ℕ) n. l ++ replicate n 0)
+        (take_all (length old + start) old (omega arith)) (omega arith);
+    many = length-replicate start 0;
+    width = width;
+    ends = ends;
+    each = λ free less.
+        near-one window free bytes least wanted (length areas) (get_or row free 0)
+        (get_or (replicate start 0) free 0) areas later narrow
+        (omega (arith, less, ends.within)) wide near ascend areas_most
+        most whole (λ k before. ends.small free k less before)
+        (λ some. absurd (omega (arith, some))) (omega (arith, none free less)) (λ some.
+        absurd (omega (arith, some))) (λ some. absurd (omega (arith, some))) (λ _. none free less);
+  }
+
+  -- one area more, back to front, fills the row up to where it no longer leaves enough
+  pub near-next : (place start end : ℕ) (row next old new more : List ℕ) → 0 < place
+      → place ≤ length areas → IsEndAt window wanted areas (place - 1) end
+      → AreSums window bytes (get_or areas (place - 1) 0) later start end row next
+      → more ≡ take (length old + end) new ++ replicate (length old + end - length new) (place - 1)
+      → IsNearTo window bytes wanted areas later place start row old new
+      → IsNearTo window bytes wanted areas later (place - 1) end next old more
+  near-next place start end row next old new more some within is sums gives so_far =
+      let count : length new ≡ length old + start = ap length so_far.appended
+      ∙ length-append old so_far.cells ∙ ap (λ n. length old + n) so_far.many in
+      let rises : start ≤ end = end-rises window wanted areas place start end some so_far.ends is in
+      let many : ℕ = end - start in
+      let added : List ℕ = replicate many (place - 1) in
+      let kept : take (length old + end) new ≡ new =
+      take_all (length old + end) new (omega (arith, count, rises)) in
+      let left : length old + end - length new ≡ many = omega (arith, count) in
+      record {
+        cells = so_far.cells ++ added;
+        appended = gives ∙ ap₂ (λ (l : List ℕ) n. l ++ replicate n (place - 1))
+            (kept ∙ so_far.appended) left ∙ append_assoc old so_far.cells added;
+        many = omega (
+          arith,
+          length-append so_far.cells added,
+          length-replicate many (place - 1),
+          rises,
+          so_far.many,
+        );
+        width = sums.width ∙ so_far.width;
+        ends = is;
+        each = λ free less.
+            elim (cases_lt free start) as (λ _. IsAreaChoice window free bytes areas later
+            (get_or next free 0) (get_or (so_far.cells ++ added) free 0)) [
+              | inl before ↦
+                  subst (λ n. IsAreaChoice window free bytes areas later n
+                  (get_or (so_far.cells ++ added) free 0)) (sym (sums.before free before))
+                  (subst (λ n. IsAreaChoice window free bytes areas later (get_or row free 0) n)
+                  (sym (get_or_append_left so_far.cells added 0 free
+                  (omega (arith, before, so_far.many)))) (so_far.each free before))
+              | inr from ↦
+                  let behind : ℕ = free - start in
+                  let here : free ≡ length so_far.cells + behind =
+                  omega (arith, from, so_far.many) in
+                  let at : get_or (so_far.cells ++ added) free 0 ≡ place - 1 =
+                  ap (λ n. get_or (so_far.cells ++ added) n 0) here
+                  ∙ get_or-append-add so_far.cells added behind 0
+                  ∙ get_or-replicate many behind (place - 1) 0 (omega (arith, less, from)) in
+                  near-one window free bytes least wanted (place - 1) (get_or next free 0)
+                  (get_or (so_far.cells ++ added) free 0) areas later narrow
+                  (omega (arith, less, is.within)) wide near ascend areas_most
+                  most whole (λ k before. is.small free k less before)
+                  (λ _. so_far.ends.large free from (omega (arith, less, is.within)))
+                  (sums.most free from less) (λ _. sums.each free from less) (λ _. at)
+                  (λ past. absurd (omega (arith, past, some, within)))
+            ];
+      }
+
+  -- after the last of them the row is whole
+  pub near-end : (start : ℕ) (row old new : List ℕ)
+      → IsNearTo window bytes wanted areas later 0 start row old new
+      → AppendsRow window bytes areas later row old new
+  near-end start row old new is =
+      let all : start ≡ window + 1 =
+      elim (cases_lt window start) as (λ _. start ≡ window + 1) [
+        | inl less ↦ omega (arith, less, is.ends.within)
+        | inr from ↦ absurd (omega (arith, is.ends.some window from (omega arith)))
+      ] in
+      record {
+        cells = is.cells;
+        appended = is.appended;
+        is = record {
+          width = is.width;
+          many = is.many ∙ all;
+          each = λ free within. is.each free (omega (arith, within, all));
+        };
+      }

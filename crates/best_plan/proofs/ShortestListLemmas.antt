@@ -1,0 +1,131 @@
+-- The plan's list is one of those with as many lead-ins.
+use Rattle.std.proofs.Common.{arith, Bool, Contains, false, List, map, None, Option, refl, Some}
+use Rattle.std.proofs.Common.{subst, suc, sum, sym, true, zero, ℕ, [], ◌↔◌, ◌∷◌, ◌≡◌, ◌≤◌}
+use Rattle.std.proofs.lemmas.List.{append-nil}
+use Rattle.best_plan.specs.{Best.{IsBestPlanFor, items_with_lead_in}, Laws.BestIsShortest}
+use Rattle.frame_header.specs.{Fields.{ClassFields, HeaderFields, SlotFields}, Slots.all_slots}
+use Rattle.frame_header.specs.Tables.{area_of, class_of}
+use Rattle.slot_plan.{proofs.AreaLemmas.Contains-area, specs.Layouts.HasLayout}
+use Rattle.slot_plan.specs.Lists.{AreChosenAreas, CanBeLaid, frames_with_areas}
+use Rattle.slot_plan.specs.Parts.{all_items, AreLeadIns, IsLeadIn, lead_in_item, need_item}
+use Rattle.slot_plan.specs.Parts.{open_frame, part_items, PlanItem, slot_areas}
+use Rattle.slot_plan.specs.{Plans.{IsPlanFor, item_areas}, declared.needs.Need.Need}
+use Rattle.slot_plan.specs.declared.needs.Placed.{Placed}
+
+true-false : true ≡ false → ⊥
+true-false e = absurd cc
+
+-- without a lead-in the choices are the same
+without-lead : (window : ℕ) (choices : HeaderFields → List SlotFields) (needs : List Need)
+    (placed best : List Placed) → IsPlanFor window (map (need_item choices) needs) placed
+    → IsBestPlanFor window 0 (map (need_item choices) needs) best
+    → sum (item_areas (map (need_item choices) needs) best)
+    ≤ sum (item_areas (map (need_item choices) needs) placed)
+without-lead window choices needs placed best plan is = is.best.shortest
+    (item_areas (map (need_item choices) needs) placed) plan.least.chosen plan.least.feasible
+
+-- a lead-in of one slot is one of all
+pub contains-one : (m n : ℕ) → Contains (m ∷ []) n → m ≡ n
+contains-one m n (zero, within, at) = at
+contains-one m n (suc i, within, at) = absurd (omega (arith, within))
+
+-- areas with a lead-in of one slot are areas with a lead-in of any slot
+pub widened : (choices : HeaderFields → List SlotFields) (first : Need) (needs : List Need)
+    (slot : SlotFields) (areas : List ℕ) → Contains all_slots slot → AreChosenAreas (map open_frame
+    (lead_in_item (class_of first.header) (slot ∷ [])
+    ∷ map (need_item choices) (first ∷ needs))) areas → AreChosenAreas (map open_frame
+    (lead_in_item (class_of first.header) all_slots ∷ map (need_item choices) (first ∷ needs)))
+    areas
+unfolding AreChosenAreas
+widened choices first needs slot [] has chosen = absurd chosen
+widened choices first needs slot (area ∷ areas) has chosen =
+    let class : ClassFields = class_of first.header in (
+      subst (Contains (slot_areas class false all_slots)) (contains-one (area_of class slot false)
+          area chosen.0) (Contains-area class false all_slots slot has),
+      chosen.1,
+    )
+
+-- and the frames are the same
+pub same-frames : (choices : HeaderFields → List SlotFields) (first : Need) (needs : List Need)
+    (slot : SlotFields) (areas : List ℕ)
+    → frames_with_areas (map open_frame (lead_in_item (class_of first.header) (slot ∷ [])
+    ∷ map (need_item choices) (first ∷ needs))) areas ≡ frames_with_areas (map open_frame
+    (lead_in_item (class_of first.header) all_slots ∷ map (need_item choices) (first ∷ needs)))
+    areas
+unfolding frames_with_areas
+same-frames choices first needs slot [] = refl
+same-frames choices first needs slot (area ∷ areas) = refl
+
+with-lead : (window : ℕ) (choices : HeaderFields → List SlotFields) (first : Need)
+    (needs : List Need) (slot : SlotFields) (placed best : List Placed) → Contains all_slots slot
+    → IsPlanFor window (lead_in_item (class_of first.header) (slot ∷ [])
+    ∷ map (need_item choices) (first ∷ needs)) placed → IsBestPlanFor window 0
+    (lead_in_item (class_of first.header) all_slots ∷ map (need_item choices) (first ∷ needs)) best
+    → sum (item_areas (lead_in_item (class_of first.header) all_slots
+    ∷ map (need_item choices) (first ∷ needs)) best) ≤ sum (item_areas
+    (lead_in_item (class_of first.header) (slot ∷ []) ∷ map (need_item choices) (first ∷ needs))
+    placed)
+with-lead window choices first needs slot placed best has plan is =
+    let areas : List ℕ = item_areas (lead_in_item (class_of first.header) (slot ∷ [])
+    ∷ map (need_item choices) (first ∷ needs)) placed in
+    is.best.shortest areas (widened choices first needs slot areas has plan.least.chosen)
+    (subst (HasLayout window 0) (same-frames choices first needs slot areas) plan.least.feasible)
+
+-- the frames of one part are its lead-in, if any, and its own
+pub whole-one : (choices : HeaderFields → List SlotFields) (needs : List Need)
+    (lead_in : Option SlotFields)
+    → all_items choices (needs ∷ []) (lead_in ∷ []) ≡ part_items choices needs lead_in
+unfolding all_items
+whole-one choices needs lead_in = append-nil (part_items choices needs lead_in)
+
+abbrev Holds : (HeaderFields → List SlotFields) → List Need → List Placed → List Placed → Bool
+    → List (Option SlotFields) → List PlanItem → Type 0
+Holds choices needs placed best lead_in lead_ins items =
+    ((lead_in ≡ false) ↔ (lead_ins ≡ None ∷ []))
+    × (sum (item_areas (items_with_lead_in lead_in choices needs) best)
+    ≤ sum (item_areas items placed))
+
+some-one : (slot : SlotFields) → Some slot ∷ [] ≡ None ∷ [] → ⊥
+some-one slot e = absurd cc
+
+by-lead : (window : ℕ) (choices : HeaderFields → List SlotFields) (needs : List Need)
+    (placed best : List Placed) (lead_in : Bool) (other : Option SlotFields)
+    → (lead_in ≡ false) ↔ CanBeLaid window (map open_frame (map (need_item choices) needs))
+    → IsBestPlanFor window 0 (items_with_lead_in lead_in choices needs) best
+    → IsLeadIn window choices needs other → IsPlanFor window (part_items choices needs other) placed
+    → Holds choices needs placed best lead_in (other ∷ []) (part_items choices needs other)
+unfolding IsLeadIn part_items items_with_lead_in
+by-lead window choices needs placed best false None without is alone plan =
+    (((λ _. refl), (λ _. refl)), without-lead window choices needs placed best plan is)
+by-lead window choices needs placed best true None without is alone plan =
+    absurd (true-false (without.1 alone))
+by-lead window choices [] placed best lead_in (Some slot) without is alone plan = absurd alone
+by-lead window choices (first ∷ needs) placed best false (Some slot) without is alone plan =
+    absurd (alone.0 (without.0 refl))
+by-lead window choices (first ∷ needs) placed best true (Some slot) without is alone plan = (
+  ((λ e. absurd (true-false e)), (λ e. absurd (some-one slot e))),
+  with-lead window choices first needs slot placed best alone.2 plan is,
+)
+
+by-leads : (window : ℕ) (choices : HeaderFields → List SlotFields) (needs : List Need)
+    (placed best : List Placed) (lead_in : Bool) (lead_ins : List (Option SlotFields))
+    → (lead_in ≡ false) ↔ CanBeLaid window (map open_frame (map (need_item choices) needs))
+    → IsBestPlanFor window 0 (items_with_lead_in lead_in choices needs) best
+    → AreLeadIns window choices (needs ∷ []) lead_ins
+    → IsPlanFor window (all_items choices (needs ∷ []) lead_ins) placed
+    → Holds choices needs placed best lead_in lead_ins (all_items choices (needs ∷ []) lead_ins)
+unfolding AreLeadIns
+by-leads window choices needs placed best lead_in [] without is alone plan = absurd alone
+by-leads window choices needs placed best lead_in
+    (other ∷ another ∷ lead_ins) without is alone plan = absurd alone.1
+by-leads window choices needs placed best lead_in (other ∷ []) without is alone plan =
+    let one = whole-one choices needs other in
+    subst (Holds choices needs placed best lead_in (other ∷ [])) (sym one)
+    (by-lead window choices needs placed best lead_in other without is
+    alone.0 (subst (λ l. IsPlanFor window l placed) one plan))
+
+-- the best plan has the least sum of areas of all lists with as many lead-ins that have a layout
+pub best-shortest : BestIsShortest
+best-shortest window choices needs placed best plan is =
+    by-leads window choices needs placed best
+    is.lead_in plan.lead_ins is.without is.whole plan.alone plan.whole

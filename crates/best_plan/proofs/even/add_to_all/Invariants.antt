@@ -1,7 +1,0 @@
--- The sums so far have more, and the others are as they were.
-use Rattle.std.proofs.Common.{drop, map, take, ◌++◌, ◌+◌, ◌≡◌}
-use Rattle.best_plan.proofs.even.add_to_all.Given as goal
-
-abbrev pub invariant-loop-sum : goal.invariant-loop-sum
-invariant-loop-sum l = l.sums
-    ≡ map (λ n. n + l.bytes) (take l.sum-index l.initial.sums) ++ drop l.sum-index l.initial.sums

@@ -1,7 +1,0 @@
--- The places from this one on.
-use Rattle.best_plan.proofs.EvenLaws.{IsFirstTo}
-use Rattle.best_plan.proofs.even.append_first.Given as goal
-
-abbrev pub invariant-loop-place : goal.invariant-loop-place
-invariant-loop-place l =
-    IsFirstTo l.window l.bytes l.areas l.place l.initial.places.items l.places.items

@@ -1,6 +1,0 @@
--- No plan costs less, and none costs as much.
-use Rattle.best_plan.proofs.BestOfLaws.{best-plan-of}
-use Rattle.best_plan.proofs.laws.best_plan_is_the_plan.Goals as goal
-
-pub returns : goal.returns
-returns c = best-plan-of

@@ -1,8 +1,0 @@
--- The sums and places after fewer free bytes than those
--- with which an area before this one leaves enough.
-use Rattle.best_plan.proofs.NearLaws.{IsNearTo}
-use Rattle.best_plan.proofs.near.append_near.Given as goal
-
-abbrev pub invariant-loop-place : goal.invariant-loop-place
-invariant-loop-place l = IsNearTo l.window l.bytes l.wanted l.areas l.row.later.now l.place l.start
-    l.sums.items l.fn.places.items l.places.items

@@ -1,7 +1,0 @@
--- The free bytes so far.
-use Rattle.std.proofs.Common.{get_or, ℕ, ◌+◌, ◌<◌, ◌≤◌}
-use Rattle.best_plan.proofs.near.near_from.Given as goal
-
-abbrev pub invariant-loop-free : goal.invariant-loop-free
-invariant-loop-free l =
-    (k : ℕ) → l.least ≤ k → k + 1 < l.free → get_or l.sums k 0 ≤ get_or l.sums (k + 1) 0 + 1

@@ -1,0 +1,304 @@
+-- The laws of successive groups of bits: numbers and bits give each other back.
+use Rattle.std.proofs.Common.{ap, append-nil, append_assoc, ap₂, arith, drop, length, length-append}
+use Rattle.std.proofs.Common.{length-drop, length-take, List, lt_of_lt_of_le, mod-eq_of_lt}
+use Rattle.std.proofs.Common.{pow_mono, refl, subst, suc, sum, sym, take, take-append-drop, ℕ, []}
+use Rattle.std.proofs.Common.{◌%◌, ◌*◌, ◌++◌, ◌+◌, ◌-◌, ◌/◌, ◌<◌, ◌^◌, ◌∙◌, ◌∷◌, ◌≡◌, ◌≤◌}
+use Rattle.std.proofs.Math.{Nat.add_comm, Seq.take-add}
+use Rattle.std.proofs.lemmas.List.{drop-append-le, drop-drop, drop-take, drop_at, length-take-le}
+use Rattle.std.proofs.lemmas.List.{take-append-le, take-take, take_all, take_at, Sums.sum_by-cons}
+use Rattle.std.proofs.lemmas.Nat.{mul-add-lt, pow-add, shr_high}
+use Rattle.bit_fields.proofs.BitsLemmas.{AreBelow-append, AreBelow-drop, AreBelow-take}
+use Rattle.bit_fields.proofs.BitsLemmas.{AreBits-bits_of, bits_of-cat, bits_of-cat_low}
+use Rattle.bit_fields.proofs.BitsLemmas.{bits_of-number, drop-bits, length-bits_of, number-append}
+use Rattle.bit_fields.proofs.BitsLemmas.{number-below, number-bits_of, number-bits_of-below}
+use Rattle.bit_fields.proofs.BitsLemmas.{number-within, take-bits, take-bits_of}
+use Rattle.bit_fields.specs.Bits.{AreBits, bits, bits_of, number}
+use Rattle.bit_fields.specs.Groups.{group, group_bits, numbers_at, NumbersFit}
+
+-- ---- how many bits
+-- widths take as many bits as the first and the rest
+pub sum-cons : (width : ℕ) (widths : List ℕ) → sum (width ∷ widths) ≡ width + sum widths
+sum-cons width widths = sum_by-cons (λ n. n) width widths
+
+-- numbers in groups are spelled by the first in its width, and then by the rest
+pub spelled-cons : (width n : ℕ) (widths ns : List ℕ)
+    → group_bits (width ∷ widths) (n ∷ ns) ≡ bits_of width n ++ group_bits widths ns
+unfolding group_bits
+spelled-cons width n widths ns = refl
+
+-- numbers that fit in groups are as many as the groups
+pub length-Fits : (widths ns : List ℕ) → NumbersFit widths ns → length ns ≡ length widths
+length-Fits [] [] h = refl
+length-Fits [] (n ∷ ns) h = absurd h
+length-Fits (width ∷ widths) [] h = absurd h
+length-Fits (width ∷ widths) (n ∷ ns) h = ap suc (length-Fits widths ns h.1)
+
+-- as many numbers as groups are spelled in as many bits as the groups have in all
+pub length-spelled : (widths ns : List ℕ) → length ns ≡ length widths
+    → length (group_bits widths ns) ≡ sum widths
+unfolding group_bits
+length-spelled [] ns h = refl
+length-spelled (width ∷ widths) [] h = absurd (omega arith)
+length-spelled (width ∷ widths) (n ∷ ns) h =
+    let rest : length (group_bits widths ns) ≡ sum widths =
+    length-spelled widths ns (omega arith) in
+    let both : sum (width ∷ widths) ≡ width + sum widths = sum-cons width widths in
+    omega (arith, length-append (bits_of width n) (group_bits widths ns), length-bits_of width n)
+
+-- ---- what numbers and bits are
+-- numbers in groups are spelled by zeros and ones
+pub AreBits-spelled : (widths ns : List ℕ) → AreBits (group_bits widths ns)
+unfolding group_bits
+AreBits-spelled [] ns = tt
+AreBits-spelled (width ∷ widths) [] = tt
+AreBits-spelled (width ∷ widths) (n ∷ ns) =
+    AreBelow-append 2 (bits_of width n) (group_bits widths ns) (AreBits-bits_of width n)
+    (AreBits-spelled widths ns)
+
+-- a group of so many bits is below the power of 2 of its width
+pub group-below : (from width : ℕ) (bs : List ℕ) → AreBits bs → group from width bs < 2 ^ width
+unfolding group
+group-below from width bs h =
+    let few : length (take width (drop from bs)) ≤ width = simp length-take (omega arith) in
+    lt_of_lt_of_le (number-below (take width (drop from bs))
+    (AreBelow-take 2 width (drop from bs) (AreBelow-drop 2 from bs h))) (pow_mono few)
+
+-- the numbers of groups of bits fit in these groups
+pub Fits-numbers_at : (widths bs : List ℕ) → AreBits bs → NumbersFit widths (numbers_at widths bs)
+unfolding numbers_at group
+Fits-numbers_at [] bs h = tt
+Fits-numbers_at (width ∷ widths) bs h =
+    (group-below 0 width bs h, Fits-numbers_at widths (drop width bs) (AreBelow-drop 2 width bs h))
+
+-- ---- there and back
+-- numbers that fit are read from the bits that spell them, whatever follows
+pub numbers_at-spelled_more : (widths ns more : List ℕ) → NumbersFit widths ns
+    → numbers_at widths (group_bits widths ns ++ more) ≡ ns
+unfolding numbers_at group_bits
+numbers_at-spelled_more [] [] more h = refl
+numbers_at-spelled_more [] (n ∷ ns) more h = absurd h
+numbers_at-spelled_more (width ∷ widths) [] more h = absurd h
+numbers_at-spelled_more (width ∷ widths) (n ∷ ns) more h =
+    let l : length (bits_of width n) ≡ width = length-bits_of width n in
+    rw append_assoc
+    (ap₂ (λ m ms. m ∷ ms)
+    (ap number (take_at (bits_of width n) (group_bits widths ns ++ more) width l)
+    ∙ number-bits_of-below width n h.0)
+    (ap (numbers_at widths) (drop_at (bits_of width n) (group_bits widths ns ++ more) width l)
+    ∙ numbers_at-spelled_more widths ns more h.1))
+
+-- the same where nothing follows
+pub numbers_at-spelled : (widths ns : List ℕ) → NumbersFit widths ns
+    → numbers_at widths (group_bits widths ns) ≡ ns
+numbers_at-spelled widths ns h =
+    ap (numbers_at widths) (sym (append-nil (group_bits widths ns)))
+    ∙ numbers_at-spelled_more widths ns [] h
+
+-- the first bits are those that the numbers of the groups spell
+pub spelled-numbers_at_front : (widths bs : List ℕ) → AreBits bs → sum widths ≤ length bs
+    → group_bits widths (numbers_at widths bs) ≡ take (sum widths) bs
+unfolding numbers_at group_bits
+spelled-numbers_at_front [] bs all h = refl
+spelled-numbers_at_front (width ∷ widths) bs all h =
+    let both : sum (width ∷ widths) ≡ width + sum widths = sum-cons width widths in
+    let l : length (take width bs) ≡ width = length-take-le width bs (omega arith) in
+    let m : sum widths ≤ length (drop width bs) = simp length-drop (omega arith) in
+    ap₂ (λ cs ds. cs ++ ds)
+    (ap (λ w. bits_of w (number (take width bs))) (sym l)
+    ∙ bits_of-number (take width bs) (AreBelow-take 2 width bs all))
+    (spelled-numbers_at_front widths (drop width bs) (AreBelow-drop 2 width bs all) m)
+    ∙ sym (take-add width (sum widths) bs)
+    ∙ ap (λ n. take n bs) (sym both)
+
+-- the numbers of the groups that bits are spell these bits
+pub spelled-numbers_at : (widths bs : List ℕ) → AreBits bs → length bs ≡ sum widths
+    → group_bits widths (numbers_at widths bs) ≡ bs
+spelled-numbers_at widths bs all h =
+    spelled-numbers_at_front widths bs all (omega arith) ∙ take_all (sum widths) bs (omega arith)
+
+-- ---- groups one after another
+-- groups and then others have the numbers of the first, and those of the others behind them
+pub numbers_at-append : (widths more bs : List ℕ) → numbers_at (widths ++ more) bs
+    ≡ numbers_at widths bs ++ numbers_at more (drop (sum widths) bs)
+unfolding numbers_at
+numbers_at-append [] more bs = refl
+numbers_at-append (width ∷ widths) more bs =
+    ap (λ ns. number (take width bs) ∷ ns)
+    (numbers_at-append widths more (drop width bs)
+    ∙ ap (λ ds. numbers_at widths (drop width bs) ++ numbers_at more ds)
+    (drop-drop (sum widths) width bs ∙ ap (λ n. drop n bs) (sym (sum-cons width widths))))
+
+-- groups and then others are spelled one after the other
+pub spelled-append : (widths more ns ms : List ℕ) → length ns ≡ length widths
+    → group_bits (widths ++ more) (ns ++ ms) ≡ group_bits widths ns ++ group_bits more ms
+unfolding group_bits
+spelled-append [] more [] ms h = refl
+spelled-append [] more (n ∷ ns) ms h = absurd (omega arith)
+spelled-append (width ∷ widths) more [] ms h = absurd (omega arith)
+spelled-append (width ∷ widths) more (n ∷ ns) ms h =
+    ap (λ bs. bits_of width n ++ bs) (spelled-append widths more ns ms (omega arith))
+    ∙ sym (append_assoc (bits_of width n) (group_bits widths ns) (group_bits more ms))
+
+-- ---- only the bits of the groups count
+-- bits after the groups don't change their numbers
+pub numbers_at-front : (widths bs more : List ℕ) → sum widths ≤ length bs
+    → numbers_at widths (bs ++ more) ≡ numbers_at widths bs
+unfolding numbers_at
+numbers_at-front [] bs more h = refl
+numbers_at-front (width ∷ widths) bs more h =
+    let both : sum (width ∷ widths) ≡ width + sum widths = sum-cons width widths in
+    let m : sum widths ≤ length (drop width bs) = simp length-drop (omega arith) in
+    ap₂ (λ n ns. n ∷ ns)
+    (ap number (take-append-le width bs more (omega arith)))
+    (ap (numbers_at widths) (drop-append-le width bs more (omega arith))
+    ∙ numbers_at-front widths (drop width bs) more m)
+
+-- the numbers of groups are those in any first bits that hold all groups
+pub numbers_at-take : (widths bs : List ℕ) (n : ℕ) → sum widths ≤ n → n ≤ length bs
+    → numbers_at widths (take n bs) ≡ numbers_at widths bs
+numbers_at-take widths bs n h l =
+    let m : sum widths ≤ length (take n bs) = simp length-take (omega arith) in
+    sym (numbers_at-front widths (take n bs) (drop n bs) m)
+    ∙ ap (numbers_at widths) (take-append-drop n bs)
+
+-- a group within the first bits is the same in them alone
+pub group-take : (from width n : ℕ) (bs : List ℕ) → from + width ≤ n
+    → group from width (take n bs) ≡ group from width bs
+unfolding group
+group-take from width n bs h =
+    let e : from + (n - from) ≡ n = omega arith in
+    ap (λ k. number (take width (drop from (take k bs)))) (sym e)
+    ∙ ap (λ ds. number (take width ds)) (drop-take from (n - from) bs)
+    ∙ ap number (take-take width (n - from) (drop from bs) (omega arith))
+
+-- a group of what is behind some bits is the group that much further on in all of them
+pub group-drop : (more from width : ℕ) (bs : List ℕ)
+    → group from width (drop more bs) ≡ group (more + from) width bs
+unfolding group
+group-drop more from width bs = ap (λ ds. number (take width ds)) (drop-drop from more bs)
+
+-- a group of the bits of bytes is a group of the bits of the few bytes that it is in
+pub group-bits_part : (from width first count : ℕ) (xs : List ℕ) → 8 * first ≤ from
+    → from + width ≤ 8 * (first + count) → group from width (bits xs)
+    ≡ group (from - 8 * first) width (bits (take count (drop first xs)))
+group-bits_part from width first count xs h l =
+    let e : 8 * first + (from - 8 * first) ≡ from = omega arith in
+    ap (λ k. group k width (bits xs)) (sym e)
+    ∙ sym (group-drop (8 * first) (from - 8 * first) width (bits xs))
+    ∙ ap (group (from - 8 * first) width) (drop-bits first xs)
+    ∙ sym (group-take (from - 8 * first) width (8 * count) (bits (drop first xs)) (omega arith))
+    ∙ ap (group (from - 8 * first) width) (take-bits count (drop first xs))
+
+-- a group is a division and a remainder of the number of all bits
+pub group-number : (from width : ℕ) (bs : List ℕ) → AreBits bs → from + width ≤ length bs
+    → group from width bs ≡ number bs / 2 ^ (length bs - from - width) % 2 ^ width
+unfolding group
+group-number from width bs h l = number-within from width bs h l
+
+-- ---- a group put in place
+module _ (bs : List ℕ) (at width value : ℕ) (room : at + width ≤ length bs) where
+  -- bits with a group put in place are as many as before
+  pub length-put : length (take at bs ++ bits_of width value ++ drop (at + width) bs) ≡ length bs
+  length-put =
+      let front : length (take at bs) ≡ at = length-take-le at bs (omega arith) in
+      omega (
+        arith,
+        length-append (take at bs ++ bits_of width value) (drop (at + width) bs),
+        length-append (take at bs) (bits_of width value),
+        length-bits_of width value,
+        length-drop (at + width) bs,
+      )
+
+  -- what is before it stays, and the value follows
+  pub take-put : take (at + width) (take at bs ++ bits_of width value ++ drop (at + width) bs)
+      ≡ take at bs ++ bits_of width value
+  take-put =
+      take_at (take at bs ++ bits_of width value) (drop (at + width) bs) (at + width)
+      (length-append (take at bs) (bits_of width value)
+      ∙ ap₂ (λ m n. m + n) (length-take-le at bs (omega arith)) (length-bits_of width value))
+
+-- ---- groups as parts of one number
+-- the numbers of successive groups of a number of so many bits
+unfoldable pub sliced : List ℕ → ℕ → List ℕ
+sliced [] n = []
+sliced (width ∷ widths) n = n / 2 ^ sum widths % 2 ^ width ∷ sliced widths n
+
+-- the number that has these in its groups
+unfoldable pub joined : List ℕ → List ℕ → ℕ
+joined [] ns = 0
+joined (width ∷ widths) [] = 0
+joined (width ∷ widths) (n ∷ ns) = n * 2 ^ sum widths + joined widths ns
+
+sliced_one : (width low place high n : ℕ) → width + low ≤ place
+    → (high * 2 ^ place + n) / 2 ^ low % 2 ^ width ≡ n / 2 ^ low % 2 ^ width
+sliced_one width low place high n h =
+    sym (number-bits_of width ((high * 2 ^ place + n) / 2 ^ low))
+    ∙ ap number (sym (take-bits_of width low (high * 2 ^ place + n))
+    ∙ ap (take width) (bits_of-cat_low (width + low) place high n h) ∙ take-bits_of width low n)
+    ∙ number-bits_of width (n / 2 ^ low)
+
+-- bits above the groups don't count
+sliced-cat : (widths : List ℕ) (place high n : ℕ) → sum widths ≤ place
+    → sliced widths (high * 2 ^ place + n) ≡ sliced widths n
+unfolding sliced
+sliced-cat [] place high n h = refl
+sliced-cat (width ∷ widths) place high n h =
+    let both : sum (width ∷ widths) ≡ width + sum widths = sum-cons width widths in
+    ap₂ (λ m ms. m ∷ ms) (sliced_one width (sum widths) place high n (omega arith))
+    (sliced-cat widths place high n (omega arith))
+
+-- groups that are all bits have the numbers that division and remainder make of the number of all
+pub numbers_at-number : (widths bs : List ℕ) → AreBits bs → length bs ≡ sum widths
+    → numbers_at widths bs ≡ sliced widths (number bs)
+unfolding numbers_at sliced
+numbers_at-number [] bs all h = refl
+numbers_at-number (width ∷ widths) bs all h =
+    let both : sum (width ∷ widths) ≡ width + sum widths = sum-cons width widths in
+    let rest : length (drop width bs) ≡ sum widths = simp length-drop (omega arith) in
+    let upper : number bs ≡ number (take width bs) * 2 ^ sum widths + number (drop width bs) =
+    ap number (sym (take-append-drop width bs))
+    ∙ number-append (take width bs) (drop width bs)
+    ∙ ap (λ k. number (take width bs) * 2 ^ k + number (drop width bs)) rest in
+    let small : number (drop width bs) < 2 ^ sum widths =
+    rw (← rest) (number-below (drop width bs) (AreBelow-drop 2 width bs all)) in
+    let l : length (take width bs) ≡ width = length-take-le width bs (omega arith) in
+    let low : number (take width bs) < 2 ^ width = subst (λ k. number (take width bs) < 2 ^ k) l
+    (number-below (take width bs) (AreBelow-take 2 width bs all)) in
+    ap₂ (λ m ms. m ∷ ms)
+    (sym (mod-eq_of_lt low)
+    ∙ ap (λ m. m % 2 ^ width) (sym (shr_high (number (take width bs)) (sum widths)
+    (number (drop width bs)) small) ∙ ap (λ m. m / 2 ^ sum widths) (sym upper)))
+    (numbers_at-number widths (drop width bs) (AreBelow-drop 2 width bs all) rest
+    ∙ sym (sliced-cat widths (sum widths) (number (take width bs)) (number (drop width bs))
+    (omega arith))
+    ∙ ap (sliced widths) (sym upper))
+
+-- the same where more bits follow
+pub numbers_at-number_front : (widths bs : List ℕ) → AreBits bs → sum widths ≤ length bs
+    → numbers_at widths bs ≡ sliced widths (number (take (sum widths) bs))
+numbers_at-number_front widths bs all h =
+    sym (numbers_at-take widths bs (sum widths) (omega arith) h)
+    ∙ numbers_at-number widths (take (sum widths) bs) (AreBelow-take 2 (sum widths) bs all)
+    (length-take-le (sum widths) bs h)
+
+-- numbers joined in their widths are below the power of 2 of all widths
+pub joined-below : (widths ns : List ℕ) → NumbersFit widths ns → joined widths ns < 2 ^ sum widths
+unfolding joined
+joined-below [] [] h = omega arith
+joined-below [] (n ∷ ns) h = absurd h
+joined-below (width ∷ widths) [] h = absurd h
+joined-below (width ∷ widths) (n ∷ ns) h =
+    rw (sum-cons width widths, add_comm width (sum widths), pow-add 2 (sum widths) width)
+    (mul-add-lt n (2 ^ sum widths) (joined widths ns) (2 ^ width) h.0 (joined-below widths ns h.1))
+
+-- numbers in groups are spelled by the bits of the one number that joins them
+pub spelled-joined : (widths ns : List ℕ) → NumbersFit widths ns
+    → group_bits widths ns ≡ bits_of (sum widths) (joined widths ns)
+unfolding group_bits joined bits_of
+spelled-joined [] [] h = refl
+spelled-joined [] (n ∷ ns) h = absurd h
+spelled-joined (width ∷ widths) [] h = absurd h
+spelled-joined (width ∷ widths) (n ∷ ns) h =
+    ap (λ bs. bits_of width n ++ bs) (spelled-joined widths ns h.1)
+    ∙ sym (bits_of-cat width (sum widths) n (joined widths ns) (joined-below widths ns h.1))
+    ∙ ap (λ k. bits_of k (n * 2 ^ sum widths + joined widths ns)) (sym (sum-cons width widths))

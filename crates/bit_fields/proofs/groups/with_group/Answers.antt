@@ -1,0 +1,46 @@
+-- No bit is lost.
+use Rattle.std.proofs.Common.{ap, arith, pow_mono, refl, ◌+◌, ◌-◌, ◌/◌, ◌<◌, ◌^◌, ◌∙◌, ◌≡◌, ◌≤◌}
+use Rattle.std.proofs.{Math.Nat.add_comm, lemmas.Nat.{one_shl, shr-shr}}
+use Rattle.bit_fields.proofs.GroupBytesLemmas.{above_whole, upper_small, upper_whole, whole_small}
+use Rattle.bit_fields.proofs.groups.with_group.Goals.{After-from}
+use Rattle.bit_fields.proofs.groups.with_group.Goals as goal
+
+small : (c : After-from) → c.args.window < 2 ^ 64
+small c = omega arith
+
+above : (c : After-from)
+    → c.args.window / 2 ^ c.args.low / 2 ^ c.args.n ≡ c.args.window / 2 ^ (c.args.n + c.args.low)
+above c = shr-shr c.args.window c.args.low c.args.n
+    ∙ ap (λ k. c.args.window / 2 ^ k) (add_comm c.args.low c.args.n)
+
+pub overflow_add-result : goal.overflow_add-result
+overflow_add-result c =
+    let at = (goal.at.overflow_add-result c).After-from in
+    let kept = above_whole 64 c.args.window c.args.n c.args.low c.args.value (small at)
+    (omega arith) c.requires.fits (omega arith) in
+    let upper = upper_small 64 c.args.window c.args.n c.args.low c.args.value (small at)
+    (omega arith) c.requires.fits in
+    let fewer : 64 - c.args.low ≤ 64 = omega arith in
+    let fits : 2 ^ (64 - c.args.low) ≤ 2 ^ 64 = pow_mono fewer in
+    rw (c.from.ensures, above at, kept) (omega arith)
+
+pub overflow_add-result-2 : goal.overflow_add-result-2
+overflow_add-result-2 c =
+    let at = (goal.at.overflow_add-result-2 c).After-from in
+    let kept = above_whole 64 c.args.window c.args.n c.args.low c.args.value (small at)
+    (omega arith) c.requires.fits (omega arith) in
+    let upper = upper_whole 64 c.args.window c.args.n c.args.low c.args.value (small at)
+    (omega arith) c.requires.fits (omega arith) in
+    let whole = whole_small 64 c.args.window c.args.n c.args.low c.args.value (small at)
+    (omega arith) c.requires.fits in
+    let one = one_shl c.args.low 64 (omega arith) in
+    rw (c.from.ensures, above at, kept, upper, one) (omega arith)
+
+pub returns : goal.returns
+returns c =
+    let kept = above_whole 64 c.args.window c.args.n c.args.low c.args.value (small c)
+    (omega arith) c.requires.fits (omega arith) in
+    let upper = upper_whole 64 c.args.window c.args.n c.args.low c.args.value (small c)
+    (omega arith) c.requires.fits (omega arith) in
+    let one = one_shl c.args.low 64 (omega arith) in
+    rw (c.from.ensures, above c, kept, upper, one) refl

@@ -1,0 +1,269 @@
+-- A command that reads one file: the faults of its input, and what it makes of it.
+use Rattle.std.proofs.Common.{ap, ap₂, arith, Bool, Err, false, IfErr, inl, length, List, None, Ok}
+use Rattle.std.proofs.Common.{Option, refl, Result, Some, subst, sym, unwrap_or, ℕ, [], ◌∙◌, ◌∷◌}
+use Rattle.std.proofs.Common.{◌≡◌, ◌≤◌}
+use Rattle.bit_fields.specs.Bits.{AreBytes}
+use Rattle.commands.proofs.NamedLemmas.{lost_name, missed_name, unread_name}
+use Rattle.commands.proofs.{RefusingLemmas.before_first, WhyLemmas.{each_refusal, each_why}}
+use Rattle.commands.specs.AfterCall.{HasInputNumbers, HasSurveyNumbers, is_before_memory}
+use Rattle.commands.specs.{AfterCall.{IsEditRefusal, IsLateFault, why_of}, Command.AreSoundFiles}
+use Rattle.commands.specs.FaultKinds.{HasRightNumbers, survey_edit_fault}
+use Rattle.commands.specs.SingleOutput.{file_task, HasTaskNumbers, input_result, IsEarlyFault}
+use Rattle.commands.specs.SingleOutput.{IsFileFault, IsInputFault, IsMaking, IsProperTask}
+use Rattle.commands.specs.SingleOutput.{made_file, Making, most_frames, RefusesInput}
+use Rattle.commands.specs.SingleOutput.{surveyed_result, TaskRefuses}
+use Rattle.commands.specs.declared.fault.EditFault.{EditFault, TheVariants.{Input, Memory, Refused}}
+use Rattle.commands.specs.declared.fault.Refusal.{Refusal}
+use Rattle.outside.proofs.FilesLemmas.{there_holds}
+use Rattle.outside.specs.Files.{Contents, Files, Holds, IfTold, IsFileThere, Told, Untold}
+use Rattle.outside.specs.Seen.{Seen, seen_folder}
+use Rattle.sync_survey.proofs.BytesFaultLemmas.{IsOfBytes, surveyed_of_bytes}
+use Rattle.sync_survey.proofs.FoldersLemmas.{survey_of-short}
+use Rattle.sync_survey.proofs.SurveyedFileLemmas.{survey_of-parts, survey_of-sound}
+use Rattle.sync_survey.specs.Faults.{HoldsStream, longest_file, survey_fields, SurveyFields}
+use Rattle.sync_survey.specs.{MainData.StreamFrame, Survey.{IsSurveyFault, survey_of}}
+use Rattle.sync_survey.specs.declared.survey_fault.SurveyFault.{SurveyFault}
+use Rattle.sync_survey.specs.declared.survey_fault.SurveyFault.TheVariants.{Absent}
+use Rattle.sync_survey.specs.declared.survey_fault.SurveyFault.TheVariants.{Memory as NoRoom, Read}
+use Rattle.sync_survey.specs.declared.survey_fault.SurveyFault.TheVariants.{Shrunk, TooLong}
+
+-- ---- the survey of the input
+
+-- its fault is one of the input
+pub file_fault : (place allowed : ℕ) (name : List ℕ) (old new : Seen) (fault : SurveyFault)
+    → new.files ≡ old.files → IsSurveyFault name old.files allowed old.counts new.counts fault
+    → IsFileFault place allowed name old new (survey_edit_fault place fault)
+file_fault place allowed name old new Absent same h =
+    record { is = refl; missing = h.0; rose = h.1; files = same }
+file_fault place allowed name old new Read same h = record { is = refl; rose = h; files = same }
+file_fault place allowed name old new (Shrunk first second) same h =
+    record {
+      first = first;
+      second = second;
+      is = refl;
+      rose = h.ended;
+      counts = h.counts;
+      untold = h.nothing_told;
+      files = same;
+    }
+file_fault place allowed name old new NoRoom same h =
+    record { there = h.there; few = h.few; stays = ap₂ seen_folder same h.counts }
+file_fault place allowed name old new fault same h = (
+  fault,
+  refl,
+  record { there = h.there; bytes = h.bytes; stays = ap₂ seen_folder same h.counts },
+)
+
+-- and says where and why
+pub survey_numbers : (place : ℕ) (fault : SurveyFault) → HasRightNumbers fault
+    → HasSurveyNumbers place (survey_edit_fault place fault)
+survey_numbers place NoRoom right = tt
+survey_numbers place fault right = (refl, (λ same. absurd cc), right)
+
+made-fault : (make : Making) (bytes : List ℕ) (fault : SurveyFault)
+    → survey_of bytes most_frames ≡ Err fault → made_file make bytes ≡ Err (Input 0 fault)
+unfolding made_file
+made-fault make bytes fault is = ap (surveyed_result make bytes) is
+
+-- of a surveyed file is made what is made of it by its survey
+pub made-survey : (make : Making) (bytes : List ℕ) (s : SurveyFields)
+    → survey_of bytes most_frames ≡ Ok s → made_file make bytes ≡ make bytes s
+unfolding made_file
+made-survey make bytes s is = ap (surveyed_result make bytes) is
+
+-- a file of which something was made has a survey, by which it was made
+pub made_parts : (make : Making) (file new : List ℕ) → made_file make file ≡ Ok new
+    → (s : SurveyFields) × (survey_of file most_frames ≡ Ok s) × (make file s ≡ Ok new)
+unfolding made_file
+made_parts make file new e = at (survey_of file most_frames) refl e
+  where
+    at : (r : Result SurveyFields SurveyFault) → survey_of file most_frames ≡ r
+        → surveyed_result make file r ≡ Ok new
+        → (s : SurveyFields) × (survey_of file most_frames ≡ Ok s) × (make file s ≡ Ok new)
+    at (Err fault) is e = absurd cc
+    at (Ok s) is e = (s, is, e)
+
+-- and so one of the only input, whatever the command makes of it
+module _ (make : Making) (name : List ℕ) (old new : Seen) (fault : EditFault) where
+  -- a fault of the file is one of the input
+  pub fault_is_input : IsFileFault 0 most_frames name old new fault
+      → IsInputFault make name old new fault
+  fault_is_input h = each_why (why_of fault) h
+      (each_refusal (λ r. subst (RefusesInput make name old new) (sym r.1) (record {
+        there = r.2.there;
+        bytes = λ bytes holds. made-fault make bytes r.0 (r.2.bytes bytes holds);
+        stays = r.2.stays;
+      })))
+
+-- a fault of the survey is one of the input
+pub of_survey_input : (refuses : Refusal → Bool) (fault : EditFault) → HasSurveyNumbers 0 fault
+    → HasInputNumbers refuses fault
+of_survey_input refuses (Input place fault) is = is
+of_survey_input refuses Memory is = tt
+of_survey_input refuses _ is = absurd is
+
+-- ---- what the command decides of it
+
+-- so is a refusal
+pub refusal_numbers : (refuses : Refusal → Bool) (fault : EditFault) → IsEditRefusal refuses fault
+    → HasInputNumbers refuses fault
+refusal_numbers refuses (Refused refusal) is = is
+refusal_numbers refuses _ is = absurd is
+
+-- a refusal of what was read is one of the input, with its cause
+pub refused_is_input : (make : Making) (name : List ℕ) (old new : Seen) (s : SurveyFields)
+    (refuses : Refusal → Bool) (fault : EditFault) → IsEditRefusal refuses fault
+    → IsFileThere old.files name
+    → ((bytes : List ℕ) → Holds old.files name bytes → survey_of bytes most_frames ≡ Ok s)
+    → ((bytes : List ℕ) → Holds old.files name bytes → make bytes s ≡ Err fault) → new ≡ old
+    → IsInputFault make name old new fault
+refused_is_input make name old new s refuses
+    (Refused refusal) is there survey_fields refused stays =
+    record {
+      there = there;
+      bytes = λ bytes holds. made-survey make bytes s (survey_fields bytes holds)
+          ∙ refused bytes holds;
+      stays = stays;
+    }
+refused_is_input make name old new s refuses _ is there survey_fields refused stays = absurd is
+
+-- want of memory, once the input was surveyed
+pub memory_is_input : (make : Making) (name : List ℕ) (old new : Seen) (s : SurveyFields)
+    → IsFileThere old.files name
+    → ((bytes : List ℕ) → Holds old.files name bytes → survey_of bytes most_frames ≡ Ok s)
+    → new ≡ old → IsInputFault make name old new Memory
+memory_is_input make name old new s there is stays = record {
+  there = there;
+  few = λ bytes holds. (survey_of-parts bytes most_frames s (is bytes holds)).0;
+  stays = stays;
+}
+
+-- ---- as a command that makes one file
+
+module _ (make : Making) (stream : List ℕ → List StreamFrame) (refuses : Refusal → Bool)
+    (input : List ℕ) where
+  refuses_where : (files : Files) (fault : EditFault) (r : Option (List ℕ))
+      → IfTold files (λ f. f input ≡ r) → input_result make r ≡ Err fault
+      → TaskRefuses (file_task make stream refuses input) files fault
+  refuses_where (Untold touched) fault r held is = tt
+  refuses_where (Told f) fault r held is = ap (input_result make) held ∙ is
+
+  refuses_held : (files : Files) (fault : EditFault) → IsFileThere files input
+      → ((bytes : List ℕ) → Holds files input bytes → made_file make bytes ≡ Err fault)
+      → TaskRefuses (file_task make stream refuses input) files fault
+  refuses_held (Untold touched) fault there is = tt
+  refuses_held (Told f) fault there is = let held = there_holds f input there in
+      ap (input_result make) held.1 ∙ is held.0 held.1
+
+  module _ (old new : Seen) (fault : EditFault) where
+    -- a fault of the input comes before the output is created
+    pub input_is_early : IsInputFault make input old new fault
+        → IsEarlyFault (file_task make stream refuses input) old new fault
+    input_is_early h = each_why (why_of fault) h (record {
+      rejected =
+          λ r. record { defined = refuses_held old.files fault r.there r.bytes; stays = r.stays };
+      missing = λ m. record {
+        defined = refuses_where old.files fault None m.missing (ap (λ f. Err f) (sym m.is));
+        rose = missed_name (input ∷ []) 0 refl m;
+        files = m.files;
+      };
+      unread = λ u. record {
+        before = before_first old.files (file_task make stream refuses input).makes fault u.is;
+        rose = unread_name (input ∷ []) 0 refl u;
+        files = u.files;
+      };
+      shorter = λ l. record { ended = lost_name (input ∷ []) 0 refl l; files = l.files };
+      unwritten = λ k w. w;
+      unsent = λ w. w;
+      no_memory = λ n. n;
+    })
+
+  -- a fault of the input has the numbers of the task's inputs
+  pub input_numbers : (fault : EditFault) → HasInputNumbers refuses fault
+      → HasTaskNumbers (file_task make stream refuses input) fault
+  input_numbers (Input place fault) h = (omega (arith, h.0), h.1, h.2, inl h.0)
+  input_numbers (Refused refusal) h = h
+  input_numbers Memory h = tt
+  input_numbers _ h = absurd h
+
+  -- the file was surveyed, and the command accepts it
+  pub file_makes : (files : Files) (made : List ℕ → List ℕ) (s : SurveyFields)
+      → IsFileThere files input
+      → ((bytes : List ℕ) → Holds files input bytes → survey_of bytes most_frames ≡ Ok s)
+      → ((bytes : List ℕ) → Holds files input bytes → AreBytes bytes)
+      → ((bytes : List ℕ) → Holds files input bytes → make bytes s ≡ Ok (made bytes))
+      → IsMaking (file_task make stream refuses input) made files
+  file_makes files made s there is octets makes =
+      record { there = there; makes = at files is octets makes }
+    where
+      at : (files : Files)
+          → ((bytes : List ℕ) → Holds files input bytes → survey_of bytes most_frames ≡ Ok s)
+          → ((bytes : List ℕ) → Holds files input bytes → AreBytes bytes)
+          → ((bytes : List ℕ) → Holds files input bytes → make bytes s ≡ Ok (made bytes))
+          → IfTold files (λ f. (bytes : List ℕ) → f input ≡ Some bytes
+          → AreBytes bytes × (input_result make (f input) ≡ Ok (made bytes)))
+      at (Untold touched) is octets makes = tt
+      at (Told f) is octets makes = λ bytes holds. (
+        octets bytes holds,
+        ap (input_result make) holds ∙ made-survey make bytes s (is bytes holds)
+            ∙ makes bytes holds,
+      )
+
+-- ---- what has to hold of such a command
+
+-- the refusals are late, and what is made of well-formed files holds the stream it says
+pub record IsProperMaking (make : Making) (stream : List ℕ → List StreamFrame) : Type 0 where
+  -- its refusals are none of those that are found before any memory is taken
+  pub late : (file : List ℕ) (s : SurveyFields) → IfErr (make file s) IsLateFault
+  -- what it makes of well-formed files holds the stream that it says
+  pub streams : (file : List ℕ) (s : SurveyFields) (new : List ℕ) → AreBytes file
+      → survey_of file most_frames ≡ Ok s → make file s ≡ Ok new → HoldsStream new (stream file)
+
+-- a fault of the bytes isn't found before memory is taken
+pub of_bytes_behind : (fault : SurveyFault) → IsOfBytes fault
+    → is_before_memory (Input 0 fault) ≡ false
+of_bytes_behind Absent is = absurd is
+of_bytes_behind (TooLong size) is = absurd is
+of_bytes_behind _ is = refl
+
+module _ (make : Making) (stream : List ℕ → List StreamFrame)
+    (proper : IsProperMaking make stream) where
+  survey_late : (bytes : List ℕ) (r : Result SurveyFields SurveyFault)
+      → ((fault : SurveyFault) → r ≡ Err fault → IsOfBytes fault)
+      → IfErr (surveyed_result make bytes r) IsLateFault
+  survey_late bytes (Err fault) of_bytes = of_bytes_behind fault (of_bytes fault refl)
+  survey_late bytes (Ok s) of_bytes = proper.late bytes s
+
+  short_late : (bytes : List ℕ) → length bytes ≤ longest_file
+      → IfErr (made_file make bytes) IsLateFault
+  unfolding made_file
+  short_late bytes few =
+      subst (λ r. IfErr (surveyed_result make bytes r) IsLateFault)
+      (sym (survey_of-short bytes most_frames few))
+      (survey_late bytes (survey_fields bytes most_frames) (surveyed_of_bytes bytes most_frames))
+
+  file_late : (o : Option (List ℕ)) (bytes : List ℕ) → o ≡ Some bytes → length bytes ≤ longest_file
+      → IfErr (input_result make o) IsLateFault
+  file_late o bytes held few =
+      subst (λ o. IfErr (input_result make o) IsLateFault) (sym held) (short_late bytes few)
+
+  file_streams : (f : Contents) (input bytes new : List ℕ) → f input ≡ Some bytes → AreBytes bytes
+      → input_result make (f input) ≡ Ok new
+      → AreSoundFiles f (input ∷ []) × HoldsStream new (stream (unwrap_or (f input) []))
+  file_streams f input bytes new held octets is =
+      let parts = made_parts make bytes new (ap (input_result make) (sym held) ∙ is) in (
+        ((bytes, held, survey_of-sound bytes most_frames parts.0 parts.1), tt),
+        subst (λ o. HoldsStream new (stream (unwrap_or o []))) (sym held)
+            (proper.streams bytes parts.0 new octets parts.1 parts.2),
+      )
+
+  -- a command of one file is proper where what it makes is
+  pub file_proper : (refuses : Refusal → Bool) (input : List ℕ)
+      → IsProperTask (file_task make stream refuses input)
+  file_proper refuses input = record {
+    some = omega arith;
+    first = refl;
+    late = λ f bytes held few. file_late (f input) bytes held
+        few;
+    streams = λ f bytes new held octets is. file_streams f input bytes new held octets is;
+  }

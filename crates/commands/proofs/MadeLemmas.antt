@@ -1,0 +1,92 @@
+-- What a command that makes one file makes, from its answer.
+use Rattle.std.proofs.Common.{ap, ap₂, arith, Err, length, List, None, Ok, Option, refl, Result}
+use Rattle.std.proofs.{Common.{Some, sym, ℕ, [], ◌<◌, ◌∙◌, ◌∷◌, ◌≡◌}, lemmas.List.length-map}
+use Rattle.commands.{proofs.InputLemmas.{made-survey, made_parts}, specs.Command.Made}
+use Rattle.commands.specs.SingleOutput.{clash_in, clash_or, command_result, input_result, Making}
+use Rattle.commands.specs.SingleOutput.{most_frames, one_command, Task, task_result}
+use Rattle.commands.specs.declared.fault.EditFault.{EditFault}
+use Rattle.outside.specs.Files.{Contents}
+use Rattle.sync_survey.proofs.FaultsLemmas.{marked-length}
+use Rattle.sync_survey.proofs.SurveyPartsLemmas.{frames_from, some_frames, surveyed-parts}
+use Rattle.sync_survey.{proofs.SurveyedFileLemmas.survey_of-parts, specs.Faults.SurveyFields}
+use Rattle.sync_survey.specs.{MainData.{row_of, rows_of}, Survey.survey_of, Walk.head_of}
+
+-- ---- one output
+
+one_parts : (output : List ℕ) (clash : Option ℕ) (r : Result (List ℕ) EditFault) (made : Made)
+    → command_result output (clash_or clash r) ≡ Ok made
+    → (clash ≡ None) × (bytes : List ℕ) × (r ≡ Ok bytes)
+one_parts output (Some place) r made e = absurd cc
+one_parts output None (Ok bytes) made e = (refl, bytes, refl)
+one_parts output None (Err fault) made e = absurd cc
+
+-- a command that isn't refused has no clash, and makes some bytes
+pub makes-parts : (task : Task) (output : List ℕ) (files : Contents) (made : Made)
+    → (one_command task output).makes files ≡ Ok made
+    → (clash_in task output ≡ None) × (bytes : List ℕ) × (task.makes files ≡ Ok bytes)
+unfolding task_result
+makes-parts task output files made e =
+    one_parts output (clash_in task output) (task.makes files) made e
+
+-- and one without a clash that makes some bytes isn't refused
+pub parts-make : (task : Task) (output : List ℕ) (files : Contents) (bytes : List ℕ)
+    → clash_in task output ≡ None → task.makes files ≡ Ok bytes
+    → (made : Made) × ((one_command task output).makes files ≡ Ok made)
+unfolding task_result
+parts-make task output files bytes free is = (
+  record { outputs = record { name = output; bytes = bytes } ∷ []; text = [] },
+  ap₂ (λ (o : Option ℕ) (r : Result (List ℕ) EditFault). command_result output (clash_or o r)) free
+      is,
+)
+
+-- ---- of one input
+
+-- the file, its survey, and the bytes that are made of them
+pub record IsMadeOf (make : Making) (files : Contents) (name : List ℕ) : Type 0 where
+  pub file : List ℕ
+  pub survey : SurveyFields
+  pub there : files name ≡ Some file
+  pub surveyed : survey_of file most_frames ≡ Ok survey
+  pub bytes : List ℕ
+  pub made : make file survey ≡ Ok bytes
+
+file-parts : (make : Making) (files : Contents) (name bytes : List ℕ) (o : Option (List ℕ))
+    → files name ≡ o → input_result make o ≡ Ok bytes → IsMadeOf make files name
+file-parts make files name bytes None there e = absurd cc
+file-parts make files name bytes (Some file) there e =
+    let parts = made_parts make file bytes e in
+    record {
+      file = file;
+      survey = parts.0;
+      there = there;
+      surveyed = parts.1;
+      bytes = bytes;
+      made =
+          parts.2;
+    }
+
+-- bytes that are made of a name's file are made by its survey
+pub made-of : (make : Making) (files : Contents) (name bytes : List ℕ)
+    → input_result make (files name) ≡ Ok bytes → IsMadeOf make files name
+made-of make files name bytes e = file-parts make files name bytes (files name) refl e
+
+-- of a surveyed file under the name are made the bytes that are made by its survey
+pub of-made : (make : Making) (files : Contents) (name file : List ℕ) (s : SurveyFields)
+    → files name ≡ Some file → survey_of file most_frames ≡ Ok s
+    → input_result make (files name) ≡ make file s
+of-made make files name file s there surveyed =
+    ap (input_result make) there ∙ made-survey make file s surveyed
+
+-- ---- a surveyed file has a frame
+
+-- a surveyed file has a frame
+pub some-frames : (file : List ℕ) (allowed : ℕ) (s : SurveyFields) → survey_of file allowed ≡ Ok s
+    → 0 < length s.frames
+some-frames file allowed s e =
+    let parts = surveyed-parts file allowed s (survey_of-parts file allowed s e).1 in
+    let frames = frames_from file parts.0 in
+    let head = head_of file parts.0.first in
+    let size : length s.frames ≡ length (rows_of file frames) =
+    ap (λ (t : SurveyFields). length t.frames) (sym parts.2)
+    ∙ marked-length head (rows_of file frames) in
+    omega (arith, size, length-map frames (row_of file), some_frames file frames _ parts.1.end)

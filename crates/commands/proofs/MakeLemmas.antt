@@ -1,0 +1,393 @@
+-- A command that makes one file: what it leaves by its steps.
+use Rattle.std.proofs.Common.{ap, ap₂, arith, Bool, bytes_eq, cond, Err, false, IfErr, inl, inr}
+use Rattle.std.proofs.Common.{IsErrOf, length, List, None, Ok, OnOk, Option, refl, Result}
+use Rattle.std.proofs.Common.{slice_index_or, Some, subst, sym, true, ℕ, [], ◌||◌, ◌↔◌, ◌∙◌, ◌∷◌}
+use Rattle.std.{proofs.Common.{◌≡◌, ◌≢◌, ◌≤◌}, specs.{List.list_any, Result.IsErrAnd}}
+use Rattle.bit_fields.specs.Bits.{AreBytes}
+use Rattle.commands.proofs.{NamedLemmas.among_all, WhyLemmas.each_why}
+use Rattle.commands.specs.AfterCall.{HasNumbers, HasPassNumbers, IsCommandDone, IsCommandFault}
+use Rattle.commands.specs.AfterCall.{IsLateFault, IsNotBefore, IsOutputUnfinished, IsWrittenTo}
+use Rattle.commands.specs.AfterCall.{TakesMemory, why_of}
+use Rattle.commands.specs.Command.{AreSoundFiles, clash_from, clash_of, Command, HasAnswer}
+use Rattle.commands.specs.Command.{HoldsStreams, LacksBytes, Made, MakesStreams}
+use Rattle.commands.specs.{Command.{partly_written_files, written_files}, Inputs.names_of}
+use Rattle.commands.specs.Runs.{IsRunOf}
+use Rattle.commands.specs.SingleOutput.{clash_in, command_result, files_holding, first_input}
+use Rattle.commands.specs.SingleOutput.{HasTaskNumbers, HoldsLess, HoldsPrefix, IsEarlyFault}
+use Rattle.commands.specs.SingleOutput.{IsLeftShort, IsMaking, IsOutputBegun, IsPassFault}
+use Rattle.commands.specs.SingleOutput.{one_command, Task, task_result, TaskRefuses}
+use Rattle.commands.specs.declared.fault.EditFault.{EditFault}
+use Rattle.commands.specs.declared.fault.EditFault.TheVariants.{EqualNames, Input, Memory, Refused}
+use Rattle.commands.specs.declared.inputs.Inputs.{Inputs}
+use Rattle.outside.proofs.FilesLemmas.{bytes_eq_same, there_holds, touches_none}
+use Rattle.outside.specs.Counts.{HappenedTo, NoneFell}
+use Rattle.outside.specs.Files.{Contents, Files, Holds, IfTold, IsFileThere, OnlyTouches, Told}
+use Rattle.outside.specs.{Files.Untold, Seen.{Seen, seen_folder}}
+use Rattle.sync_survey.specs.Faults.{HoldsStream, longest_file}
+
+abbrev pub ok_made : Made → Result Made EditFault
+ok_made made = Ok made
+
+-- what was made is the same where the answers are
+pub made-same : (a b : Made) → ok_made a ≡ ok_made b → a ≡ b
+made-same a b e = cc
+
+-- ---- names
+
+-- the first name is no output's, and no other is
+pub no_clash : (b : Bool) (place : ℕ) (o : Option ℕ) → cond b (Some place) o ≡ None
+    → (b ≡ false) × (o ≡ None)
+no_clash true place o none = absurd cc
+no_clash false place o none = (refl, none)
+
+or_none : (a b : Bool) → (a || b) ≡ false → a ≡ false
+or_none true b none = absurd cc
+or_none false b none = refl
+
+-- a name that is none of these isn't the first of them
+pub other_name : (name output : List ℕ) (outputs : List (List ℕ))
+    → list_any (bytes_eq name) (output ∷ outputs) ≡ false → name ≢ output
+other_name name output outputs none same =
+    let both : true ≡ false = sym (ap (bytes_eq name) (sym same) ∙ bytes_eq_same name)
+    ∙ or_none (bytes_eq name output) _ none in
+    absurd cc
+
+-- without a clash the first input isn't the output
+pub source_apart : (inputs : List (List ℕ)) (source output : List ℕ) → 1 ≤ length inputs
+    → first_input inputs ≡ source → clash_from (output ∷ []) 0 inputs ≡ None → source ≢ output
+source_apart [] source output some first free = absurd (omega (arith, some))
+source_apart (name ∷ inputs) source output some first free =
+    λ same. other_name name output [] (no_clash _ 0 _ free).0 (first ∙ same)
+
+-- the names of the inputs are those of what the command reads
+module _ (inputs : Inputs) (task : Task) (named : names_of inputs ≡ task.inputs) where
+  -- the source of the inputs is that of the command
+  pub source_is : first_input task.inputs ≡ task.source → inputs.source.now ≡ task.source
+  source_is first = ap first_input named ∙ first
+
+  -- a clash of the inputs with the output is that of the command
+  pub clash_is : (output : List ℕ) {found place : Option ℕ} → found
+      ≡ clash_from (output ∷ []) 0 (names_of inputs) → found ≡ place → clash_in task output ≡ place
+  clash_is output of is = ap (clash_from (output ∷ []) 0) (sym named) ∙ sym of ∙ is
+
+made_result-clash : (task : Task) (output : List ℕ) (place : ℕ) (f : Contents)
+    → clash_in task output ≡ Some place → task_result task output f ≡ Err (EqualNames place)
+unfolding task_result
+made_result-clash task output place f clash = rw clash refl
+
+made_result-free : (task : Task) (output : List ℕ) (f : Contents) → clash_in task output ≡ None
+    → task_result task output f ≡ task.makes f
+unfolding task_result
+made_result-free task output f free = rw free refl
+
+gives_clash : (task : Task) (output : List ℕ) (place : ℕ) (files : Files) → clash_in task output
+    ≡ Some place → HasAnswer (one_command task output) files (Err (EqualNames place))
+gives_clash task output place (Untold touched) clash = tt
+gives_clash task output place (Told f) clash =
+    ap (command_result output) (made_result-clash task output place f clash)
+
+-- a clash leaves all as it was, with its number
+pub clash_left : (task : Task) (output : List ℕ) (place : ℕ) (now : Seen) → clash_in task output
+    ≡ Some place → IsCommandFault (one_command task output) now now (EqualNames place)
+clash_left task output place now clash =
+    record { defined = gives_clash task output place now.files clash; stays = refl }
+
+-- ---- before the output is created
+
+module _ (task : Task) (output : List ℕ) (free : clash_in task output ≡ None) where
+  makes_free : (f : Contents)
+      → (one_command task output).makes f ≡ command_result output (task.makes f)
+  makes_free f = ap (command_result output) (made_result-free task output f free)
+
+  gives_refused : (files : Files) (fault : EditFault) → TaskRefuses task files fault
+      → HasAnswer (one_command task output) files (Err fault)
+  gives_refused (Untold touched) fault is = tt
+  gives_refused (Told f) fault is = makes_free f ∙ ap (command_result output) is
+
+  -- what holds of every fault
+  all_of : (P : EditFault → Type 0) (r : Result (List ℕ) EditFault) → IfErr r P
+      → IfErr (command_result output r) P
+  all_of P (Ok new) is = tt
+  all_of P (Err fault) is = is
+
+  all_made : (files : Files) (P : EditFault → Type 0) → IfTold files (λ f. IfErr (task.makes f) P)
+      → IfTold files (λ f. IfErr ((one_command task output).makes f) P)
+  all_made (Untold touched) P is = tt
+  all_made (Told f) P is = subst (λ r. IfErr r P) (sym (makes_free f)) (all_of P (task.makes f) is)
+
+  takes : (r : Result (List ℕ) EditFault) → IfErr r IsLateFault
+      → TakesMemory (command_result output r)
+  takes (Ok new) late = tt
+  takes (Err fault) late = late
+
+  module _ (late : (f : Contents) (bytes : List ℕ) → f task.source ≡ Some bytes
+      → length bytes ≤ longest_file → IfErr (task.makes f) IsLateFault) where
+    takes_memory : (files : Files) → IsFileThere files task.source
+        → ((bytes : List ℕ) → Holds files task.source bytes → length bytes ≤ longest_file)
+        → IfTold files (λ f. TakesMemory ((one_command task output).makes f))
+    takes_memory (Untold touched) there few = tt
+    takes_memory (Told f) there few =
+        let held = there_holds f task.source there in
+        subst TakesMemory (sym (makes_free f))
+        (takes (task.makes f) (late f held.0 held.1 (few held.0 held.1)))
+
+    module _ (old new : Seen) (fault : EditFault) where
+      stays_touched : new.files ≡ old.files → OnlyTouches (output ∷ []) old.files new.files
+      stays_touched stays = subst (λ files. OnlyTouches (output ∷ []) old.files files) (sym stays)
+          (touches_none (output ∷ []) old.files)
+
+      -- a fault before the output leaves all as it was
+      pub early_left : IsEarlyFault task old new fault
+          → IsCommandFault (one_command task output) old new fault
+      early_left h = each_why (why_of fault) h (record {
+        rejected =
+            λ r. record { defined = gives_refused old.files fault r.defined; stays = r.stays };
+        missing = λ m. record {
+          defined = gives_refused old.files fault m.defined;
+          rose = m.rose;
+          files = m.files;
+        };
+        unread = λ u. record {
+          names = free;
+          before = all_made old.files (IsNotBefore fault) u.before;
+          rose = u.rose;
+          files = inl u.files;
+        };
+        shorter = λ l. record { ended = l.ended; touches = stays_touched l.files };
+        unwritten = λ k w. absurd w;
+        unsent = λ w. absurd w;
+        no_memory = λ n.
+            record { names = free; takes = takes_memory old.files n.there n.few; stays = n.stays };
+      })
+
+  -- ---- the second pass
+
+  module _ (file : List ℕ → List ℕ) where
+    abbrev whole_made : List ℕ → Made
+    whole_made bytes =
+        record { outputs = record { name = output; bytes = file bytes } ∷ []; text = [] }
+
+    -- what is made of a told source
+    gives_made : (f : Contents) → IsMaking task file (Told f) → (bytes : List ℕ)
+        × (f task.source ≡ Some bytes) × ((one_command task output).makes f ≡ Ok (whole_made bytes))
+    gives_made f making =
+        let held = there_holds f task.source making.there in
+        (held.0, held.1, makes_free f ∙ ap (command_result output) (making.makes held.0 held.1).1)
+
+    made_none : (files : Files) (P : EditFault → Type 0) → IsMaking task file files
+        → IfTold files (λ f. IfErr ((one_command task output).makes f) P)
+    made_none (Untold touched) P making = tt
+    made_none (Told f) P making = subst (λ r. IfErr r P) (sym (gives_made f making).2) tt
+
+    -- the output was written whole
+    made_whole : (files new : Files) → IsMaking task file files → ((bytes : List ℕ)
+        → Holds files task.source bytes → new ≡ files_holding files output (file bytes))
+        → IfTold files (λ f. (made : Made) × ((one_command task output).makes f ≡ Ok made)
+        × (new ≡ Told (written_files made.outputs f)))
+    unfolding files_holding
+    made_whole (Untold touched) new making wrote = tt
+    made_whole (Told f) new making wrote =
+        let gives = gives_made f making in
+        (whole_made gives.0, gives.2, wrote gives.0 gives.1)
+
+    -- or in part
+    begun_to : (f : Contents) (new : Files) (moved : List ℕ) → HoldsPrefix output moved (Told f) new
+        → (count : Option ℕ)
+        × (new
+        ≡ Told (partly_written_files 0 count (record { name = output; bytes = moved } ∷ []) f))
+    unfolding files_holding
+    begun_to f new moved (inl stays) = (None, stays)
+    begun_to f new moved (inr part) = (Some part.0, part.1)
+
+    less_to : (f : Contents) (new : Files) (moved : List ℕ) → HoldsLess output moved (Told f) new
+        → (count : Option ℕ) × LacksBytes count (record { name = output; bytes = moved } ∷ [])
+        × (new
+        ≡ Told (partly_written_files 0 count (record { name = output; bytes = moved } ∷ []) f))
+    unfolding files_holding
+    less_to f new moved (inl stays) = (None, tt, stays)
+    less_to f new moved (inr part) = (Some part.0, part.1, part.2)
+
+    written_part : (old new : Files) → IsMaking task file old
+        → ((bytes : List ℕ) → Holds old task.source bytes → HoldsPrefix output (file bytes) old new)
+        → OnlyTouches (output ∷ []) old new → IsWrittenTo (one_command task output) 0 old new
+    written_part (Untold touched) new making part touches = record { made = tt; touches = touches }
+    written_part (Told f) new making part touches =
+        let gives = gives_made f making in
+        let begun = begun_to f new (file gives.0) (part gives.0 gives.1) in
+        record {
+          made = (whole_made gives.0, gives.2, omega arith, begun.0, begun.1);
+          touches = touches;
+        }
+
+    unfinished_part : (old new : Files) → IsMaking task file old
+        → ((bytes : List ℕ) → Holds old task.source bytes → HoldsLess output (file bytes) old new)
+        → OnlyTouches (output ∷ []) old new → IsOutputUnfinished (one_command task output) 0 old new
+    unfinished_part (Untold touched) new making part touches =
+        record { made = tt; touches = touches }
+    unfinished_part (Told f) new making part touches =
+        let gives = gives_made f making in
+        let begun = less_to f new (file gives.0) (part gives.0 gives.1) in
+        record {
+          made = (whole_made gives.0, gives.2, omega arith, begun.0, begun.1, begun.2);
+          touches = touches;
+        }
+
+    module _ (first : first_input task.inputs ≡ task.source) (old new : Seen) (fault : EditFault)
+        (making : IsMaking task file old.files)
+        (touches : OnlyTouches (output ∷ []) old.files new.files) where
+      pass_left : IsPassFault file task.inputs output old new fault
+          → IsCommandFault (one_command task output) old new fault
+      pass_left h = each_why (why_of fault) h (record {
+        rejected = λ w. absurd w;
+        missing = λ w. absurd w;
+        unread = λ u.
+            let begun =
+            subst (λ n. IsOutputBegun file n output old.files new.files) first u.files in
+            record {
+              names = free;
+              before = made_none old.files (IsNotBefore fault) making;
+              rose = u.rose;
+              files = inr (0, written_part old.files new.files making begun touches);
+            };
+        shorter = λ l. record { ended = l; touches = touches };
+        unwritten = λ k w.
+            let short =
+            subst (λ n. IsLeftShort file n output old.files new.files) first w.1.files in
+            record {
+              rose = subst (λ n. HappenedTo (slice_index_or (output ∷ []) n [])
+                  old.counts.write_faults new.counts.write_faults) (sym w.0) w.1.rose;
+              files =
+                  subst (λ n. IsOutputUnfinished (one_command task output) n old.files new.files)
+                  (sym w.0) (unfinished_part old.files new.files making short touches);
+            };
+        unsent = λ w. absurd w;
+        no_memory = λ w. absurd w;
+      })
+
+    -- from where the files and counts were left as they had been
+    module _ {T : Type 0} (old mid new : Seen) (stays : mid ≡ old) (making : IsMaking task file
+        old.files) (touches : OnlyTouches (output ∷ []) mid.files new.files) where
+      -- if the output holds what is made, and no count changed, the command is done
+      pub one_done : (r : Result T EditFault)
+          → OnOk r ((bytes : List ℕ) → Holds mid.files task.source bytes → new.files
+          ≡ files_holding mid.files output (file bytes)) → OnOk r (new.counts ≡ mid.counts)
+          → OnOk r (IsCommandDone (one_command task output) old new)
+      one_done (Ok x) wrote counts =
+          record {
+            made = made_whole old.files new.files making
+                (subst (λ (m : Seen). (bytes : List ℕ) → Holds m.files task.source bytes
+                → new.files ≡ files_holding m.files output (file bytes)) stays wrote);
+            touches =
+                subst (λ (m : Seen). OnlyTouches (output ∷ []) m.files new.files) stays touches;
+            counts = counts ∙ ap (λ (m : Seen). m.counts) stays;
+          }
+      one_done (Err fault) wrote counts = tt
+
+      -- a fault of the pass leaves the output begun
+      pub all_left : first_input task.inputs ≡ task.source → (r : Result T EditFault)
+          → IfErr r (IsPassFault file task.inputs output mid new)
+          → IfErr r (IsCommandFault (one_command task output) old new)
+      all_left first (Ok x) h = tt
+      all_left first (Err fault) h =
+          pass_left first old new fault making
+          (subst (λ (m : Seen). OnlyTouches (output ∷ []) m.files new.files) stays touches)
+          (subst (λ m. IsPassFault file task.inputs output m new fault) stays h)
+
+      -- so does a fault of a pass over the source alone
+      pub one_left : first_input task.inputs ≡ task.source → (r : Result T EditFault)
+          → IfErr r HasPassNumbers → IfErr r (IsPassFault file (task.source ∷ []) output mid new)
+          → IfErr r (IsCommandFault (one_command task output) old new)
+      one_left first (Ok x) numbers h = tt
+      one_left first (Err fault) numbers h = all_left first failed
+          (among_all file task.inputs task.source first output mid new fault numbers h)
+        where
+          failed : Result T EditFault
+          failed = Err fault
+
+    -- ---- what the output holds
+
+    abbrev Hold : Contents → Type 0
+    Hold f = (bytes : List ℕ) → f task.source ≡ Some bytes
+        → AreSoundFiles f task.sources × HoldsStream (file bytes) (task.stream f)
+
+    -- where what is made holds its stream, so does the file of the pass
+    pub proper_holds : ((f : Contents) (bytes new : List ℕ) → f task.source ≡ Some bytes
+        → AreBytes bytes → task.makes f ≡ Ok new
+        → AreSoundFiles f task.sources × HoldsStream new (task.stream f)) → (files : Files)
+        → IsMaking task file files → IfTold files Hold
+    proper_holds sound (Untold touched) making = tt
+    proper_holds sound (Told f) making = λ bytes held. let made = making.makes bytes held in
+        sound f bytes (file bytes) held made.0 made.1
+
+    streams_at : (f : Contents) → IsMaking task file (Told f) → Hold f → (made : Made)
+        → (one_command task output).makes f ≡ Ok made
+        → MakesStreams (one_command task output) f made
+    streams_at f making hold made is =
+        let gives = gives_made f making in
+        let both = hold gives.0 gives.1 in
+        subst (MakesStreams (one_command task output) f) (made-same (whole_made gives.0) made
+        (sym gives.2 ∙ is)) (record { sources = both.0; streams = (both.1, tt) })
+
+    -- so a command that is done holds its streams
+    pub one_streams : {T E : Type 0} (files : Files) → IsMaking task file files → IfTold files Hold
+        → (r : Result T E) → OnOk r (HoldsStreams (one_command task output) files)
+    one_streams (Untold touched) making hold (Ok x) = tt
+    one_streams (Told f) making hold (Ok x) = streams_at f making hold
+    one_streams files making hold (Err fault) = tt
+
+-- ---- a fault that was met before there is an output
+
+-- it has the right numbers
+pub numbers_early : (task : Task) (output : List ℕ) (fault : EditFault) → HasTaskNumbers task fault
+    → HasNumbers (one_command task output) fault
+numbers_early task output (Input place fault) h = h
+numbers_early task output (Refused refusal) h = h
+numbers_early task output Memory h = tt
+numbers_early task output _ h = absurd h
+
+-- where no name clashes, no fault is that of equal names
+pub names_free : (command : Command) (r : Result (Unit {0}) EditFault) → clash_of command ≡ None
+    → IfErr r (HasNumbers command) → (place : ℕ)
+    → IsErrOf r (EqualNames place) ↔ (clash_of command ≡ Some place)
+names_free command (Ok x) none numbers place = ((λ e. absurd cc), λ clash. absurd cc)
+names_free command (Err first) none numbers place = (
+  (λ e. (let same : first ≡ EqualNames place = cc in subst (HasNumbers command) same numbers)),
+  λ clash. absurd cc,
+)
+
+-- a call that ended with a fault is a run of the command
+pub refused_run : (command : Command) (old new : Seen) (r : Result (Unit {0}) EditFault)
+    (fault : EditFault) → clash_of command ≡ None → IsErrAnd r (λ y. y ≡ fault)
+    → IsCommandFault command old new fault → HasNumbers command fault
+    → NoneFell old.counts new.counts → IsRunOf command old new r
+refused_run command old new (Ok x) fault none is left numbers fell = absurd is
+refused_run command old new (Err first) fault none is left numbers fell =
+    let right : HasNumbers command first = subst (HasNumbers command) (sym is) numbers in
+    record {
+      done = tt;
+      left = subst (IsCommandFault command old new) (sym is) left;
+      numbers = right;
+      names = names_free command (Err first) none right;
+      streams = tt;
+      counts = fell;
+    }
+
+-- a command that is done was run without a fault, if its names don't clash and no count fell
+pub done-run : (command : Command) (old new : Seen) → clash_of command ≡ None
+    → IsCommandDone command old new → HoldsStreams command old.files
+    → NoneFell old.counts new.counts → IsRunOf command old new (Ok tt)
+done-run command old new none done streams fell = record {
+  done = done;
+  left = tt;
+  numbers = tt;
+  names = λ place. ((λ e. absurd cc), λ clash. absurd cc);
+  streams = streams;
+  counts = fell;
+}
+
+-- a run from a moment is one from a moment before it, if no file and no count changed
+pub run-before : (command : Command) (old mid new : Seen) (r : Result (Unit {0}) EditFault)
+    → mid.files ≡ old.files → mid.counts ≡ old.counts → IsRunOf command mid new r
+    → IsRunOf command old new r
+run-before command old mid new r files counts ran =
+    subst (λ s. IsRunOf command s new r) (ap₂ seen_folder files counts) ran

@@ -1,0 +1,83 @@
+-- The file that a fault is of, by its place among the inputs.
+use Rattle.std.proofs.Common.{List, refl, slice_index_or, subst, sym, ℕ, [], ◌∙◌, ◌∷◌, ◌≡◌}
+use Rattle.commands.proofs.WhyLemmas.{each_why}
+use Rattle.commands.specs.AfterCall.{end_offset, HasPassNumbers, input_of, InputEndsEarly, why_of}
+use Rattle.commands.specs.SingleOutput.{first_input, IsLeftShort, IsOutputBegun, IsPassFault}
+use Rattle.commands.specs.SingleOutput.{LosesInput, MissesAt, ReadsNothing}
+use Rattle.commands.specs.declared.fault.EditFault.{EditFault, TheVariants.Input}
+use Rattle.outside.specs.{Counts.{EndedAt, HappenedTo}, Seen.Seen}
+
+module _ (inputs : List (List ℕ)) (place : ℕ) {name : List ℕ}
+    (named : name ≡ slice_index_or inputs place []) {old new : Seen} {fault : EditFault} where
+  -- a call that missed a file counts a miss of the input that the fault names
+  pub missed_name : MissesAt place name old new fault
+      → HappenedTo (input_of inputs fault) old.counts.misses new.counts.misses
+  missed_name h =
+      subst (λ e. HappenedTo (input_of inputs e) old.counts.misses new.counts.misses) (sym h.is)
+      (subst (λ (n : List ℕ). HappenedTo n old.counts.misses new.counts.misses) named h.rose)
+
+  -- one that couldn't read counts a failed read of that input
+  pub unread_name : ReadsNothing place name old new fault
+      → HappenedTo (input_of inputs fault) old.counts.read_faults new.counts.read_faults
+  unread_name h =
+      subst (λ e. HappenedTo (input_of inputs e) old.counts.read_faults new.counts.read_faults)
+      (sym h.is) (subst (λ (n : List ℕ). HappenedTo n old.counts.read_faults new.counts.read_faults)
+      named h.rose)
+
+  -- and one that found a file shorter names the input that became shorter
+  pub lost_name : LosesInput place name old new fault → InputEndsEarly inputs old new fault
+  lost_name h = record {
+    rose =
+        subst (λ e. EndedAt (input_of inputs e) (end_offset e) old.counts.ends new.counts.ends)
+        (sym h.is)
+        (subst (λ (n : List ℕ). EndedAt n h.second old.counts.ends new.counts.ends) named h.rose);
+    counts = h.counts;
+    untold = h.untold;
+  }
+
+-- ---- of a pass over the first input
+
+-- the first input is the one with number 0
+pub first_at : (inputs : List (List ℕ)) → first_input inputs ≡ slice_index_or inputs 0 []
+first_at [] = refl
+first_at (name ∷ inputs) = refl
+
+-- the fault is one of this input, whichever others there are
+source_name : (inputs : List (List ℕ)) (source : List ℕ) → first_input inputs ≡ source
+    → (fault : EditFault) → HasPassNumbers fault
+    → input_of (source ∷ []) fault ≡ input_of inputs fault
+source_name inputs source first (Input place f) is = subst (λ n. slice_index_or (source ∷ []) n []
+    ≡ slice_index_or inputs n []) (sym is.0) (sym first ∙ first_at inputs)
+source_name inputs source first _ is = refl
+
+-- a fault of the pass over this input is one of all inputs
+pub among_all : (made : List ℕ → List ℕ) (inputs : List (List ℕ)) (source : List ℕ)
+    → first_input inputs ≡ source → (output : List ℕ) (old new : Seen) (fault : EditFault)
+    → HasPassNumbers fault → IsPassFault made (source ∷ []) output old new fault
+    → IsPassFault made inputs output old new fault
+among_all made inputs source first output old new fault numbers h =
+    let named = source_name inputs source first fault numbers in
+    each_why (why_of fault) h (record {
+      rejected = λ w. w;
+      missing = λ w. w;
+      unread = λ u. record {
+        rose = subst (λ (n : List ℕ). HappenedTo n old.counts.read_faults new.counts.read_faults)
+            named u.rose;
+        files = subst (λ n. IsOutputBegun made n output old.files new.files) (sym first) u.files;
+      };
+      shorter = λ l. record {
+        rose = subst (λ (n : List ℕ). EndedAt n (end_offset fault) old.counts.ends new.counts.ends)
+            named l.rose;
+        counts = l.counts;
+        untold = l.untold;
+      };
+      unwritten = λ k w. (
+        w.0,
+        record {
+          rose = w.1.rose;
+          files = subst (λ n. IsLeftShort made n output old.files new.files) (sym first) w.1.files;
+        },
+      );
+      unsent = λ w. w;
+      no_memory = λ w. w;
+    })

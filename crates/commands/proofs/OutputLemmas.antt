@@ -1,0 +1,114 @@
+-- The output is created and then written by a pass over the input.
+use Rattle.std.proofs.Common.{ap, inl, inr, length, List, Option, refl, slice_index_or, subst, sym}
+use Rattle.std.proofs.Common.{true, unwrap_or, ℕ, [], ◌++◌, ◌∙◌, ◌∷◌, ◌≡◌, ◌≢◌}
+use Rattle.commands.specs.PassFaults.{pass_edit_fault}
+use Rattle.commands.specs.SingleOutput.{files_holding, first_input, IsLeftShort, IsOutputBegun}
+use Rattle.commands.specs.SingleOutput.{IsPassFault}
+use Rattle.outside.proofs.FilesLemmas.{appended_touches, emptied_holds_other, emptied_told}
+use Rattle.outside.proofs.FilesLemmas.{emptied_touches, fails_told, touch_twice, touches_then}
+use Rattle.outside.proofs.FilesLemmas.{with_file_here, with_file_twice}
+use Rattle.outside.specs.Counts.{Counts, EndedAt, HappenedTo, NothingFailed}
+use Rattle.outside.specs.Files.{FailsToCreate, Files, Holds, is_some_byte, is_told, OnlyTouches}
+use Rattle.outside.specs.Files.{Told, Untold, with_appended_bytes, with_empty_file, with_file}
+use Rattle.outside.specs.Pass.{AppendsMadeBytes, AppendsPrefix, HasPassCause, route}
+use Rattle.outside.specs.{Seen.seen_folder, declared.pass.PassFault.PassFault}
+use Rattle.outside.specs.declared.pass.PassFault.TheVariants.{Read, Shrunk, Write}
+
+-- emptied and then appended to, the output holds these bytes
+appended-emptied : (files : Files) (name bytes : List ℕ)
+    → with_appended_bytes (with_empty_file files name) name bytes ≡ files_holding files name bytes
+unfolding with_appended_bytes with_empty_file files_holding
+appended-emptied (Untold touched) name bytes =
+    ap Untold (touch_twice touched name true (is_some_byte bytes) true refl)
+appended-emptied (Told f) name bytes =
+    ap (λ (held : Option (List ℕ)). Told (with_file (with_file f name []) name
+    (unwrap_or held [] ++ bytes))) (with_file_here f name [])
+    ∙ ap Told (with_file_twice f name [] bytes)
+
+-- if the output wasn't created, it is left short
+pub not_begun : (made : List ℕ → List ℕ) (input output : List ℕ) (old new : Files)
+    → FailsToCreate output old new → IsLeftShort made input output old new
+not_begun made input output (Told f) new failed file holds = inl (fails_told f new output failed)
+not_begun made input output (Untold touched) new failed file holds = absurd holds
+
+-- the output was created, and then written to
+module _ (made : List ℕ → List ℕ) (input output : List ℕ) (apart : input ≢ output)
+    (old mid new : Files) (created : mid ≡ with_empty_file old output) where
+  held_mid : (file : List ℕ) → Holds old input file → Holds mid input file
+  held_mid file holds = subst (λ f. Holds f input file) (sym created)
+      (emptied_holds_other old output input file apart holds)
+
+  holding_new : (bytes : List ℕ) → new ≡ with_appended_bytes mid output bytes
+      → new ≡ files_holding old output bytes
+  holding_new bytes is =
+      is ∙ ap (λ f. with_appended_bytes f output bytes) created ∙ appended-emptied old output bytes
+
+  -- with all bytes appended it holds what was made of the input
+  pub output_whole : AppendsMadeBytes input output made mid new → (file : List ℕ)
+      → Holds old input file → new ≡ files_holding old output (made file)
+  output_whole done file holds = holding_new done.bytes done.files
+      ∙ ap (files_holding old output) (done.is file (held_mid file holds))
+
+  -- with a prefix of them it was begun
+  pub output_prefix : {fault : PassFault} → AppendsPrefix input output made mid new fault
+      → IsOutputBegun made input output old new
+  output_prefix part file holds = inr (
+    length part.bytes,
+    holding_new part.bytes part.files
+        ∙ ap (files_holding old output) (part.prefix file (held_mid file holds)),
+  )
+
+  -- where a write failed, not all of it
+  output_short : AppendsPrefix input output made mid new Write
+      → IsLeftShort made input output old new
+  output_short part file holds =
+      let held = held_mid file holds in
+      inr (
+        length part.bytes,
+        part.short refl file held,
+        holding_new part.bytes part.files ∙ ap (files_holding old output) (part.prefix file held),
+      )
+
+  touches_new : (bytes : List ℕ) → new ≡ with_appended_bytes mid output bytes
+      → OnlyTouches (output ∷ []) old new
+  touches_new bytes is =
+      subst (λ files. OnlyTouches (output ∷ []) old files)
+      (sym (is ∙ ap (λ f. with_appended_bytes f output bytes) created))
+      (touches_then (output ∷ []) old (with_empty_file old output)
+      (with_appended_bytes (with_empty_file old output) output
+      bytes) (emptied_touches old output)
+      (appended_touches (with_empty_file old output) output bytes))
+
+  -- in both cases the output alone was touched
+  pub touches_whole : AppendsMadeBytes input output made mid new → OnlyTouches (output ∷ []) old new
+  touches_whole done = touches_new done.bytes done.files
+
+  -- so it was where only a prefix was appended
+  pub touches_prefix : {fault : PassFault} → AppendsPrefix input output made mid new fault
+      → OnlyTouches (output ∷ []) old new
+  touches_prefix part = touches_new part.bytes part.files
+
+  -- an input could not be read again, or the output not be written
+  pub pass_fault : (inputs : List (List ℕ)) → first_input inputs ≡ input
+      → (place : ℕ) (fault : PassFault) (size : ℕ) (before between after : Counts)
+      → between ≡ before → AppendsPrefix input output made mid new fault
+      → HasPassCause (route (slice_index_or inputs place []) output size) mid between after fault
+      → IsPassFault made inputs output (seen_folder old before) (seen_folder new after)
+      (pass_edit_fault place 0 fault)
+  pass_fault inputs first place Read size before between after same part h = record {
+    rose = subst (λ c. HappenedTo (slice_index_or inputs place []) c.read_faults after.read_faults)
+        same h.0;
+    files = subst (λ n. IsOutputBegun made n output old new) (sym first) (output_prefix part);
+  }
+  pass_fault inputs first place (Shrunk from to) size before between after same part h = record {
+    rose = subst (λ c. EndedAt (slice_index_or inputs place []) to c.ends after.ends) same h.3;
+    counts = subst (λ c. NothingFailed c after) same h.4;
+    untold = sym (ap is_told created ∙ emptied_told old output) ∙ h.0;
+  }
+  pass_fault inputs first place Write size before between after same part h = (
+    refl,
+    record {
+      rose = subst (λ c. HappenedTo output c.write_faults after.write_faults) same h.0;
+      files = subst (λ n. IsLeftShort made n output old new) (sym first) (output_short part);
+    },
+  )

@@ -1,0 +1,57 @@
+-- What is read of a sheet.
+use Rattle.std.proofs.Common.{ap, cond, Err, false, IfErr, length, List, nat_lt, None, Ok, Option}
+use Rattle.std.proofs.Common.{refl, Some, subst, sym, true, ℕ, ◌∙◌, ◌≡◌}
+use Rattle.commands.specs.{AfterCall.IsLateFault, Sheet.{HasSheetNumbers, IsSheetFault, sheet_in}}
+use Rattle.commands.specs.declared.fault.EditFault.{EditFault, TheVariants.{Input, Refused}}
+use Rattle.commands.specs.declared.fault.Refusal.TheVariants.{SheetTooLarge}
+use Rattle.cue_sheet.specs.Limits.{longest_sheet}
+use Rattle.outside.specs.Counts.{Counts, EndedAt, HappenedTo, NothingFailed}
+use Rattle.outside.specs.{Files.{Files, is_told}, ReadCauses.HasReadCause, Seen.seen_folder}
+use Rattle.outside.specs.declared.exact.ReadFault.{ReadFault}
+use Rattle.outside.specs.declared.exact.ReadFault.TheVariants.{Failed, Shrunk as ShrunkRead}
+use Rattle.sync_survey.specs.SurveyFaultKinds.{survey_fault_of}
+use Rattle.sync_survey.specs.declared.survey_fault.SurveyFault.TheVariants.{Absent}
+
+-- what holds of its refusals
+pub sheet-all : (P : EditFault → Type 0) → P (Input 1 Absent)
+    → ((size : ℕ) → P (Refused (SheetTooLarge size))) → (sheet : Option (List ℕ))
+    → IfErr (sheet_in sheet) P
+sheet-all P absent large None = absent
+sheet-all P absent large (Some bytes) =
+    elim (nat_lt longest_sheet (length bytes))
+    as (λ b. IfErr (cond b (Err (Refused (SheetTooLarge (length bytes)))) (Ok bytes)) P) [
+      | true ↦ large (length bytes)
+      | false ↦ tt
+    ]
+
+-- want of memory is met after them
+pub sheet-late : (sheet : Option (List ℕ)) → IfErr (sheet_in sheet) IsLateFault
+sheet-late sheet = sheet-all IsLateFault refl (λ size. refl) sheet
+
+-- a sheet that was found, and whose bytes aren't read
+module _ (sheet : List ℕ) (files mid last : Files) (before between after : Counts) (size : ℕ)
+    (found : mid ≡ files) (stays : last ≡ mid) (same : between ≡ before) where
+  -- a fault of reading is one of the sheet, with its cause
+  pub read-fault : (fault : ReadFault) → HasReadCause sheet size mid between after fault
+      → IsSheetFault sheet (seen_folder files before) (seen_folder last after)
+      (Input 1 (survey_fault_of fault))
+  read-fault Failed cause = record {
+    is = refl;
+    rose = subst (λ k. HappenedTo sheet k.read_faults after.read_faults) same cause.0;
+    files = stays ∙ found;
+  }
+  read-fault (ShrunkRead first second) cause = record {
+    first = first;
+    second = second;
+    is = refl;
+    rose = subst (λ k. EndedAt sheet second k.ends after.ends) same cause.3;
+    counts = subst (λ k. NothingFailed k after) same cause.4;
+    untold = sym (ap is_told found) ∙ cause.0;
+    files = stays ∙ found;
+  }
+
+  -- it has the number of the sheet
+  pub read-number : (fault : ReadFault) → HasReadCause sheet size mid between after fault
+      → HasSheetNumbers (Input 1 (survey_fault_of fault))
+  read-number Failed cause = (refl, (λ e. cc), tt, (λ e. cc))
+  read-number (ShrunkRead first second) cause = (refl, (λ e. cc), cause.2, (λ e. cc))

@@ -1,0 +1,166 @@
+-- A command with a text leaves of the files what it leaves without.
+use Rattle.std.proofs.Common.{ap, Err, IfErr, inl, inr, length, List, Ok, refl, Result, subst, sym}
+use Rattle.std.proofs.Common.{take, ℕ, ◌∙◌, ◌≡◌, ◌≤◌, ◌⊎◌}
+use Rattle.commands.proofs.WhyLemmas.{each_why}
+use Rattle.commands.specs.AfterCall.{IsCommandDone, IsCommandFault, IsNotBefore, IsOutputUnfinished}
+use Rattle.commands.specs.AfterCall.{IsWrittenTo, TakesMemory, why_of}
+use Rattle.commands.specs.Command.{Command, HasAnswer, HoldsStreams, Made, MakesStreams}
+use Rattle.commands.specs.{Command.written_files, SentText.{IsCommandText, SaysAll, SaysPrefix}}
+use Rattle.commands.specs.WithText.{telling_command, with_text}
+use Rattle.commands.specs.declared.fault.EditFault.{EditFault}
+use Rattle.outside.specs.{BufferOutput.SentPrefix, Counts.Rose}
+use Rattle.outside.specs.Files.{Contents, Files, IfTold, sent_and_more, Told, Untold}
+use Rattle.outside.specs.Seen.{Heard, Seen}
+
+-- what is made with a text is made without it too
+pub text-parts : (text : List ℕ) (r : Result Made EditFault) (made : Made)
+    → with_text text r ≡ Ok made → (m : Made) × (r ≡ Ok m)
+text-parts text (Ok m) made e = (m, refl)
+text-parts text (Err fault) made e = absurd cc
+
+takes_text : (text : List ℕ) (r : Result Made EditFault) → TakesMemory r
+    → TakesMemory (with_text text r)
+takes_text text (Ok made) takes = tt
+takes_text text (Err fault) takes = takes
+
+all_text : (P : EditFault → Type 0) (text : List ℕ) (r : Result Made EditFault) → IfErr r P
+    → IfErr (with_text text r) P
+all_text P text (Ok made) is = tt
+all_text P text (Err fault) is = is
+
+module _ (text : Contents → List ℕ) (command : Command) where
+  abbrev told : Command
+  told = telling_command text command
+
+  -- a fault of the command is one with the text
+  pub telling-gives : (files : Files) (fault : EditFault) → HasAnswer command files (Err fault)
+      → HasAnswer told files (Err fault)
+  telling-gives (Untold touched) fault is = tt
+  telling-gives (Told f) fault is = ap (with_text (text f)) is
+
+  takes_memory : (files : Files) → IfTold files (λ f. TakesMemory (command.makes f))
+      → IfTold files (λ f. TakesMemory (told.makes f))
+  takes_memory (Untold touched) takes = tt
+  takes_memory (Told f) takes = takes_text (text f) (command.makes f) takes
+
+  all-told : (files : Files) (P : EditFault → Type 0)
+      → IfTold files (λ f. IfErr (command.makes f) P) → IfTold files (λ f. IfErr (told.makes f) P)
+  all-told (Untold touched) P is = tt
+  all-told (Told f) P is = all_text P (text f) (command.makes f) is
+
+  -- what it does is done with the text
+  pub telling-done : (old new : Seen) → IsCommandDone command old new → IsCommandDone told old new
+  telling-done old new done =
+      record { made = at old.files done.made; touches = done.touches; counts = done.counts }
+    where
+      at : (files : Files) → IfTold files (λ f. (made : Made) × (command.makes f ≡ Ok made)
+          × (new.files ≡ Told (written_files made.outputs f))) → IfTold files (λ f. (made : Made)
+          × (told.makes f ≡ Ok made) × (new.files ≡ Told (written_files made.outputs f)))
+      at (Untold touched) made = tt
+      at (Told f) made = (record made.0 { text = text f }, ap (with_text (text f)) made.1, made.2)
+
+  written-to : (k : ℕ) (old new : Files) → IsWrittenTo command k old new
+      → IsWrittenTo told k old new
+  written-to k (Untold touched) new h = record { made = tt; touches = h.touches }
+  written-to k (Told f) new h = record {
+    made = (
+      record h.made.0 { text = text f },
+      ap (with_text (text f)) h.made.1,
+      h.made.2,
+      h.made.3,
+      h.made.4,
+    );
+    touches = h.touches;
+  }
+
+  unfinished-to : (k : ℕ) (old new : Files) → IsOutputUnfinished command k old new
+      → IsOutputUnfinished told k old new
+  unfinished-to k (Untold touched) new h = record { made = tt; touches = h.touches }
+  unfinished-to k (Told f) new h = record {
+    made = (
+      record h.made.0 { text = text f },
+      ap (with_text (text f)) h.made.1,
+      h.made.2,
+      h.made.3,
+      h.made.4,
+      h.made.5,
+    );
+    touches = h.touches;
+  }
+
+  module _ (old new : Seen) (fault : EditFault) where
+    unread-to : (new.files ≡ old.files) ⊎ ((k : ℕ) × IsWrittenTo command k old.files new.files)
+        → (new.files ≡ old.files) ⊎ ((k : ℕ) × IsWrittenTo told k old.files new.files)
+    unread-to (inl same) = inl same
+    unread-to (inr h) = inr (h.0, written-to h.0 old.files new.files h.1)
+
+    -- what the command leaves it leaves with a text too
+    pub telling-left : IsCommandFault command old new fault → IsCommandFault told old new fault
+    telling-left h = each_why (why_of fault) h (record {
+      rejected = λ r. record { defined = telling-gives old.files fault r.defined; stays = r.stays };
+      missing = λ m. record {
+        defined = telling-gives old.files fault m.defined;
+        rose = m.rose;
+        files = m.files;
+      };
+      unread = λ u. record {
+        names = u.names;
+        before = all-told old.files (IsNotBefore fault) u.before;
+        rose = u.rose;
+        files = unread-to u.files;
+      };
+      shorter = λ l. record { ended = l.ended; touches = l.touches };
+      unwritten =
+          λ k w. record { rose = w.rose; files = unfinished-to k old.files new.files w.files };
+      unsent = λ d. telling-done old new d;
+      no_memory =
+          λ n. record { names = n.names; takes = takes_memory old.files n.takes; stays = n.stays };
+    })
+
+  -- what it holds it holds with the text
+  pub telling-streams : (files : Files) → HoldsStreams command files → HoldsStreams told files
+  telling-streams (Untold touched) holds = tt
+  telling-streams (Told f) holds = λ made is. at (command.makes f) refl made is
+    where
+      by_text : (m made : Made) → command.makes f ≡ Ok m → (record m { text = text f }) ≡ made
+          → MakesStreams told f made
+      by_text m made is same = subst (MakesStreams told f) same
+          (let held = holds m is in record { sources = held.sources; streams = held.streams })
+
+      at : (r : Result Made EditFault) → command.makes f ≡ r → (made : Made)
+          → with_text (text f) r ≡ Ok made → MakesStreams told f made
+      at (Ok m) is made e = by_text m made is cc
+      at (Err fault) is made e = absurd cc
+
+  -- the text of told files, of which it makes something
+  pub telling-text : (files : Files) (all : List ℕ) → IsCommandText told files all
+      → (f : Contents) × (files ≡ Told f) × (all ≡ text f)
+  telling-text files all (inl always) = absurd cc
+  telling-text files all (inr t) = (t.0, t.2, sym t.4 ∙ at (command.makes t.0) t.3)
+    where
+      at : (r : Result Made EditFault) → with_text (text t.0) r ≡ Ok t.1 → t.1.text ≡ text t.0
+      at (Ok m) e = let same : (record m { text = text t.0 }) ≡ t.1 = cc in
+          sym (ap (λ (x : Made). x.text) same)
+      at (Err fault) e = absurd cc
+
+-- ---- a text that is sent
+
+module _ (command : Command) (files : Files) (old new : Heard) (text : List ℕ)
+    (same : (all : List ℕ) → IsCommandText command files all → text ≡ all) where
+  -- with all of its text sent the command said all
+  pub says-all : new.sent ≡ sent_and_more old.sent text → new.faults ≡ old.faults
+      → SaysAll command files old new
+  says-all sent done = record {
+    text = λ all is. sent ∙ ap (sent_and_more old.sent) (same all is);
+    faults = done;
+  }
+
+  -- with a prefix of it sent the command said a prefix
+  pub says-prefix : SentPrefix text old.sent new.sent → Rose old.faults new.faults
+      → SaysPrefix command files old new
+  says-prefix part rose = record {
+    text = λ all is. subst (λ (t : List ℕ). (n : ℕ) × (n ≤ length t)
+        × (new.sent ≡ sent_and_more old.sent (take n t))) (same all is)
+        (part.count, part.within, part.sent);
+    rose = rose;
+  }

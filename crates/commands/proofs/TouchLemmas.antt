@@ -1,0 +1,37 @@
+-- Which names a command touches, however it ends: none but those of its outputs.
+use Rattle.std.proofs.Common.{ap, inl, inr, subst, sym, take, ℕ, ◌+◌, ◌≡◌, ◌≢◌, ◌⊎◌}
+use Rattle.std.proofs.lemmas.List.Elements.{All-take}
+use Rattle.commands.{proofs.WhyLemmas.of_why, specs.AfterCall.{IsCommandFault, IsWrittenTo, why_of}}
+use Rattle.commands.specs.{Command.Command, declared.fault.EditFault.EditFault}
+use Rattle.outside.proofs.FilesLemmas.{touches_more, touches_none}
+use Rattle.outside.specs.{Files.{Files, OnlyTouches}, Seen.Seen}
+
+module _ (command : Command) where
+  stays_touched : (old new : Files) → new ≡ old → OnlyTouches command.outputs old new
+  stays_touched old new same = subst (λ files. OnlyTouches command.outputs old files) (sym same)
+      (touches_none command.outputs old)
+
+  first_touched : (k : ℕ) (old new : Files) → OnlyTouches (take (k + 1) command.outputs) old new
+      → OnlyTouches command.outputs old new
+  first_touched k old new touches =
+      touches_more (take (k + 1) command.outputs) command.outputs old new
+      (λ other apart. All-take (λ name. other ≢ name) (k + 1) command.outputs apart) touches
+
+  module _ (old new : Seen) (fault : EditFault) where
+    unread_touched : (new.files ≡ old.files) ⊎ ((k : ℕ) × IsWrittenTo command k old.files new.files)
+        → OnlyTouches command.outputs old.files new.files
+    unread_touched (inl same) = stays_touched old.files new.files same
+    unread_touched (inr wrote) = first_touched wrote.0 old.files new.files wrote.1.touches
+
+    -- a command that fails touches its outputs alone
+    pub left_touched : IsCommandFault command old new fault
+        → OnlyTouches command.outputs old.files new.files
+    left_touched h = of_why (why_of fault) h (record {
+      rejected = λ r. stays_touched old.files new.files (ap (λ (s : Seen). s.files) r.stays);
+      missing = λ m. stays_touched old.files new.files m.files;
+      unread = λ u. unread_touched u.files;
+      shorter = λ l. l.touches;
+      unwritten = λ k w. first_touched k old.files new.files w.files.touches;
+      unsent = λ d. d.touches;
+      no_memory = λ n. stays_touched old.files new.files (ap (λ (s : Seen). s.files) n.stays);
+    })

@@ -1,0 +1,253 @@
+-- What a command leaves of the files, by its answer, and the cause of each refusal.
+use Rattle.std.specs.Prelude.{Bool, drop, Err, false, IfErr, length, List, None, Ok, Option, Result}
+use Rattle.std.specs.Prelude.{slice_index_or, Some, take, true, ℕ, [], ◌+◌, ◌<◌, ◌==◌, ◌≡◌, ◌≢◌}
+use Rattle.std.specs.Prelude.{◌≤◌, ◌⊎◌}
+use Rattle.commands.specs.Command.{clash_of, Command, HasAnswer, LacksBytes, Made}
+use Rattle.commands.specs.Command.{partly_written_files, written_files}
+use Rattle.commands.specs.FaultKinds.{by_kind, HasRightNumbers, IsFromOutside, kind_of, shrunk_end}
+use Rattle.commands.specs.declared.fault.EditFault.{EditFault}
+use Rattle.commands.specs.declared.fault.EditFault.TheVariants.{EqualNames, Input, Memory, Refused}
+use Rattle.commands.specs.declared.fault.{EditFault.TheVariants.{Sent, Write}, Refusal.Refusal}
+use Rattle.commands.specs.declared.fault.Refusal.TheVariants.{Differ}
+use Rattle.outside.specs.Counts.{EndedAt, HappenedTo, NothingFailed}
+use Rattle.outside.specs.{Files.{Files, IfTold, is_told, OnlyTouches, Told}, Seen.Seen}
+use Rattle.sync_survey.specs.declared.survey_fault.SurveyFault.{SurveyFault}
+use Rattle.sync_survey.specs.declared.survey_fault.SurveyFault.TheVariants.{Absent}
+use Rattle.sync_survey.specs.declared.survey_fault.SurveyFault.TheVariants.{Memory as NoRoom}
+use Rattle.sync_survey.specs.declared.survey_fault.SurveyFault.TheVariants.{TooLong}
+
+-- ---- what a refusal comes from
+
+-- why a command isn't done
+pub data Why : Type 0 where
+  -- the names or the files are refused
+  Rejected : Why
+  -- an input isn't there
+  Missing : Why
+  -- a call that reads failed
+  Unread : Why
+  -- an input became shorter while it was read
+  Shorter : Why
+  -- a call failed that writes this output
+  Unwritten : ℕ → Why
+  -- a write to standard output failed
+  Unsent : Why
+  -- want of memory
+  NoMemory : Why
+
+-- what there is for each of these
+pub record ByWhy {ℓ} (A : Type ℓ) : Type ℓ where
+  pub rejected : A
+  pub missing : A
+  pub unread : A
+  pub shorter : A
+  pub unwritten : ℕ → A
+  pub unsent : A
+  pub no_memory : A
+
+-- what there is for this cause
+abbrev pub by_why {ℓ} : {A : Type ℓ} → ByWhy A → Why → A
+by_why w Rejected = w.rejected
+by_why w Missing = w.missing
+by_why w Unread = w.unread
+by_why w Shorter = w.shorter
+by_why w (Unwritten k) = w.unwritten k
+by_why w Unsent = w.unsent
+by_why w NoMemory = w.no_memory
+
+-- none of them is met
+abbrev pub no_cause : ByWhy (Type 0)
+no_cause = record {
+  rejected = ⊥;
+  missing = ⊥;
+  unread = ⊥;
+  shorter = ⊥;
+  unwritten = λ k. ⊥;
+  unsent = ⊥;
+  no_memory = ⊥;
+}
+
+-- the cause of a fault
+abbrev pub why_of : EditFault → Why
+why_of (Input place fault) =
+    by_kind (record {
+      absent = Missing;
+      unread = Unread;
+      shorter = Shorter;
+      too_much = NoMemory;
+      refused = Rejected;
+    }) (kind_of fault)
+why_of (Write place) = Unwritten place
+why_of Sent = Unsent
+why_of Memory = NoMemory
+why_of (EqualNames place) = Rejected
+why_of (Refused refusal) = Rejected
+
+-- ---- which file it was
+
+-- the name of the input that a fault is of
+abbrev pub input_of : List (List ℕ) → EditFault → List ℕ
+input_of inputs (Input place fault) = slice_index_or inputs place []
+input_of inputs _ = []
+
+-- the offset at which that input ended, if it became shorter
+abbrev pub end_offset : EditFault → ℕ
+end_offset (Input place fault) = shrunk_end fault
+end_offset _ = 0
+
+-- nothing is told of the files; a read of the input that the fault is of gave no byte at the offset
+-- that the fault says; and no call failed
+pub record InputEndsEarly (inputs : List (List ℕ)) (old new : Seen)
+    (fault : EditFault) : Type 0 where
+  pub rose : EndedAt (input_of inputs fault) (end_offset fault) old.counts.ends new.counts.ends
+  pub counts : NothingFailed old.counts new.counts
+  pub untold : is_told old.files ≡ false
+
+-- ---- what is left
+
+-- the command was done: all that it makes was written, and no count changed
+pub record IsCommandDone (command : Command) (old new : Seen) : Type 0 where
+  pub made : IfTold old.files (λ f.
+      (made : Made) × (command.makes f ≡ Ok made)
+      × (new.files ≡ Told (written_files made.outputs f)))
+  pub touches : OnlyTouches command.outputs old.files new.files
+  pub counts : new.counts ≡ old.counts
+
+-- the command isn't refused, and of what it makes the first k outputs are whole; the next one holds
+-- a prefix, or wasn't created
+pub record IsWrittenTo (command : Command) (k : ℕ) (old new : Files) : Type 0 where
+  pub made : IfTold old (λ f.
+      (made : Made) × (command.makes f ≡ Ok made) × (k < length made.outputs)
+      × (count : Option ℕ) × (new ≡ Told (partly_written_files k count made.outputs f)))
+  pub touches : OnlyTouches (take (k + 1) command.outputs) old new
+
+-- The command isn't refused, and of what it makes the first k outputs are whole. The next one
+-- isn't: it holds a prefix that lacks bytes, or wasn't created.
+pub record IsOutputUnfinished (command : Command) (k : ℕ) (old new : Files) : Type 0 where
+  pub made : IfTold old (λ f.
+      (made : Made) × (command.makes f ≡ Ok made) × (k < length made.outputs)
+      × (count : Option ℕ) × LacksBytes count (drop k made.outputs)
+      × (new ≡ Told (partly_written_files k count made.outputs f)))
+  pub touches : OnlyTouches (take (k + 1) command.outputs) old new
+
+-- the command is refused with this fault; all is as it was
+pub record IsCommandRefused (command : Command) (old new : Seen) (fault : EditFault) : Type 0 where
+  pub defined : HasAnswer command old.files (Err fault)
+  pub stays : new ≡ old
+
+-- the command is refused since the input that the fault is of isn't there
+pub record IsInputMissing (command : Command) (old new : Seen) (fault : EditFault) : Type 0 where
+  pub defined : HasAnswer command old.files (Err fault)
+  pub rose : HappenedTo (input_of command.inputs fault) old.counts.misses new.counts.misses
+  pub files : new.files ≡ old.files
+
+-- The answer isn't one of an input before that of the fault. The inputs are judged in their order,
+-- so where one could not be read, those before it are there and without fault, and none differs
+-- from the first. Every refusal that names no input comes after these.
+abbrev pub IsNotBefore : EditFault → EditFault → Type 0
+IsNotBefore (Input place fault) (Input at first) = place ≤ at
+IsNotBefore (Input place fault) (Refused (Differ at)) = place ≤ at
+IsNotBefore fault answer = Unit {0}
+
+-- A call failed that looks for the input that the fault is of, or reads it. No name of an input is
+-- an output's, and no input before this one is at fault.
+pub record IsInputUnread (command : Command) (old new : Seen) (fault : EditFault) : Type 0 where
+  pub names : clash_of command ≡ None
+  pub before : IfTold old.files (λ f. IfErr (command.makes f) (IsNotBefore fault))
+  pub rose : HappenedTo
+      (input_of command.inputs fault) old.counts.read_faults new.counts.read_faults
+  pub files : (new.files ≡ old.files) ⊎ ((k : ℕ) × IsWrittenTo command k old.files new.files)
+
+-- only a folder that tells nothing can have such a file
+pub record IsInputShorter (command : Command) (old new : Seen) (fault : EditFault) : Type 0 where
+  pub ended : InputEndsEarly command.inputs old new fault
+  pub touches : OnlyTouches command.outputs old.files new.files
+
+-- a call failed that creates this output or writes to it
+pub record IsOutputUnwritten (command : Command) (k : ℕ) (old new : Seen) : Type 0 where
+  pub rose : HappenedTo
+      (slice_index_or command.outputs k []) old.counts.write_faults new.counts.write_faults
+  pub files : IsOutputUnfinished command k old.files new.files
+
+-- equal names, an absent first input and one that is too long are found before any memory is taken
+abbrev pub is_before_memory : EditFault → Bool
+is_before_memory (EqualNames place) = true
+is_before_memory (Input place Absent) = place == 0
+is_before_memory (Input place (TooLong size)) = place == 0
+is_before_memory _ = false
+
+-- the fault is found after memory was taken
+abbrev pub IsLateFault : EditFault → Type 0
+IsLateFault fault = is_before_memory fault ≡ false
+
+-- memory was taken before the command gave this
+abbrev pub TakesMemory : Result Made EditFault → Type 0
+TakesMemory (Ok made) = Unit {0}
+TakesMemory (Err fault) = is_before_memory fault ≡ false
+
+-- all is as it was, and it is a command for which memory is taken
+pub record IsOutOfMemory (command : Command) (old new : Seen) : Type 0 where
+  pub names : clash_of command ≡ None
+  pub takes : IfTold old.files (λ f. TakesMemory (command.makes f))
+  pub stays : new ≡ old
+
+-- what is left, by the cause; the text is sent last, so if
+-- sending failed all of the command's files were written
+abbrev pub left_cases : Command → Seen → Seen → EditFault → ByWhy (Type 0)
+left_cases command old new fault = record {
+  rejected = IsCommandRefused command old new fault;
+  missing = IsInputMissing command old new fault;
+  unread = IsInputUnread command old new fault;
+  shorter = IsInputShorter command old new fault;
+  unwritten = λ k. IsOutputUnwritten command k old new;
+  unsent = IsCommandDone command old new;
+  no_memory = IsOutOfMemory command old new;
+}
+
+-- what a fault of the command leaves, and its cause
+abbrev pub IsCommandFault : Command → Seen → Seen → EditFault → Type 0
+IsCommandFault command old new fault = by_why (left_cases command old new fault) (why_of fault)
+
+-- ---- what the numbers of a fault say over every folder, told or not
+
+-- the input is the first or one of so many sources, whose frames are read; any other, as a sheet,
+-- isn't there, can't be read or became shorter alone
+abbrev pub CanBeAtPlace : ℕ → ℕ → SurveyFault → Type 0
+CanBeAtPlace sources place fault = (place ≡ 0) ⊎ (place < sources) ⊎ IsFromOutside fault
+
+-- The numbers of a fault, over every folder: that of an input or an output is one that the command
+-- has, a refusal is one that it can give, a file that is too long is longer than one may be, one
+-- that became shorter ended before its first length, and a sheet has no fault of a stream.
+abbrev pub HasNumbers : Command → EditFault → Type 0
+HasNumbers command (EqualNames place) = clash_of command ≡ Some place
+HasNumbers command (Input place fault) =
+    (place < length command.inputs) × (fault ≢ NoRoom) × HasRightNumbers fault
+    × CanBeAtPlace (length command.sources) place fault
+HasNumbers command (Refused refusal) = command.refuses refusal ≡ true
+HasNumbers command (Write place) = place < length command.outputs
+HasNumbers command Sent = command.always ≢ Some []
+HasNumbers command Memory = Unit {0}
+
+-- the fault is one of this input, or want of memory
+abbrev pub HasSurveyNumbers : ℕ → EditFault → Type 0
+HasSurveyNumbers at (Input place fault) = (place ≡ at) × (fault ≢ NoRoom) × HasRightNumbers fault
+HasSurveyNumbers at Memory = Unit {0}
+HasSurveyNumbers at _ = ⊥
+
+-- the fault is one of the only input, a refusal that passes the test, or want of memory
+abbrev pub HasInputNumbers : (Refusal → Bool) → EditFault → Type 0
+HasInputNumbers refuses (Input place fault) = (place ≡ 0) × (fault ≢ NoRoom) × HasRightNumbers fault
+HasInputNumbers refuses (Refused refusal) = refuses refusal ≡ true
+HasInputNumbers refuses Memory = Unit {0}
+HasInputNumbers refuses _ = ⊥
+
+-- the fault is one of the second pass over the only input, for which all memory was taken before
+abbrev pub HasPassNumbers : EditFault → Type 0
+HasPassNumbers (Input place fault) = (place ≡ 0) × (fault ≢ NoRoom) × HasRightNumbers fault
+HasPassNumbers (Write place) = place ≡ 0
+HasPassNumbers _ = ⊥
+
+-- the fault is a refusal that passes the test
+abbrev pub IsEditRefusal : (Refusal → Bool) → EditFault → Type 0
+IsEditRefusal refuses (Refused refusal) = refuses refusal ≡ true
+IsEditRefusal refuses _ = ⊥

@@ -1,0 +1,84 @@
+-- A head that could not be read; and a survey whose
+-- head is set apart is one by which frames can be laid.
+use Rattle.std.proofs.Common.{Bool, cond, false, length, List, map, None, Option, Some, true, ℕ, []}
+use Rattle.std.proofs.{Common.{◌+◌, ◌∙◌, ◌∷◌, ◌≡◌}, lemmas.List.length-map}
+use Rattle.std.specs.List.{enumerate_from}
+use Rattle.commands.{proofs.WhyLemmas.each_why, specs.AfterCall.{HasInputNumbers, why_of}}
+use Rattle.commands.specs.{SingleOutput.{IsInputFault, Making}, declared.fault.EditFault.EditFault}
+use Rattle.commands.specs.declared.fault.{EditFault.TheVariants.Input, Refusal.Refusal}
+use Rattle.cut_edits.specs.{Exact.survey_without_head, Heads.{HasHeadNumbers, IsHeadFault}}
+use Rattle.laying.proofs.SurveyFrameLemmas.{side_paired}
+use Rattle.laying.specs.Surveys.{AreWholeRows, CanBeRelaid, IsWholeRow}
+use Rattle.outside.specs.Seen.{Seen}
+use Rattle.side_info.specs.Side.{no_side}
+use Rattle.sync_survey.proofs.ApartLemmas.{placed-apart}
+use Rattle.sync_survey.proofs.EmptiedLemmas.{length_apart, placed-emptied}
+use Rattle.sync_survey.specs.Faults.{SurveyFields}
+use Rattle.sync_survey.specs.HeadApart.{apart_row, apart_rows, emptied_row, rows_set_apart}
+use Rattle.sync_survey.specs.{Row.Row, Survey.AreWellPlaced, declared.places.Head.Head}
+
+-- a head that could not be read is a fault of the only input, whatever is made of it
+pub head_is_input : (make : Making) (name : List ℕ) (old new : Seen) (fault : EditFault)
+    → IsHeadFault name old new fault → IsInputFault make name old new fault
+head_is_input make name old new fault h = each_why (why_of fault) h (record {
+  rejected = λ r. absurd r;
+  missing = λ m. absurd m;
+  unread = λ u. u;
+  shorter = λ l. l;
+  unwritten = λ k w. w;
+  unsent = λ w. w;
+  no_memory = λ n. absurd n;
+})
+
+-- its numbers are in range
+pub head_numbers : (refuses : Refusal → Bool) (fault : EditFault) → HasHeadNumbers fault
+    → HasInputNumbers refuses fault
+head_numbers refuses (Input place fault) is = is
+head_numbers refuses _ is = absurd is
+
+marks_whole : (file : List ℕ) (rows : List Row) (n : ℕ) (more : List Row) → AreWholeRows file more
+    → AreWholeRows file (map (λ (p : ℕ × Row). apart_row rows p.0 p.1) (enumerate_from n more))
+marks_whole file rows n [] are = tt
+marks_whole file rows n (r ∷ more) are =
+    (record { frame = are.0.frame; pairs = are.0.pairs }, marks_whole file rows (n + 1) more are.1)
+
+apart_whole : (file : List ℕ) (head : Option Head) (rows : List Row) → AreWholeRows file rows
+    → AreWholeRows file (rows_set_apart head rows)
+unfolding apart_rows
+apart_whole file None rows are = are
+apart_whole file (Some head) rows are = marks_whole file rows 0 rows are
+
+row_whole : (file : List ℕ) (r : Row) (lost : Bool) → IsWholeRow file r
+    → IsWholeRow file (cond lost (record r { side = no_side; lost = false }) r)
+row_whole file r true is = record { frame = is.frame; pairs = side_paired true r.side is.pairs }
+row_whole file r false is = is
+
+-- so are those with lost frames as empty ones
+pub emptied_whole : (file : List ℕ) (rows : List Row) → AreWholeRows file rows
+    → AreWholeRows file (map emptied_row rows)
+emptied_whole file [] are = tt
+emptied_whole file (r ∷ rows) are = (row_whole file r r.lost are.0, emptied_whole file rows are.1)
+
+-- it has as many frames
+pub apart-length : (s : SurveyFields) → length (survey_without_head s).frames ≡ length s.frames
+apart-length s =
+    length-map (rows_set_apart s.head s.frames) emptied_row ∙ length_apart s.head s.frames
+
+-- their main data are where they may be
+pub apart-placed : (s : SurveyFields) → AreWellPlaced s.head s.class s.frames
+    → AreWellPlaced s.head s.class (survey_without_head s).frames
+apart-placed s placed = placed-emptied s.head s.class (rows_set_apart s.head s.frames)
+    (placed-apart s.head s.class s.frames placed)
+
+-- its frames are whole, and if their main data are where they may be, so is all of it
+pub apart-had : (file : List ℕ) (s : SurveyFields) → CanBeRelaid file s
+    → AreWellPlaced s.head s.class (survey_without_head s).frames
+    → CanBeRelaid file (survey_without_head s)
+apart-had file s is placed = record {
+  long = is.long;
+  head = is.head;
+  rows = emptied_whole file (rows_set_apart s.head s.frames)
+      (apart_whole file s.head s.frames is.rows);
+  placed = placed;
+  blocks = is.blocks;
+}

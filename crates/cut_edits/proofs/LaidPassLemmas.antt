@@ -1,0 +1,92 @@
+-- The second pass, which lays chosen frames anew, and the work that is ready for it.
+use Rattle.std.proofs.Common.{ap, ap₂, arith, length, List, subst, sym, take, ℕ, ◌∙◌, ◌≡◌, ◌≢◌}
+use Rattle.commands.specs.SingleOutput.{IsMaking, Task}
+use Rattle.cut_edits.specs.Chosen.{Chosen, chosen_file, own_slots_part}
+use Rattle.cut_edits.specs.Layable.{IsLayable, IsWorkOf, work_file}
+use Rattle.cut_edits.specs.declared.work.LaidWork.{LaidWork}
+use Rattle.laying.specs.Laid.{file_laid, IsWritableSelection, LaidPart, selected_part}
+use Rattle.laying.specs.{Passing.IsRelayReady, Surveys.CanBeRelaid, declared.relay.Relay.Relay}
+use Rattle.laying.specs.declared.selected.Selected.{Selected}
+use Rattle.outside.proofs.FilesLemmas.{emptied_held_other, emptied_keeps, emptied_there}
+use Rattle.outside.specs.{Feed.{Fed, IsFedFrom}, Files.{Files, Holds, IsFileThere, with_empty_file}}
+use Rattle.outside.specs.{Pass.AppendsPrefix, declared.pass.PassFault.PassFault}
+use Rattle.sync_survey.specs.{Faults.{survey_view, SurveyFields}, Survey.IsSurveyLaidOut}
+use Rattle.sync_survey.specs.declared.surveys.Survey.{Survey}
+
+-- a prefix of the same by another function that gives the same bytes of the input
+pub appends-as_prefix : {input output : List ℕ} (made other : List ℕ → List ℕ) {old new : Files}
+    {fault : PassFault} → ((file : List ℕ) → Holds old input file → made file ≡ other file)
+    → AppendsPrefix input output made old new fault → AppendsPrefix input output other old new fault
+appends-as_prefix made other same h = record {
+  bytes = h.bytes;
+  prefix = λ file holds. h.prefix file holds ∙ ap (take (length h.bytes)) (same file holds);
+  short =
+      λ failed file holds. omega (arith, h.short failed file holds, ap length (same file holds));
+  files = h.files;
+}
+
+-- once the output was created, all is ready for the pass
+pub relay-ready : (relay : Relay) (old mid : Files) (fed : Fed)
+    → relay.pass.input.now ≢ relay.pass.output.now → IsFileThere old relay.pass.input.now
+    → IsSurveyLaidOut (survey_view relay.survey.now) → ((file : List ℕ)
+    → Holds old relay.pass.input.now file → CanBeRelaid file (survey_view relay.survey.now))
+    → relay.pass.length ≡ (survey_view relay.survey.now).length
+    → mid ≡ with_empty_file old relay.pass.output.now → IsFedFrom fed mid relay.pass.input.now
+    → IsRelayReady relay mid fed
+relay-ready relay old mid fed apart there laid has long created fed_from =
+    let input = relay.pass.input.now in
+    let output = relay.pass.output.now in
+    let held : (file : List ℕ) → Holds mid input file → Holds old input file =
+    λ file holds. emptied_held_other old output input file apart
+    (subst (λ f. Holds f input file) created holds) in
+    record {
+      pass = record {
+        apart = apart;
+        source =
+            subst (λ f. IsFileThere f input) (sym created) (emptied_keeps old output input there);
+        target = subst (λ f. IsFileThere f output) (sym created) (emptied_there old output);
+        length_is = λ file holds. (has file (held file holds)).long ∙ sym long;
+        few = omega (arith, long, laid.few);
+        fed_from = fed_from;
+      };
+      length_is = long;
+      exact = λ file holds. has file (held file holds);
+      laid = laid;
+    }
+
+-- where they are the chosen frames in the slots of their own plan, it is the file of these
+pub file-is : (chosen : Chosen) (laid : LaidPart) (file : List ℕ) (s : SurveyFields)
+    → laid ≡ own_slots_part chosen s → file_laid laid file s ≡ chosen_file chosen file s
+unfolding chosen_file
+file-is chosen laid file s own = ap (λ l. file_laid l file s) own
+
+-- ---- the work
+
+module _ (survey : Survey) (selected : Selected) (work : LaidWork)
+    (of : IsWorkOf survey selected work) where
+  -- it is ready for the pass over the file that was read
+  pub work_layable : (input : List ℕ) (files : Files) → IsFileThere files input
+      → IsSurveyLaidOut (survey_view survey)
+      → ((bytes : List ℕ) → Holds files input bytes → CanBeRelaid bytes (survey_view survey))
+      → IsWritableSelection (survey_view survey) selected → IsLayable input work files
+  work_layable input files there laid has writable = record {
+    there = there;
+    laid = subst (λ s. IsSurveyLaidOut (survey_view s)) (sym of.survey_is) laid;
+    has =
+        subst (λ s. (bytes : List ℕ) → Holds files input bytes → CanBeRelaid bytes (survey_view s))
+        (sym of.survey_is) has;
+    writable = subst (λ s. IsWritableSelection (survey_view s) work.selected) (sym of.survey_is)
+        (subst (IsWritableSelection (survey_view survey)) (sym of.selected_is) writable);
+    fed = of.fed;
+    unsent = of.unsent;
+  }
+
+  -- and makes the file of the chosen frames
+  pub work_makes : (task : Task) (files : Files)
+      → IsMaking task (λ file. file_laid (selected_part selected) file (survey_view survey)) files
+      → IsMaking task (work_file work) files
+  work_makes task files making =
+      let made_by : Survey → Selected → List ℕ → List ℕ =
+      λ s l file. file_laid (selected_part l) file (survey_view s) in
+      subst (λ made. IsMaking task made files)
+      (ap₂ made_by (sym of.survey_is) (sym of.selected_is)) making

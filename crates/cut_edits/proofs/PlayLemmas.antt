@@ -1,0 +1,175 @@
+-- By the Info frame of an exact piece exactly the samples of its span are played.
+use Rattle.std.proofs.Common.{ap, arith, Bool, cond, drop, false, length, List, None, Option, refl}
+use Rattle.std.proofs.Common.{Some, subst, sym, take, true, ℕ, ◌&&◌, ◌+◌, ◌-◌, ◌≡◌}
+use Rattle.std.proofs.lemmas.Bool.{and_parts, leb-true}
+use Rattle.std.proofs.lemmas.List.{length-drop, length-map, length-take-le}
+use Rattle.std.specs.Prelude.{IfSome, nat_le, nat_lt, slice_get}
+use Rattle.commands.proofs.RefusingLemmas.{unless_ok}
+use Rattle.cut_edits.proofs.{ChosenLemmas.head-extension, HeadLemmas.{apart-had, apart-placed}}
+use Rattle.cut_edits.proofs.PieceLemmas.{head_long, plain-long, samples_there, span-there}
+use Rattle.cut_edits.proofs.{PieceLemmas.{span_apart, span_chosen}, SealedLemmas.for-whole}
+use Rattle.cut_edits.proofs.SpanLemmas.{with-fitting, with-leads, with-many}
+use Rattle.cut_edits.specs.Exact.{file_span, IsSpanIn, row_sealed_part, samples_fault}
+use Rattle.cut_edits.specs.Exact.{span_lead_ins, span_part, span_piece, survey_without_head}
+use Rattle.cut_edits.specs.ExactLaws.{PiecesPlayTheirSamples}
+use Rattle.exact_span.proofs.{ExtensionLemmas.extension-says, PlayedLemmas.places-kept}
+use Rattle.exact_span.proofs.{SealLemmas.frames-sealed, SpanLemmas.span-in_range}
+use Rattle.exact_span.specs.{Laws.{AreInfoFields, IsPieceHead, KeepsPlaces}, Places.sample_at}
+use Rattle.exact_span.specs.PlayedPositions.{length_of_played, played_of}
+use Rattle.exact_span.specs.Spans.{AreLeads, delay_of, padding_of, span_of}
+use Rattle.exact_span.specs.declared.span.Span.{Span}
+use Rattle.info_header.specs.Info.{field_in, field_place, flags_in, info_in, is_flagged}
+use Rattle.info_header.specs.declared.fields.Info.{Info}
+use Rattle.laying.{proofs.LaidLemmas.{first-there, laid-slots}, specs.KeptFields.fields_of_head}
+use Rattle.laying.specs.{Laid.{frames_laid, info_laid, LaidPart}, Surveys.CanBeRelaid}
+use Rattle.laying.specs.Written.{head_info, slot_in}
+use Rattle.slot_plan.specs.declared.needs.Placed.{Placed}
+use Rattle.sync_survey.specs.{Faults.SurveyFields, Row.Row, declared.places.Head.Head}
+
+-- ---- the fields of a head are those that a struct can have
+
+table_by : (place : ℕ) (bytes : List ℕ) (flagged : Bool) (test : Bool)
+    → (flagged && nat_le (place + 100) (length bytes)) ≡ test
+    → IfSome (cond test (Some (take 100 (drop place bytes))) None) (λ (t : List ℕ). length t ≡ 100)
+table_by place bytes flagged false is = tt
+table_by place bytes flagged true is =
+    let far = leb-true (place + 100) (length bytes)
+    (and_parts flagged (nat_le (place + 100) (length bytes)) is).1 in
+    length-take-le 100 (drop place bytes) (omega (arith, far, length-drop place bytes))
+
+table-many : (bytes : List ℕ) → IfSome (info_in bytes).table (λ (t : List ℕ). length t ≡ 100)
+unfolding info_in field_in
+table-many bytes = table_by (field_place (flags_in bytes) 2) bytes (is_flagged (flags_in bytes) 2)
+    (is_flagged (flags_in bytes) 2 && nat_le (field_place (flags_in bytes) 2 + 100) (length bytes))
+    refl
+
+table-of : (file : List ℕ) (head : Head)
+    → IfSome (head_info file (Some head)).table (λ (t : List ℕ). length t ≡ 100)
+unfolding head_info
+table-of file head = table-many _
+
+head_whole : (file : List ℕ) (head : Option Head) → IfSome (fields_of_head file head) AreInfoFields
+head_whole file None = tt
+head_whole file (Some head) =
+    record { table = table-of file head; extension = head-extension file (Some head) }
+
+-- ---- the head of a piece
+
+module _ (head : Option Info) (whole : IfSome head AreInfoFields)
+    (long : IfSome head (λ (i : Info). length i.extension ≡ 36)) (span : Span) (file : List ℕ)
+    (s : SurveyFields) (is : CanBeRelaid file s) (there : IsSpanIn s span) where
+  abbrev plain : LaidPart
+  plain = span_part head span s
+
+  abbrev leads : ℕ
+  leads = span_lead_ins span plain.placed
+
+  -- its lead-ins are those that the span has to have
+  pub leads-are : AreLeads span leads
+  leads-are = with-leads (span_chosen head span) s is.placed there.some there.within span refl refl
+
+  count : length (frames_laid plain file s) ≡ leads + (span.last - span.first)
+  count =
+      let chosen = span_chosen head span in
+      let slots = laid-slots plain file s is
+      there.some there.within (with-fitting chosen s is.placed there.some there.within span.led) in
+      omega (
+        arith,
+        length-map (frames_laid plain file s) slot_in,
+        ap length slots,
+        length-map plain.placed (λ (p : Placed). p.slot),
+        with-many chosen s is.placed there.some there.within span.led,
+      )
+
+  says : (o : Option Row) → slice_get s.frames span.first ≡ o
+      → IsPieceHead s.class leads span (info_laid (row_sealed_part o plain file s) file s)
+  says None found = let some =
+      (first-there s.frames span.first (omega (arith, there.some, there.within))).1 in absurd cc
+  says (Some first) found =
+      let in_range = span-in_range s.class span leads there.is leads-are in
+      let fields = info_laid plain file s in
+      let sealed = frames-sealed first.header fields (for-whole s.class (frames_laid plain file s)
+      plain.quality plain.extension (plain-long head long span file s is there)) in
+      let said = extension-says head (delay_of s.class leads span) (padding_of span) whole
+      (omega (arith, in_range.delay_most)) (omega (arith, in_range.padding_most)) in
+      record {
+        frames = ap Some count;
+        numbers = sealed.says (delay_of s.class leads span) (padding_of span) said;
+      }
+
+  -- the fields of its Info frame say the span
+  pub piece-head : IsPieceHead s.class leads span (info_laid (span_piece head span file s) file s)
+  unfolding span_piece
+  piece-head = says (slice_get s.frames span.first) refl
+
+-- sealing changes no slot
+sealed_placed : (head : Option Info) (span : Span) (file : List ℕ) (s : SurveyFields)
+    (o : Option Row)
+    → (row_sealed_part o (span_part head span s) file s).placed ≡ (span_part head span s).placed
+sealed_placed head span file s None = refl
+sealed_placed head span file s (Some first) = refl
+
+piece_placed : (head : Option Info) (span : Span) (file : List ℕ) (s : SurveyFields)
+    → (span_piece head span file s).placed ≡ (span_part head span s).placed
+unfolding span_piece
+piece_placed head span file s = sealed_placed head span file s (slice_get s.frames span.first)
+
+-- nor the frames
+sealed_from_same : (head : Option Info) (span : Span) (file : List ℕ) (s : SurveyFields)
+    (o : Option Row) → (row_sealed_part o (span_part head span s) file s).from ≡ span.first
+sealed_from_same head span file s None = refl
+sealed_from_same head span file s (Some first) = refl
+
+sealed_to_same : (head : Option Info) (span : Span) (file : List ℕ) (s : SurveyFields)
+    (o : Option Row) → (row_sealed_part o (span_part head span s) file s).to ≡ span.last
+sealed_to_same head span file s None = refl
+sealed_to_same head span file s (Some first) = refl
+
+-- a piece has the frames from the first of its span
+pub piece-from : (head : Option Info) (span : Span) (file : List ℕ) (s : SurveyFields)
+    → (span_piece head span file s).from ≡ span.first
+unfolding span_piece
+piece-from head span file s = sealed_from_same head span file s (slice_get s.frames span.first)
+
+-- up to the last
+pub piece-to : (head : Option Info) (span : Span) (file : List ℕ) (s : SurveyFields)
+    → (span_piece head span file s).to ≡ span.last
+unfolding span_piece
+piece-to head span file s = sealed_to_same head span file s (slice_get s.frames span.first)
+
+-- exactly the samples of its span are played of a piece
+pub pieces-play : PiecesPlayTheirSamples
+unfolding file_span
+pieces-play file s from to span is e =
+    let head = fields_of_head file s.head in
+    let played = played_of head s.class (length s.frames) in
+    let samples = length_of_played played in
+    let a = sample_at s.class samples from in
+    let b = sample_at s.class samples to in
+    let piece = span_piece head span file (survey_without_head s) in
+    let fields = info_laid piece file (survey_without_head s) in
+    let ok = unless_ok (samples_fault a b samples)
+    (span_of s.class (played.start + a) (played.start + b)) span e in
+    let inside = samples_there a b samples (nat_lt a b && nat_le b samples) refl ok.0 in
+    let had = apart-had file s is (apart-placed s is.placed) in
+    let there = span_apart s span (span-there from to head s span e) in
+    let placed = piece_placed head span file (survey_without_head s) in
+    let leads : AreLeads span (span_lead_ins span piece.placed) =
+    subst (λ (p : List Placed). AreLeads span (span_lead_ins span p)) (sym placed) (leads-are head
+    (head_whole file s.head) (head_long file s.head) span file (survey_without_head s) had there) in
+    let of : IsPieceHead s.class (span_lead_ins span piece.placed) span fields =
+    subst (λ (p : List Placed). IsPieceHead s.class (span_lead_ins span p) span fields) (sym placed)
+    (piece-head head (head_whole file s.head) (head_long file s.head) span file
+    (survey_without_head s) had there)
+    in
+    let many = span_lead_ins span piece.placed in
+    record {
+      leads = leads;
+      head = of;
+      places = subst (λ (p : Span). KeepsPlaces s.class many p.first a b
+          (played_of (Some fields) s.class (many + (p.last - p.first))) played) ok.1
+          (places-kept head fields s.class (length s.frames) a b many
+          (record { some = inside.0; most = inside.1 })
+          (subst (λ (p : Span). AreLeads p many) (sym ok.1) leads)
+          (subst (λ (p : Span). IsPieceHead s.class many p fields) (sym ok.1) of));
+    }

@@ -1,0 +1,191 @@
+-- The frames of a span in the slots of their plan: at most one
+-- lead-in is before them, and one where the span has to have it.
+use Rattle.std.proofs.Common.{append-nil, arith, Bool, drop, false, IsTrue, length, List, map, refl}
+use Rattle.std.proofs.Common.{subst, true, ℕ, [], ◌+◌, ◌-◌, ◌∷◌, ◌≡◌}
+use Rattle.std.proofs.lemmas.List.{length-drop, length-map, length-take}
+use Rattle.std.specs.Prelude.{All, ◌<◌, ◌↔◌, ◌≤◌}
+use Rattle.cut_edits.proofs.ChosenLemmas.{by_usual, headers-known, plan-few, plan-fitting, rows-fit}
+use Rattle.cut_edits.proofs.ChosenLemmas.{usual_slots}
+use Rattle.cut_edits.specs.Chosen.{Chosen, chosen_needs, chosen_rows}
+use Rattle.cut_edits.specs.Exact.{span_lead_ins, span_plan}
+use Rattle.exact_span.specs.{Spans.AreLeads, declared.span.Span.Span}
+use Rattle.frame_header.specs.Tables.{window_of}
+use Rattle.laying.proofs.FitLemmas.{AreHeaders, AreOpen, Asks, asks-each, items-fit, open-in_slots}
+use Rattle.laying.proofs.{NeedsFitLemmas.part-known, PartsLemmas.parts_are}
+use Rattle.laying.proofs.PlannedFrameLemmas.{slot_among}
+use Rattle.laying.specs.Fits.{FitsFromReach, IsFittingPlan, reach_behind}
+use Rattle.laying.specs.Needs.{need_of, needs_of_parts, part_places, plan_input, PlanInput}
+use Rattle.laying.specs.{NeedsFit.{IsPlacedSurvey, own_choice}, Relaid.rest_behind}
+use Rattle.slot_plan.{proofs.LeastPlanLemmas.led-plan-is, specs.Laws.PartsChooseInOrder}
+use Rattle.slot_plan.specs.LeastPlan.{led_plan}
+use Rattle.slot_plan.specs.Parts.{AreNeedsOfClass, ArePartsFeasible, CanBePlanned, led_items}
+use Rattle.slot_plan.specs.Parts.{need_item, needs_in_parts, PlanItem, window_in}
+use Rattle.slot_plan.specs.{Plans.{AreItemSlots, IsLedPlan}, declared.needs.Need.Need}
+use Rattle.slot_plan.specs.declared.needs.Placed.{Placed}
+use Rattle.sync_survey.specs.Faults.{SurveyFields}
+
+-- ---- the items of a led plan
+
+led_asks : (needs : List Need) → Asks (led_items own_choice needs) needs
+unfolding led_items
+led_asks [] = tt
+led_asks (need ∷ needs) = ((refl, refl, refl), asks-each own_choice (need ∷ needs))
+
+frames_open : (needs : List Need) → AreHeaders needs → AreOpen (map (need_item own_choice) needs)
+frames_open [] are = tt
+frames_open (need ∷ needs) are = (
+  (λ slot has. usual_slots own_choice (by_usual false) need.header slot are.0 has),
+  frames_open needs are.1,
+)
+
+led_open : (needs : List Need) → AreHeaders needs → AreOpen (led_items own_choice needs)
+unfolding led_items
+led_open [] are = tt
+led_open (need ∷ needs) are = ((λ slot has. slot_among slot has), frames_open (need ∷ needs) are)
+
+-- a list that is placed for items is as long as they
+pub for_length : (items : List PlanItem) (placed : List Placed) → AreItemSlots items placed
+    → length placed ≡ length items
+unfolding AreItemSlots
+for_length [] [] are = refl
+for_length [] (p ∷ placed) are = absurd are
+for_length (item ∷ items) [] are = absurd are
+for_length (item ∷ items) (p ∷ placed) are = omega (arith, for_length items placed are.2)
+
+led_length : (needs : List Need) → 0 < length needs
+    → length (led_items own_choice needs) ≡ length needs + 1
+unfolding led_items
+led_length [] some = absurd (omega (arith, some))
+led_length (need ∷ needs) some = omega (arith, length-map needs (need_item own_choice))
+
+-- ---- as many places as frames
+
+left_many : (lead_in : Bool) (need : Need) (needs : List Need)
+    → length needs ≤ length (rest_behind lead_in need needs)
+left_many true need needs = omega arith
+left_many false need needs = omega arith
+
+fits_many : (window reach : ℕ) (needs : List Need) (placed : List Placed)
+    → FitsFromReach window reach needs placed → length needs ≤ length placed
+unfolding FitsFromReach
+fits_many window reach [] [] fits = omega arith
+fits_many window reach [] (p ∷ placed) fits = absurd fits
+fits_many window reach (need ∷ needs) [] fits = absurd fits
+fits_many window reach (need ∷ needs) (p ∷ placed) fits =
+    let rest = fits_many window (reach_behind window p need)
+    (rest_behind p.lead_in need needs) placed fits.2 in
+    omega (arith, rest, left_many p.lead_in need needs)
+
+-- ---- the plan of chosen frames
+
+module _ (chosen : Chosen) (s : SurveyFields) (placed : IsPlacedSurvey s)
+    (some : chosen.from < chosen.to)
+    (within : chosen.to ≤ length s.frames) where
+  abbrev needs : List Need
+  needs = chosen_needs chosen s
+
+  abbrev asked : PlanInput
+  asked = plan_input (chosen_rows chosen s ∷ [])
+
+  -- there are as many needs as frames
+  pub needs-length : length needs ≡ chosen.to - chosen.from
+  needs-length =
+      omega (
+        arith,
+        length-map (chosen_rows chosen s) need_of,
+        length-take (chosen.to - chosen.from) (drop chosen.from s.frames),
+        length-drop chosen.from s.frames,
+        some,
+        within,
+      )
+
+  parts_is : needs_in_parts asked.needs asked.places ≡ needs ∷ []
+  parts_is = parts_are [] 0 (chosen_rows chosen s ∷ []) refl
+
+  -- what the planner answers of them is the led plan
+  pub led-is : (ps : List Placed) → IsLedPlan (window_of s.class.version) own_choice needs ps
+      ↔ (ps ≡ led_plan (window_of s.class.version) own_choice needs)
+  led-is ps =
+      let fit = rows-fit chosen s placed some within in
+      led-plan-is s.class own_choice needs ps
+      (subst (All (AreNeedsOfClass s.class)) parts_is fit.each 0 [] (omega arith))
+      (subst (PartsChooseInOrder own_choice) parts_is fit.kept)
+      (subst (λ (n : ℕ). ArePartsFeasible n (needs ∷ []))
+      fit.window (subst (ArePartsFeasible (window_in asked.needs)) parts_is fit.planned.feasible))
+
+  flat : asked.needs ≡ needs
+  unfolding needs_of_parts
+  flat = append-nil needs
+
+  -- the plan with a lead-in is the value of the definition
+  pub led-answer : (ps : List Placed) → IsLedPlan (window_in asked.needs) own_choice asked.needs ps
+      → ps ≡ led_plan (window_of s.class.version) own_choice needs
+  led-answer ps plan =
+      let fit = rows-fit chosen s placed some within in
+      (led-is ps).0
+      (subst (λ (l : List Need). IsLedPlan (window_of s.class.version) own_choice l ps) flat
+      (subst (λ (n : ℕ). IsLedPlan n own_choice asked.needs ps) fit.window plan))
+
+  -- the frames can be planned
+  pub led-can : CanBePlanned asked.needs (0 ∷ [])
+  unfolding part_places
+  led-can = (rows-fit chosen s placed some within).planned
+
+  the_led : IsLedPlan (window_of s.class.version) own_choice needs
+      (led_plan (window_of s.class.version) own_choice needs)
+  the_led = (led-is (led_plan (window_of s.class.version) own_choice needs)).1 refl
+
+  known : AreHeaders needs
+  known = headers-known (chosen_rows chosen s) (part-known s chosen.from chosen.to placed)
+
+  -- by either plan the frames can be laid
+  pub with-fitting : (led : Bool)
+      → IsFittingPlan (window_of s.class.version) needs (span_plan led s.class needs)
+  with-fitting false = plan-fitting chosen s placed some within own_choice (by_usual false)
+  with-fitting true =
+      let plan = led_plan (window_of s.class.version) own_choice needs in
+      record {
+        fits = items-fit (window_of s.class.version) (led_items own_choice needs) needs plan
+            (led_asks needs) the_led.slots the_led.least.feasible the_led.begins;
+        slots =
+            open-in_slots (led_items own_choice needs) plan (led_open needs known) the_led.slots;
+      }
+
+  led_many : length (led_plan (window_of s.class.version) own_choice needs)
+      ≡ chosen.to - chosen.from + 1
+  led_many =
+      omega (
+        arith,
+        for_length (led_items own_choice needs)
+            (led_plan (window_of s.class.version) own_choice needs) the_led.slots,
+        led_length needs (omega (arith, needs-length, some)),
+        needs-length,
+      )
+
+  -- it has at most one place more than frames
+  pub with-few : (led : Bool) → length (span_plan led s.class needs) ≤ chosen.to - chosen.from + 1
+  with-few false =
+      omega (arith, plan-few chosen s placed some within own_choice (by_usual false), needs-length)
+  with-few true = omega (arith, led_many)
+
+  -- and no fewer
+  pub with-many : (led : Bool) → chosen.to - chosen.from ≤ length (span_plan led s.class needs)
+  with-many led = omega (
+    arith,
+    fits_many (window_of s.class.version) 0 needs (span_plan led s.class needs)
+        (with-fitting led).fits,
+    needs-length,
+  )
+
+  with_led : (led : Bool) → IsTrue led
+      → length (span_plan led s.class needs) - (chosen.to - chosen.from) ≡ 1
+  with_led false is = absurd cc
+  with_led true is = omega (arith, led_many)
+
+  -- it has a lead-in where the span has to have one
+  pub with-leads : (span : Span) → chosen.from ≡ span.first → chosen.to ≡ span.last
+      → AreLeads span (span_lead_ins span (span_plan span.led s.class needs))
+  with-leads span from to = record {
+    one = omega (arith, with-few span.led, from, to);
+    led = λ is. omega (arith, with_led span.led is, from, to);
+  }

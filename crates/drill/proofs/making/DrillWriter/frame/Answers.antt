@@ -1,0 +1,101 @@
+-- The main data fit into the room for them.
+use Rattle.std.proofs.Common.{ap, arith, length, subst, sym, ◌+◌, ◌/◌, ◌∙◌, ◌≡◌, ◌≤◌}
+use Rattle.drill.proofs.DrawnSideLemmas.{drawn_side-begin, drawn_side-fits, drawn_side-room}
+use Rattle.drill.proofs.{DrawsLemmas.behind-sum, MakingLemmas.{area-is, reach-most}}
+use Rattle.drill.{proofs.making.DrillWriter.frame.Goals.After-new-frame, specs.Draws.state_after}
+use Rattle.drill.specs.Drill.{drawn_side}
+use Rattle.frame_header.specs.{Fields.HeaderFields, Tables.{area_of, class_of}}
+use Rattle.frame_writer.specs.Frames.{EndsInArea, Frame, frame_with_data}
+use Rattle.side_info.specs.{FrameFields.FrameFields, Side.payload_bits, declared.side.Side.Side}
+use Rattle.drill.proofs.making.DrillWriter.frame.Given as given
+use Rattle.drill.proofs.making.DrillWriter.frame.Goals as goal
+
+pub draw_payload-payload-requires : goal.draw_payload-payload-requires
+draw_payload-payload-requires g c =
+    let m = c.args.self.now in
+    let begin = c.reach.result in
+    record {
+      few = omega (
+        arith,
+        c.bits.ensures,
+        ap payload_bits c.draw_side-side.ensures.side,
+        drawn_side-room begin m.draws.state,
+        c.reach.ensures,
+        reach-most m.writer c.requires.next.class,
+      );
+    }
+
+pub new-front-requires : goal.new-front-requires
+new-front-requires g c =
+    let m = c.args.self.now in
+    let begin = c.reach.result in
+    rw (c.drill_header.ensures, c.draw_side-side.ensures.side) (drawn_side-fits begin
+    m.draws.state (omega (arith, c.reach.ensures, reach-most m.writer c.requires.next.class)))
+
+-- the frame that the writer gets
+frame_is : (g : given.Over) (c : After-new-frame g) → c.new-frame.result
+    ≡ frame_with_data c.drill_header.result c.draw_side-side.result c.draw_payload-payload.result
+frame_is g c = c.new-frame.ensures ∙ ap {A = FrameFields} {B =
+    Frame} (λ k. record { kept = k; payload = c.draw_payload-payload.result }) c.new-front.ensures
+
+pub frame-requires-clause-start : goal.frame-requires-clause-start
+frame-requires-clause-start g c =
+    let is = frame_is g (goal.at.frame-requires-clause-start g c).After-new-frame in
+    omega (
+      arith,
+      ap (λ (f : Frame). f.kept.side.main_data_begin) is,
+      ap (λ (s : Side). s.main_data_begin) c.draw_side-side.ensures.side,
+      drawn_side-begin c.reach.result c.args.self.now.draws.state,
+      c.reach.ensures,
+    )
+
+pub frame-requires-clause-within : goal.frame-requires-clause-within
+frame-requires-clause-within g c =
+    let m = c.args.self.now in
+    let begin = c.reach.result in
+    let area : area_of (class_of c.drill_header.result)
+    c.drill_header.result.slot c.drill_header.result.protected ≡ 381 =
+    ap (λ (h : HeaderFields). area_of (class_of h) h.slot h.protected) c.drill_header.ensures
+    ∙ area-is in
+    let size : length c.draw_payload-payload.result
+    ≤ c.draw_side-side.result.main_data_begin + area_of (class_of c.drill_header.result)
+    c.drill_header.result.slot c.drill_header.result.protected =
+    omega (
+      arith,
+      area,
+      c.draw_payload-payload.ensures.size,
+      c.bits.ensures,
+      ap payload_bits c.draw_side-side.ensures.side,
+      drawn_side-room begin m.draws.state,
+      ap (λ (s : Side). s.main_data_begin) c.draw_side-side.ensures.side,
+      drawn_side-begin begin m.draws.state,
+    ) in
+    subst EndsInArea
+    (sym (frame_is g (goal.at.frame-requires-clause-within g c).After-new-frame)) size
+
+pub frame-requires-clause-few : goal.frame-requires-clause-few
+frame-requires-clause-few g c =
+    let m = c.args.self.now in
+    let begin = c.reach.result in
+    let is = frame_is g (goal.at.frame-requires-clause-few g c).After-new-frame in
+    omega (
+      arith,
+      ap (λ (f : Frame). length f.payload) is,
+      c.draw_payload-payload.ensures.size,
+      c.bits.ensures,
+      ap payload_bits c.draw_side-side.ensures.side,
+      drawn_side-room begin m.draws.state,
+      c.reach.ensures,
+      reach-most m.writer c.requires.next.class,
+    )
+
+pub returns-clause-state : goal.returns-clause-state
+returns-clause-state g c =
+    let m = c.args.self.now in
+    let state = m.draws.state in
+    let bits = c.bits.ensures ∙ ap payload_bits c.draw_side-side.ensures.side in
+    c.draw_payload-payload.ensures.state
+    ∙ ap (state_after ((c.bits.result + 7) / 8)) c.draw_side-side.ensures.state
+    ∙ behind-sum 8 ((c.bits.result + 7) / 8) state
+    ∙ ap (λ n. state_after (8 + (n + 7) / 8) state) bits
+    ∙ ap (λ n. state_after (8 + (payload_bits (drawn_side n state) + 7) / 8) state) c.reach.ensures

@@ -1,0 +1,56 @@
+-- One frame after another.
+use Rattle.std.proofs.Common.{arith, refl, subst, suc, sym, ◌+◌, ◌∙◌, ◌≡◌}
+use Rattle.drill.proofs.MakingLemmas.{before-first, before-more, made-more, made-none, made-part}
+use Rattle.drill.specs.{Drill.drill_frames, Making.{drill_writing, HasMade, IsBeforeFrame}}
+use Rattle.outside.proofs.{BufferOutputLemmas.on_err, FilesLemmas.appended_there}
+use Rattle.outside.specs.Files.{IsFileThere}
+use Rattle.drill.proofs.making.DrillWriter.frames.Goals as goal
+
+pub loop-i-init : goal.loop-i-init
+loop-i-init g c =
+    let m = c.args.self.now in
+    record {
+      next = before-first m.draws.state m refl c.requires.new;
+      made = made-none c.args.name.now m.draws.state m
+          (g.D.Folder.seen c.args.folder.now).files c.requires.there c.requires.new c.requires.none;
+      counts = refl;
+    }
+
+pub frame-requires-clause-there : goal.frame-requires-clause-there
+frame-requires-clause-there g c =
+    let made = c.loop-i.invariant.made in
+    subst (λ f. IsFileThere f c.args.name.now) (sym made.files)
+    (appended_there (g.D.Folder.seen c.args.folder.now).files c.args.name.now made.passed)
+
+pub frame-requires-clause-next : goal.frame-requires-clause-next
+frame-requires-clause-next g c = c.loop-i.invariant.next.next
+
+pub returns-in_err-frame-clause-prefix : goal.returns-in_err-frame-clause-prefix
+returns-in_err-frame-clause-prefix g c =
+    let seen = g.D.Folder.seen in
+    let inv = c.loop-i.invariant in
+    on_err c.from_residual.result
+    (made-part c.args.name.now c.args.self.now.draws.state c.loop-i._i c.loop-i.self inv.next
+    (seen c.args.folder.now).files (seen c.loop-i.folder).files inv.made
+    c.args.count _ (seen c.frame.new.folder).files c.loop-i-test.true c.frame.ensures.reach
+    c.in_err-frame.ensures.part)
+
+pub loop-i-preserved : goal.loop-i-preserved
+loop-i-preserved g c =
+    let seen = g.D.Folder.seen in
+    let inv = c.loop-i.invariant in
+    let seed = c.args.self.now.draws.state in
+    let i = c.loop-i._i in
+    let one : suc i ≡ i + 1 = omega arith in
+    record {
+      next = subst (λ n. IsBeforeFrame seed n c.frame.new.self) one
+          (before-more seed i c.loop-i.self inv.next c.frame.new.self c.in_ok-frame.ensures.next
+          c.frame.ensures.state c.frame.ensures.reach);
+      made =
+          subst (λ n. HasMade c.args.name.now (drill_writing c.frame.new.self) (drill_frames seed n)
+          (seen c.args.folder.now).files (seen c.frame.new.folder).files) one
+          (made-more c.args.name.now seed i c.loop-i.self inv.next (seen c.args.folder.now).files
+          (seen c.loop-i.folder).files inv.made (drill_writing c.frame.new.self)
+          (seen c.frame.new.folder).files c.in_ok-frame.ensures.written);
+      counts = c.in_ok-frame.ensures.done ∙ inv.counts;
+    }

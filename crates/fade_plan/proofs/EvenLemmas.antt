@@ -1,0 +1,207 @@
+-- Curves go evenly from point to point.
+use Rattle.std.proofs.Common.{ap, append-nil, append_assoc, ap₂, arith, Bool, cond, false, find}
+use Rattle.std.proofs.Common.{get_or, inl, inr, length, length-append, List, map, nat_le, nat_lt}
+use Rattle.std.proofs.Common.{None, Ok, Option, refl, reverse, Some, subst, sym, true, ℕ, [], ◌++◌}
+use Rattle.std.proofs.{Common.{◌+◌, ◌-◌, ◌<◌, ◌∙◌, ◌∷◌, ◌≡◌, ◌≤◌}, Math.ListN.get_or-append}
+use Rattle.std.proofs.lemmas.Bool.{cases_lt, le-leb, le-ltb, lt-leb, lt-ltb, ltb-true}
+use Rattle.std.proofs.lemmas.List.{get_or-append_right, get_or_default, reverse-append}
+use Rattle.std.proofs.lemmas.{List.{Folds.find-append, Kept.AllPairs-cons}, Option.none-some}
+use Rattle.std.specs.{List.All, Option.option_or}
+use Rattle.fade_plan.proofs.CurveLemmas.{last_passes, none_passes, none_passes_back}
+use Rattle.fade_plan.specs.Curves.{curve_of, curve_point, CurvePoint, line_not_rising}
+use Rattle.fade_plan.specs.Curves.{line_or_curve, neighbour_steps, point_frame, steps_at}
+use Rattle.fade_plan.specs.{Curves.steps_between, Laws.{CurvesGoEvenly, IsCurveRising}}
+use Rattle.fade_plan.specs.Sheets.{EnvelopePoint}
+use Rattle.frame_header.specs.Fields.{ClassFields}
+
+-- ---- points that rise
+
+all_later : (x y : CurvePoint) (xs : List CurvePoint) → x.frame < y.frame → IsCurveRising (y ∷ xs)
+    → All (λ z. x.frame < z.frame) (y ∷ xs)
+all_later x y xs less rising k d within =
+    elim (cases_lt 0 k) [
+      | inl later ↦ let above : y.frame < (get_or (y ∷ xs) k d).frame = rising 0 k d later within in
+          omega (arith, less, above)
+      | inr first ↦
+          let same : k ≡ 0 = omega (arith, first) in
+          let here : (get_or (y ∷ xs) k d).frame ≡ y.frame =
+          ap (λ i. (get_or (y ∷ xs) i d).frame) same in
+          omega (arith, less, here)
+    ]
+
+-- where neither of two has a fault, the first holds and the other has none
+pub none_of : (b : Bool) (o : Option ℕ) (line : ℕ) → cond b o (Some line) ≡ None
+    → (b ≡ true) × (o ≡ None)
+none_of true o line e = (refl, e)
+none_of false o line e = absurd (none-some _ (sym e))
+
+next_of : (class : ClassFields) (frames : ℕ) (p q : EnvelopePoint) (more : List EnvelopePoint)
+    → line_not_rising class frames (p ∷ q ∷ more) ≡ cond (nat_lt (point_frame class frames p)
+    (point_frame class frames q)) (line_not_rising class frames (q ∷ more)) (Some q.line)
+unfolding line_not_rising
+next_of class frames p q more = refl
+
+rises : (class : ClassFields) (frames : ℕ) (points : List EnvelopePoint)
+    → line_not_rising class frames points ≡ None
+    → IsCurveRising (map (curve_point class frames) points)
+rises class frames [] none = λ i j d less within. absurd (omega (arith, within))
+rises class frames (p ∷ []) none = λ i j d less within. absurd (omega (arith, less, within))
+rises class frames (p ∷ q ∷ more) none =
+    let parts = none_of (nat_lt (point_frame class frames p) (point_frame class frames q))
+    (line_not_rising class frames (q ∷ more)) q.line (sym (next_of class frames p q more) ∙ none) in
+    let later = rises class frames (q ∷ more) parts.1 in
+    AllPairs-cons (λ x y. x.frame < y.frame) (curve_point class frames p)
+    (map (curve_point class frames) (q ∷ more))
+    (all_later (curve_point class frames p) (curve_point class frames q)
+    (map (curve_point class frames) more) (ltb-true _ _ parts.0) later) later
+
+-- a curve was made only of points without a fault, and is these
+pub made_of : (o : Option ℕ) (points curve : List CurvePoint) → line_or_curve o points ≡ Ok curve
+    → (o ≡ None) × (points ≡ curve)
+made_of None points curve e = (refl, cc)
+made_of (Some line) points curve e = absurd cc
+
+curve_rises : (class : ClassFields) (frames : ℕ) (points : List EnvelopePoint)
+    (curve : List CurvePoint) → curve_of class frames points ≡ Ok curve → IsCurveRising curve
+unfolding curve_of
+curve_rises class frames points curve e =
+    let parts =
+    made_of (line_not_rising class frames points) (map (curve_point class frames) points) curve e in
+    subst IsCurveRising parts.1 (rises class frames points parts.0)
+
+-- ---- the points up to a frame, and those after it
+
+front_all : (frame : ℕ) (xs ys : List CurvePoint) (d : CurvePoint) → IsCurveRising (xs ++ ys)
+    → 0 < length xs → (get_or xs (length xs - 1) d).frame ≤ frame → All (λ p. p.frame ≤ frame) xs
+front_all frame xs ys d rising some low k e less =
+    let last : length xs - 1 < length xs = omega (arith, some) in
+    let end : (get_or xs (length xs - 1) e).frame ≡ (get_or xs (length xs - 1) d).frame =
+    ap (λ p. p.frame) (get_or_default xs (length xs - 1) e d last) in
+    elim (cases_lt k (length xs - 1)) [
+      | inl before ↦
+          let below : (get_or (xs ++ ys) k e).frame < (get_or (xs ++ ys) (length xs - 1) e).frame =
+          rising k (length xs - 1) e before (omega (arith, some, length-append xs ys)) in
+          let here : (get_or (xs ++ ys) k e).frame ≡ (get_or xs k e).frame =
+          ap (λ p. p.frame) (get_or-append xs ys e k less) in
+          let there : (get_or (xs ++ ys) (length xs - 1) e).frame
+          ≡ (get_or xs (length xs - 1) e).frame =
+          ap (λ p. p.frame) (get_or-append xs ys e (length xs - 1) last) in
+          omega (arith, below, here, there, end, low)
+      | inr after ↦
+          let same : k ≡ length xs - 1 = omega (arith, after, less) in
+          let here : (get_or xs k e).frame ≡ (get_or xs (length xs - 1) e).frame =
+          ap (λ i. (get_or xs i e).frame) same in
+          omega (arith, here, end, low)
+    ]
+
+back_rises : (xs ys : List CurvePoint) → IsCurveRising (xs ++ ys) → IsCurveRising ys
+back_rises xs ys rising i j d less within =
+    let at : (n : ℕ) → get_or (xs ++ ys) (length xs + n) d ≡ get_or ys n d =
+    λ n. get_or-append_right xs ys (length xs) (length xs + n) d refl (omega arith)
+    ∙ ap (λ m. get_or ys m d) (omega arith) in
+    let below : (get_or (xs ++ ys) (length xs + i) d).frame
+    < (get_or (xs ++ ys) (length xs + j) d).frame = rising (length xs + i) (length xs + j) d
+    (omega (arith, less)) (omega (arith, within, length-append xs ys)) in
+    let low : (get_or (xs ++ ys) (length xs + i) d).frame ≡ (get_or ys i d).frame =
+    ap (λ p. p.frame) (at i) in
+    let high : (get_or (xs ++ ys) (length xs + j) d).frame ≡ (get_or ys j d).frame =
+    ap (λ p. p.frame) (at j) in
+    omega (arith, below, low, high)
+
+back_all : (frame : ℕ) (xs ys : List CurvePoint) (y : CurvePoint) → IsCurveRising (xs ++ (y ∷ ys))
+    → frame < y.frame → All (λ p. frame < p.frame) (y ∷ ys)
+back_all frame xs ys y rising high =
+    all_later (record { frame = frame; steps = y.steps }) y ys high (back_rises xs (y ∷ ys) rising)
+
+-- ---- steps
+
+abbrev up_to : ℕ → CurvePoint → Bool
+up_to frame point = nat_le point.frame frame
+
+abbrev behind : ℕ → CurvePoint → Bool
+behind frame point = nat_lt frame point.frame
+
+parted : (frame : ℕ) (xs ys : List CurvePoint) → All (λ p. p.frame ≤ frame) xs
+    → All (λ p. frame < p.frame) ys → steps_at (xs ++ ys) frame
+    ≡ neighbour_steps (find (up_to frame) (reverse xs)) (find (behind frame) ys) frame
+unfolding steps_at
+parted frame xs ys low high =
+    ap₂ (λ p q. neighbour_steps p q frame)
+    (ap (find (up_to frame)) (reverse-append xs ys)
+    ∙ find-append (up_to frame) (reverse ys) (reverse xs)
+    ∙ ap (λ o. option_or o (find (up_to frame) (reverse xs)))
+    (none_passes_back (up_to frame) ys (λ k d less. lt-leb _ _ (high k d less))))
+    (find-append (behind frame) xs ys ∙ ap (λ o. option_or o (find (behind frame) ys))
+    (none_passes (behind frame) xs (λ k d less. le-ltb _ _ (low k d less))))
+
+last_is : (front : List CurvePoint) (p d : CurvePoint)
+    → get_or (front ++ (p ∷ [])) (length (front ++ (p ∷ [])) - 1) d ≡ p
+last_is front p d =
+    let end : length (front ++ (p ∷ [])) - 1 ≡ length front =
+    omega (arith, length-append front (p ∷ [])) in
+    let none : length front - length front ≡ 0 = omega arith in
+    ap (λ n. get_or (front ++ (p ∷ [])) n d) end
+    ∙ get_or-append_right front (p ∷ []) (length front) (length front) d refl (omega arith)
+    ∙ ap (λ n. get_or (p ∷ []) n d) none
+
+some_last : (front : List CurvePoint) (p : CurvePoint) → 0 < length (front ++ (p ∷ []))
+some_last front p = omega (arith, length-append front (p ∷ []))
+
+front_low : (frame : ℕ) (front ys : List CurvePoint) (p : CurvePoint)
+    → IsCurveRising ((front ++ (p ∷ [])) ++ ys) → p.frame ≤ frame
+    → All (λ x. x.frame ≤ frame) (front ++ (p ∷ []))
+front_low frame front ys p rising low =
+    front_all frame (front ++ (p ∷ [])) ys p rising (some_last front p)
+    (subst (λ x. x.frame ≤ frame) (sym (last_is front p p)) low)
+
+find_last : (frame : ℕ) (front : List CurvePoint) (p : CurvePoint)
+    → All (λ x. x.frame ≤ frame) (front ++ (p ∷ []))
+    → find (up_to frame) (reverse (front ++ (p ∷ []))) ≡ Some p
+find_last frame front p all =
+    last_passes (up_to frame) (front ++ (p ∷ [])) p (some_last front p)
+    (λ k d less. le-leb _ _ (all k d less)) ∙ ap Some (last_is front p p)
+
+find_first : (frame : ℕ) (q : CurvePoint) (back : List CurvePoint) → frame < q.frame
+    → find (behind frame) (q ∷ back) ≡ Some q
+find_first frame q back high =
+    ap (λ b. cond b (Some q) (find (behind frame) back)) (lt-ltb frame q.frame high)
+
+goes_before : (p : CurvePoint) (more : List CurvePoint) (frame : ℕ) → IsCurveRising (p ∷ more)
+    → frame < p.frame → steps_at (p ∷ more) frame ≡ p.steps
+goes_before p more frame rising high =
+    parted frame [] (p ∷ more) (λ k d less. absurd (omega (arith, less)))
+    (back_all frame [] more p rising high)
+    ∙ ap (λ q. neighbour_steps None q frame) (find_first frame p more high)
+
+goes_between : (front back : List CurvePoint) (p q : CurvePoint) (frame : ℕ)
+    → IsCurveRising (front ++ (p ∷ q ∷ back)) → p.frame ≤ frame → frame < q.frame
+    → steps_at (front ++ (p ∷ q ∷ back)) frame ≡ steps_between p q frame
+goes_between front back p q frame rising low high =
+    let whole : front ++ (p ∷ q ∷ back) ≡ (front ++ (p ∷ [])) ++ (q ∷ back) =
+    sym (append_assoc front (p ∷ []) (q ∷ back)) in
+    let same = subst IsCurveRising whole rising in
+    let all = front_low frame front (q ∷ back) p same low in
+    ap (λ ps. steps_at ps frame) whole ∙ parted frame (front ++ (p ∷ [])) (q ∷ back) all
+    (back_all frame (front ++ (p ∷ [])) back q same high)
+    ∙ ap₂ (λ a b. neighbour_steps a b frame) (find_last frame front p all)
+    (find_first frame q back high)
+
+goes_behind : (front : List CurvePoint) (p : CurvePoint) (frame : ℕ)
+    → IsCurveRising (front ++ (p ∷ [])) → p.frame ≤ frame
+    → steps_at (front ++ (p ∷ [])) frame ≡ p.steps
+goes_behind front p frame rising low =
+    let whole : front ++ (p ∷ []) ≡ (front ++ (p ∷ [])) ++ [] =
+    sym (append-nil (front ++ (p ∷ []))) in
+    let all = front_low frame front [] p (subst IsCurveRising whole rising) low in
+    ap (λ ps. steps_at ps frame) whole
+    ∙ parted frame (front ++ (p ∷ [])) [] all (λ k d less. absurd (omega (arith, less)))
+    ∙ ap (λ a. neighbour_steps a None frame) (find_last frame front p all)
+
+-- from point to point a curve goes evenly
+pub curves-go-evenly : CurvesGoEvenly
+curves-go-evenly = record {
+  rising = curve_rises;
+  before = goes_before;
+  between = goes_between;
+  behind = goes_behind;
+}

@@ -1,0 +1,244 @@
+-- A curve goes no further up or down than its points.
+use Rattle.std.proofs.Common.{ap, ap₂, arith, Bool, cond, false, leb, length, List, ltb, nat_le}
+use Rattle.std.proofs.Common.{nat_lt, None, Option, refl, Some, subst, suc, sym, true, zero, ℕ, []}
+use Rattle.std.proofs.Common.{◌*◌, ◌+◌, ◌-◌, ◌/◌, ◌<◌, ◌∙◌, ◌∷◌, ◌≡◌, ◌≤◌}
+use Rattle.std.proofs.Math.Nat.{add-mul, div-le_of_le-mul, mul-le-mul_right, mul_comm}
+use Rattle.std.proofs.lemmas.Bool.{and_from, and_parts, le-leb, le-ltb, leb-false, leb-true, lt-ltb}
+use Rattle.std.proofs.lemmas.{Bool.ltb-true, List.{get_or-reverse, length-reverse}}
+use Rattle.std.specs.{Cmp.both_ways, List.All}
+use Rattle.std.specs.Prelude.{find, int_div, int_le, IsTrue, neg_ℤ, negsuc, pos, reverse, ℤ, ◌*ℤ◌}
+use Rattle.std.specs.Prelude.{◌+ℤ◌}
+use Rattle.fade_plan.specs.Curves.{CurvePoint, first_point_after, last_point_up_to, neighbour_steps}
+use Rattle.fade_plan.specs.{Curves.{steps_at, steps_between}, Laws.is_step_within}
+
+-- ---- how far a number is above 0 and below it
+
+above : ℤ → ℕ
+above (pos n) = n
+above (negsuc n) = 0
+
+below : ℤ → ℕ
+below (pos n) = 0
+below (negsuc n) = suc n
+
+record IsFar (down up : ℕ) (z : ℤ) : Type 0 where
+  down_to : below z ≤ down
+  up_to : above z ≤ up
+
+far : (down up : ℕ) (z : ℤ) → is_step_within down up z ≡ true → IsFar down up z
+unfolding above below
+far down up (pos n) is = record {
+  down_to = omega arith;
+  up_to = leb-true n up (and_parts (int_le (neg_ℤ (pos down)) (pos n)) (leb n up) is).1;
+}
+far zero up (negsuc n) is = absurd cc
+far (suc down) up (negsuc n) is = record {
+  down_to = omega (arith, leb-true n down (and_parts (leb n down) true is).0);
+  up_to = omega arith;
+}
+
+near : (down up : ℕ) (z : ℤ) → IsFar down up z → is_step_within down up z ≡ true
+unfolding above below
+near zero up (pos n) is =
+    and_from (leb 0 n) (leb n up) (le-leb 0 n (omega arith)) (le-leb n up is.up_to)
+near (suc down) up (pos n) is = le-leb n up is.up_to
+near zero up (negsuc n) is = absurd (omega (arith, is.down_to))
+near (suc down) up (negsuc n) is =
+    and_from (leb n down) true (le-leb n down (omega (arith, is.down_to))) refl
+
+-- the opposite number is as far up as it is down
+pub within-opposite : (down up : ℕ) (z : ℤ)
+    → is_step_within down up (neg_ℤ z) ≡ is_step_within up down z
+unfolding above below
+within-opposite down up z =
+    both_ways (is_step_within down up (neg_ℤ z)) (is_step_within up down z)
+    (λ is. near up down z (back z (far down up (neg_ℤ z) is)))
+    (λ is. near down up (neg_ℤ z) (there z (far up down z is)))
+  where
+    back : (z : ℤ) → IsFar down up (neg_ℤ z) → IsFar up down z
+    back (pos zero) is = record { down_to = is.up_to; up_to = is.down_to }
+    back (pos (suc n)) is = record { down_to = is.up_to; up_to = is.down_to }
+    back (negsuc n) is = record { down_to = is.up_to; up_to = is.down_to }
+
+    there : (z : ℤ) → IsFar up down z → IsFar down up (neg_ℤ z)
+    there (pos zero) is = record { down_to = is.up_to; up_to = is.down_to }
+    there (pos (suc n)) is = record { down_to = is.up_to; up_to = is.down_to }
+    there (negsuc n) is = record { down_to = is.up_to; up_to = is.down_to }
+
+-- ---- of sums, products and quotients
+
+above_difference : (a b : ℕ) → above (cond (ltb a b) (negsuc (b - suc a)) (pos (a - b))) ≤ a
+unfolding above
+above_difference a b =
+    elim (ltb a b) as (λ t. above (cond t (negsuc (b - suc a)) (pos (a - b))) ≤ a) [
+      | true ↦ omega arith
+      | false ↦ omega arith
+    ]
+
+below_difference : (a b : ℕ) → below (cond (ltb a b) (negsuc (b - suc a)) (pos (a - b))) ≤ b
+unfolding below
+below_difference a b =
+    elim (ltb a b) as (λ t. ltb a b ≡ t → below (cond t (negsuc (b - suc a)) (pos (a - b))) ≤ b) [
+      | true ↦ λ is. omega (arith, ltb-true a b is)
+      | false ↦ λ is. omega arith
+    ] refl
+
+above_sum : (a b : ℤ) → above (a +ℤ b) ≤ above a + above b
+unfolding above
+above_sum (pos a) (pos b) = omega arith
+above_sum (pos a) (negsuc b) = omega (arith, above_difference a (suc b))
+above_sum (negsuc a) (pos b) = omega (arith, above_difference b (suc a))
+above_sum (negsuc a) (negsuc b) = omega arith
+
+below_sum : (a b : ℤ) → below (a +ℤ b) ≤ below a + below b
+unfolding below
+below_sum (pos a) (pos b) = omega arith
+below_sum (pos a) (negsuc b) = omega (arith, below_difference a (suc b))
+below_sum (negsuc a) (pos b) = omega (arith, below_difference b (suc a))
+below_sum (negsuc a) (negsuc b) = omega arith
+
+above_negated : (n : ℕ) → above (neg_ℤ (pos n)) ≡ 0
+unfolding above
+above_negated zero = refl
+above_negated (suc n) = refl
+
+below_negated : (n : ℕ) → below (neg_ℤ (pos n)) ≡ n
+unfolding below
+below_negated zero = refl
+below_negated (suc n) = refl
+
+above_product : (a : ℤ) (n : ℕ) → above (a *ℤ pos n) ≤ above a * n
+unfolding above
+above_product (pos a) n = omega arith
+above_product (negsuc a) n = omega (arith, above_negated (suc a * n))
+
+below_product : (a : ℤ) (n : ℕ) → below (a *ℤ pos n) ≤ below a * n
+unfolding below
+below_product (pos a) n = omega arith
+below_product (negsuc a) n = omega (arith, below_negated (suc a * n))
+
+above_quotient : (z : ℤ) (d most : ℕ) → above z ≤ d * most → above (int_div z (pos d)) ≤ most
+unfolding above
+above_quotient (pos n) d most few = div-le_of_le-mul d few
+above_quotient (negsuc n) d most few = omega (arith, above_negated (suc n / d))
+
+below_quotient : (z : ℤ) (d most : ℕ) → below z ≤ d * most → below (int_div z (pos d)) ≤ most
+unfolding below
+below_quotient (pos n) d most few = omega arith
+below_quotient (negsuc n) d most few =
+    subst (λ m. m ≤ most) (sym (below_negated (suc n / d))) (div-le_of_le-mul d few)
+
+-- ---- between two points
+
+weights : (most left passed : ℕ) → most * left + most * passed ≡ (passed + left) * most
+weights most left passed =
+    let turned : most * left + most * passed ≡ most * passed + most * left = omega arith in
+    turned ∙ ap₂ (λ (a b : ℕ). a + b) (mul_comm most passed) (mul_comm most left)
+    ∙ sym (add-mul passed left most)
+
+-- so many frames on the one side and on the other
+weighted_above : (up : ℕ) (a b : ℤ) (left passed : ℕ) → above a ≤ up → above b ≤ up
+    → above ((a *ℤ pos left) +ℤ (b *ℤ pos passed)) ≤ (passed + left) * up
+weighted_above up a b left passed few other =
+    subst (λ m. above ((a *ℤ pos left) +ℤ (b *ℤ pos passed)) ≤ m) (weights up left passed)
+    (omega (
+      arith,
+      above_sum (a *ℤ pos left) (b *ℤ pos passed),
+      above_product a left,
+      above_product b passed,
+      mul-le-mul_right left few,
+      mul-le-mul_right passed other,
+    ))
+
+weighted_below : (down : ℕ) (a b : ℤ) (left passed : ℕ) → below a ≤ down → below b ≤ down
+    → below ((a *ℤ pos left) +ℤ (b *ℤ pos passed)) ≤ (passed + left) * down
+weighted_below down a b left passed few other =
+    subst (λ m. below ((a *ℤ pos left) +ℤ (b *ℤ pos passed)) ≤ m) (weights down left passed)
+    (omega (
+      arith,
+      below_sum (a *ℤ pos left) (b *ℤ pos passed),
+      below_product a left,
+      below_product b passed,
+      mul-le-mul_right left few,
+      mul-le-mul_right passed other,
+    ))
+
+between : (down up : ℕ) (p q : CurvePoint) (frame : ℕ) → IsFar down up p.steps
+    → IsFar down up q.steps → p.frame ≤ frame → frame < q.frame
+    → IsFar down up (steps_between p q frame)
+between down up p q frame first second from to =
+    let left = q.frame - frame in
+    let passed = frame - p.frame in
+    let whole : passed + left ≡ q.frame - p.frame = omega (arith, from, to) in
+    let sum = (p.steps *ℤ pos left) +ℤ (q.steps *ℤ pos passed) in
+    record {
+      down_to = below_quotient sum (q.frame - p.frame) down (subst (λ d. below sum ≤ d * down) whole
+          (weighted_below down p.steps q.steps left passed first.down_to second.down_to));
+      up_to = above_quotient sum (q.frame - p.frame) up (subst (λ d. above sum ≤ d * up) whole
+          (weighted_above up p.steps q.steps left passed first.up_to second.up_to));
+    }
+
+-- ---- of a whole curve
+
+found : {X : Type 0} (P : X → Type 0) (test : X → Bool) (xs : List X) (x : X) → All P xs
+    → find test xs ≡ Some x → (test x ≡ true) × P x
+found P test [] x all is = absurd cc
+found P test (y ∷ ys) x all is =
+    elim (test y) as (λ b. test y ≡ b → cond b (Some y) (find test ys) ≡ Some x
+    → (test x ≡ true) × P x) [
+      | true ↦ λ passes e. let same : y ≡ x = cc in
+          (subst (λ z. test z ≡ true) same passes, subst P same (all 0 y (omega arith)))
+      | false ↦ λ fails e. found P test ys x (λ k d less. all (suc k) d (omega (arith, less))) e
+    ] refl is
+
+all_back : {X : Type 0} (P : X → Type 0) (xs : List X) → All P xs → All P (reverse xs)
+all_back {X} P xs all = λ k d less.
+    let within : k < length xs = omega (arith, less, length-reverse xs) in
+    subst P (sym (get_or-reverse xs k d within)) (all (length xs - 1 - k) d (omega (arith, within)))
+
+none_far : (down up : ℕ) → IsFar down up (pos 0)
+unfolding above below
+none_far down up = record { down_to = omega arith; up_to = omega arith }
+
+-- the steps at a frame are no further up or down than those of all points
+pub steps_within : (down up : ℕ) (points : List CurvePoint)
+    → All (λ p. IsTrue (is_step_within down up p.steps)) points → (frame : ℕ)
+    → is_step_within down up (steps_at points frame) ≡ true
+unfolding steps_at
+steps_within down up points all frame =
+    by_points (last_point_up_to points frame) (first_point_after points frame) refl refl
+  where
+    last : (p : CurvePoint) → last_point_up_to points frame ≡ Some p
+        → (nat_le p.frame frame ≡ true) × (is_step_within down up p.steps ≡ true)
+    last p is = found (λ p. is_step_within down up p.steps ≡ true) (λ p. nat_le p.frame frame)
+        (reverse points) p (all_back (λ p. is_step_within down up p.steps ≡ true) points all) is
+
+    first : (q : CurvePoint) → first_point_after points frame ≡ Some q
+        → (nat_lt frame q.frame ≡ true) × (is_step_within down up q.steps ≡ true)
+    first q is =
+        found (λ p. is_step_within down up p.steps ≡ true)
+        (λ p. nat_lt frame p.frame) points q all is
+
+    by_points : (o r : Option CurvePoint) → last_point_up_to points frame ≡ o
+        → first_point_after points frame ≡ r
+        → is_step_within down up (neighbour_steps o r frame) ≡ true
+    by_points None None e d = near down up (pos 0) (none_far down up)
+    by_points None (Some q) e d = (first q d).1
+    by_points (Some p) None e d = (last p e).1
+    by_points (Some p) (Some q) e d =
+        near down up (steps_between p q frame)
+        (between down up p q frame (far down up p.steps (last p e).1) (far down up q.steps
+        (first q d).1) (leb-true p.frame frame (last p e).0) (ltb-true frame q.frame (first q d).0))
+
+-- a curve of one point has its steps at every frame
+pub steps_of_one : (p : CurvePoint) (frame : ℕ) → steps_at (p ∷ []) frame ≡ p.steps
+unfolding steps_at
+steps_of_one p frame =
+    elim (nat_le p.frame frame) as (λ b. nat_le p.frame frame ≡ b
+    → neighbour_steps (cond b (Some p) None) (cond (nat_lt frame p.frame) (Some p) None) frame
+    ≡ p.steps) [
+      | true ↦ λ is. ap (λ b. neighbour_steps (Some p) (cond b (Some p) None) frame)
+          (le-ltb frame p.frame (leb-true p.frame frame is))
+      | false ↦ λ is. ap (λ b. neighbour_steps None (cond b (Some p) None) frame)
+          (lt-ltb frame p.frame (leb-false p.frame frame is))
+    ] refl

@@ -1,0 +1,282 @@
+-- The slots of a class: which there are, and that
+-- their lengths and areas rise from one to the next.
+use Rattle.std.proofs.Common.{AllPairs, ap, append_assoc, arith, Bool, cond, Contains, eqb, false}
+use Rattle.std.proofs.Common.{get_or, inl, inr, leb, length, length-append, List, lit≤, ltb, map}
+use Rattle.std.proofs.Common.{refl, suc, sym, true, zero, ℕ, [], ◌&&◌, ◌*◌, ◌++◌, ◌+◌, ◌-◌, ◌<◌}
+use Rattle.std.proofs.Common.{◌∙◌, ◌∷◌, ◌≡◌, ◌≤◌}
+use Rattle.std.proofs.lemmas.Bool.{and_parts, cases_lt, leb-true, ltb-true}
+use Rattle.std.proofs.lemmas.List.{get_or-append_right, get_or-map, get_or_append_left, length-map}
+use Rattle.std.proofs.lemmas.List.Kept.{AllPairs-from_increasing}
+use Rattle.frame_header.proofs.BelowLemmas.{all_below, all_below-pass}
+use Rattle.frame_header.proofs.LengthLemmas.{area_some, length-most}
+use Rattle.frame_header.specs.Fields.{ClassFields, IsClass, IsSlot, SlotFields}
+use Rattle.frame_header.specs.Slots.{all_slots, areas_of, largest_slot, slot_of, slots_to}
+use Rattle.frame_header.specs.Tables.{area_of, frequency_of, length_of, overhead_of, rate_of}
+use Rattle.frame_header.specs.Tables.{side_bytes_of, side_size_of, window_of}
+use Rattle.frame_header.specs.declared.version.Version.{Version, TheVariants.{One, Two, TwoFive}}
+use mir.Val.{bool_byte}
+
+-- ---- which slots there are
+-- up to the index 0 there is no slot
+pub slots_to-none : [] ≡ slots_to 0
+unfolding slots_to
+slots_to-none = refl
+
+-- up to the index 14 there are all slots
+pub slots_to-all : slots_to 14 ≡ all_slots
+unfolding all_slots
+slots_to-all = refl
+
+-- one index more adds its two slots
+pub slots_to-more : (i : ℕ) (xs ys zs : List SlotFields) → 1 ≤ i → xs ≡ slots_to (i - 1)
+    → ys ≡ xs ++ slot_of i false ∷ [] → zs ≡ ys ++ slot_of i true ∷ [] → zs ≡ slots_to (i + 1 - 1)
+unfolding slots_to
+slots_to-more zero xs ys zs some ex ey ez = absurd (omega arith)
+slots_to-more (suc n) xs ys zs some ex ey ez =
+    let before : suc n - 1 ≡ n = omega arith in
+    let behind : suc n ≡ suc n + 1 - 1 = omega arith in
+    ez
+    ∙ ap (λ t. t ++ slot_of (suc n) true ∷ [])
+    (ey ∙ ap (λ t. t ++ slot_of (suc n) false ∷ []) (ex ∙ ap slots_to before))
+    ∙ append_assoc (slots_to n) (slot_of (suc n) false ∷ []) (slot_of (suc n) true ∷ [])
+    ∙ ap slots_to behind
+
+length-slots_to : (n : ℕ) → length (slots_to n) ≡ 2 * n
+unfolding slots_to
+length-slots_to zero = refl
+length-slots_to (suc n) = omega (
+  arith,
+  length-append (slots_to n) (slot_of (suc n) false ∷ slot_of (suc n) true ∷ []),
+  length-slots_to n,
+)
+
+-- there are 28 slots
+pub length-all_slots : length all_slots ≡ 28
+unfolding all_slots
+length-all_slots = length-slots_to 14
+
+one_of_two : (n : ℕ) (padding : Bool) (d : SlotFields)
+    → get_or (slot_of n false ∷ slot_of n true ∷ []) (bool_byte padding) d ≡ slot_of n padding
+one_of_two n true d = refl
+one_of_two n false d = refl
+
+byte-most : (padding : Bool) → bool_byte padding ≤ 1
+byte-most true = lit≤ tt
+byte-most false = lit≤ tt
+
+get_or-slots_to : (n i : ℕ) (padding : Bool) (d : SlotFields) → i < n
+    → get_or (slots_to n) (2 * i + bool_byte padding) d ≡ slot_of (suc i) padding
+unfolding slots_to
+get_or-slots_to zero i padding d h = absurd (omega arith)
+get_or-slots_to (suc n) i padding d h =
+    let last : List SlotFields = slot_of (suc n) false ∷ slot_of (suc n) true ∷ [] in
+    let many = length-slots_to n in
+    let byte = byte-most padding in
+    elim (cases_lt i n)
+    as (λ _. get_or (slots_to n ++ last) (2 * i + bool_byte padding) d ≡ slot_of (suc i) padding) [
+      | inl below ↦ get_or_append_left (slots_to n) last d (2 * i + bool_byte padding) (omega arith)
+          ∙ get_or-slots_to n i padding d below
+      | inr at ↦
+          let here : i ≡ n = omega arith in
+          let place : 2 * i + bool_byte padding - 2 * n ≡ bool_byte padding = omega arith in
+          get_or-append_right (slots_to n) last (2 * n) (2 * i + bool_byte padding) d many
+          (omega arith)
+          ∙ ap (λ k. get_or last k d) place
+          ∙ one_of_two (suc n) padding d
+          ∙ ap (λ k. slot_of (suc k) padding) (sym here)
+    ]
+
+-- the place of a slot in the list
+abbrev pub place_of : SlotFields → ℕ
+place_of s = 2 * (s.rate_index - 1) + bool_byte s.padding
+
+-- the place of a slot among them is below 28
+pub place_of-below : (s : SlotFields) → IsSlot s → place_of s < 28
+place_of-below s slot = omega (arith, slot.0, slot.1, byte-most s.padding)
+
+-- the slot at the place of a slot is this slot
+pub get_or-place_of : (s d : SlotFields) → IsSlot s → get_or all_slots (place_of s) d ≡ s
+unfolding all_slots
+get_or-place_of s d slot =
+    let index : suc (s.rate_index - 1) ≡ s.rate_index = omega (arith, slot.0) in
+    get_or-slots_to 14 (s.rate_index - 1) s.padding d (omega (arith, slot.0, slot.1))
+    ∙ ap (λ k. slot_of k s.padding) index
+
+-- each slot is one of the 28
+pub Contains-all_slots : (s : SlotFields) → IsSlot s → Contains all_slots s
+Contains-all_slots s slot =
+    (place_of s, omega (arith, place_of-below s slot, length-all_slots), get_or-place_of s s slot)
+
+-- ---- lengths rise
+abbrev lengths : ClassFields → List ℕ
+lengths c = map (length_of c) all_slots
+
+abbrev rises : List ℕ → Bool
+rises ns = all_below 27 (λ k. ltb (get_or ns k 0) (get_or ns (k + 1) 0))
+
+lengths-rise : (version : Version) (frequency channels : ℕ) → frequency < 3
+    → rises (map (length_of (record {
+      version = version;
+      frequency_index = frequency;
+      channels = channels;
+    })) all_slots) ≡ true
+unfolding all_slots slots_to length_of rate_of frequency_of
+lengths-rise One (suc (suc (suc frequency))) channels h = absurd (omega arith)
+lengths-rise Two (suc (suc (suc frequency))) channels h = absurd (omega arith)
+lengths-rise TwoFive (suc (suc (suc frequency))) channels h = absurd (omega arith)
+lengths-rise _ _ channels h = refl
+
+-- the slot at a place, and its length
+abbrev pub nth_slot : ℕ → SlotFields
+nth_slot i = get_or all_slots i (slot_of 1 false)
+
+are_slots : all_below 28 (λ i. leb 1 (nth_slot i).rate_index && leb (nth_slot i).rate_index 14)
+    ≡ true
+unfolding all_slots slots_to
+are_slots = refl
+
+-- at each of the 28 places is a slot
+pub IsSlot-nth_slot : (i : ℕ) → i < 28 → IsSlot (nth_slot i)
+IsSlot-nth_slot i within =
+    let parts = and_parts _ _ (all_below-pass 28
+    (λ k. leb 1 (nth_slot k).rate_index && leb (nth_slot k).rate_index 14) i are_slots within) in
+    (leb-true 1 _ parts.0, leb-true _ 14 parts.1)
+
+length_rises : (c : ClassFields) (i j : ℕ) → IsClass c → i < j → j < 28
+    → length_of c (nth_slot i) < length_of c (nth_slot j)
+length_rises c i j class before within =
+    let long : length (lengths c) ≡ 28 = length-map all_slots (length_of c) ∙ length-all_slots in
+    let step : (k : ℕ) → k + 1 < length (lengths c)
+    → get_or (lengths c) k 0 < get_or (lengths c) (k + 1) 0 =
+    λ k h. ltb-true _ _
+    (all_below-pass 27 (λ n. ltb (get_or (lengths c) n 0) (get_or (lengths c) (n + 1) 0)) k
+    (lengths-rise c.version c.frequency_index c.channels (omega (arith, class.0))) (omega arith)) in
+    let all = AllPairs-from_increasing (lengths c) step i j 0 before (omega arith) in
+    let at_i : get_or (lengths c) i 0 ≡ length_of c (nth_slot i) =
+    get_or-map (length_of c) all_slots i (slot_of 1 false) 0 (omega (arith, length-all_slots)) in
+    let at_j : get_or (lengths c) j 0 ≡ length_of c (nth_slot j) =
+    get_or-map (length_of c) all_slots j (slot_of 1 false) 0 (omega (arith, length-all_slots)) in
+    omega arith
+
+-- a slot that comes before another has the lesser length, and the lesser area
+pub length-before : (c : ClassFields) (s t : SlotFields) → IsClass c → IsSlot s → IsSlot t
+    → place_of s < place_of t → length_of c s < length_of c t
+length-before c s t class is it before =
+    let rises = length_rises c (place_of s) (place_of t) class before (place_of-below t it) in
+    let first : length_of c (nth_slot (place_of s)) ≡ length_of c s =
+    ap (length_of c) (get_or-place_of s (slot_of 1 false) is) in
+    let second : length_of c (nth_slot (place_of t)) ≡ length_of c t =
+    ap (length_of c) (get_or-place_of t (slot_of 1 false) it) in
+    omega arith
+
+-- the length is what is before the area, and the area
+pub area-is : (c : ClassFields) (s : SlotFields) (protected : Bool) → IsClass c → IsSlot s
+    → (overhead_of c protected + area_of c s protected ≡ length_of c s)
+    × (1 ≤ area_of c s protected)
+unfolding area_of overhead_of
+area-is c s true class slot = let some = area_some c s class slot in (omega arith, omega arith)
+area-is c s false class slot = let some = area_some c s class slot in (omega arith, omega arith)
+
+place-same : (s t : SlotFields) → IsSlot s → IsSlot t → place_of s ≡ place_of t → s ≡ t
+place-same s t is it same =
+    sym (get_or-place_of s s is) ∙ ap (λ k. get_or all_slots k s) same ∙ get_or-place_of t s it
+
+largest : (c : ClassFields) (s : SlotFields) → IsClass c → IsSlot s
+    → length_of c s ≤ length_of c largest_slot
+largest c s class is =
+    elim (cases_lt (place_of s) 27) as (λ _. length_of c s ≤ length_of c largest_slot) [
+      | inl before ↦
+          omega (arith, length-before c s largest_slot class is (lit≤ tt, lit≤ tt) before)
+      | inr at ↦ omega (
+        arith,
+        ap (length_of c)
+            (place-same s largest_slot is (lit≤ tt, lit≤ tt) (omega (arith, place_of-below s is))),
+      )
+    ]
+
+-- the last has the largest area
+pub area-largest : (c : ClassFields) (s : SlotFields) (protected : Bool) → IsClass c → IsSlot s
+    → area_of c s protected ≤ area_of c largest_slot protected
+area-largest c s protected class is =
+    omega (
+      arith,
+      largest c s class is,
+      (area-is c s protected class is).0,
+      (area-is c largest_slot protected class (lit≤ tt, lit≤ tt)).0,
+    )
+
+side-least : (version : Version) (channels : ℕ) → 9 ≤ side_bytes_of version channels
+side-least One channels =
+    elim (eqb channels 1) as (λ b. 9 ≤ cond b 17 32) [ true ↦ lit≤ tt | false ↦ lit≤ tt ]
+side-least _ channels =
+    elim (eqb channels 1) as (λ b. 9 ≤ cond b 9 17) [ true ↦ lit≤ tt | false ↦ lit≤ tt ]
+
+-- no area is larger than 1,428 bytes: the longest
+-- frame less its header and the least side information
+pub area-most : (c : ClassFields) (s : SlotFields) (protected : Bool) → IsClass c → IsSlot s
+    → area_of c s protected ≤ 1428
+unfolding area_of overhead_of side_size_of
+area-most c s true class slot =
+    omega (arith, length-most c s class slot, side-least c.version c.channels)
+area-most c s false class slot =
+    omega (arith, length-most c s class slot, side-least c.version c.channels)
+
+-- a frame of the largest slot has room for the window, a
+-- header and side information, by version and frequency
+spans : (version : Version) (frequency channels : ℕ) → frequency < 3
+    → window_of version + 4 + side_bytes_of version channels ≤ length_of
+    (record { version = version; frequency_index = frequency; channels = channels }) largest_slot
+unfolding length_of rate_of frequency_of
+spans One zero channels h =
+    elim (eqb channels 1) as (λ b. 515 + cond b 17 32 ≤ 1045) [ true ↦ lit≤ tt | false ↦ lit≤ tt ]
+spans One (suc zero) channels h =
+    elim (eqb channels 1) as (λ b. 515 + cond b 17 32 ≤ 961) [ true ↦ lit≤ tt | false ↦ lit≤ tt ]
+spans One (suc (suc zero)) channels h =
+    elim (eqb channels 1) as (λ b. 515 + cond b 17 32 ≤ 1441) [ true ↦ lit≤ tt | false ↦ lit≤ tt ]
+spans Two zero channels h =
+    elim (eqb channels 1) as (λ b. 259 + cond b 9 17 ≤ 523) [ true ↦ lit≤ tt | false ↦ lit≤ tt ]
+spans Two (suc zero) channels h =
+    elim (eqb channels 1) as (λ b. 259 + cond b 9 17 ≤ 481) [ true ↦ lit≤ tt | false ↦ lit≤ tt ]
+spans Two (suc (suc zero)) channels h =
+    elim (eqb channels 1) as (λ b. 259 + cond b 9 17 ≤ 721) [ true ↦ lit≤ tt | false ↦ lit≤ tt ]
+spans TwoFive zero channels h =
+    elim (eqb channels 1) as (λ b. 259 + cond b 9 17 ≤ 1045) [ true ↦ lit≤ tt | false ↦ lit≤ tt ]
+spans TwoFive (suc zero) channels h =
+    elim (eqb channels 1) as (λ b. 259 + cond b 9 17 ≤ 961) [ true ↦ lit≤ tt | false ↦ lit≤ tt ]
+spans TwoFive (suc (suc zero)) channels h =
+    elim (eqb channels 1) as (λ b. 259 + cond b 9 17 ≤ 1441) [ true ↦ lit≤ tt | false ↦ lit≤ tt ]
+spans _ (suc (suc (suc frequency))) channels h = absurd (omega arith)
+
+-- an unprotected frame of the largest slot has room for as many bytes as main_data_begin can count
+pub window-spanned : (c : ClassFields) → IsClass c
+    → window_of c.version ≤ area_of c largest_slot false
+unfolding area_of overhead_of side_size_of
+window-spanned c class =
+    omega (arith, spans c.version c.frequency_index c.channels (omega (arith, class.0)))
+
+-- ---- the areas as a list
+-- there are 28 areas
+pub length-areas_of : (c : ClassFields) (protected : Bool) → length (areas_of c protected) ≡ 28
+unfolding areas_of
+length-areas_of c protected = length-map all_slots (λ s. area_of c s protected) ∙ length-all_slots
+
+-- the areas ascend
+pub areas-ascend : (c : ClassFields) → IsClass c → (protected : Bool)
+    → AllPairs (λ m n. m < n) (areas_of c protected)
+unfolding areas_of
+areas-ascend c class protected i j d before within =
+    let area : SlotFields → ℕ = λ s. area_of c s protected in
+    let below : j < 28 = omega (arith, length-areas_of c protected) in
+    let rises = length_rises c i j class before below in
+    let at_i : get_or (map area all_slots) i d ≡ area_of c (nth_slot i) protected =
+    get_or-map area all_slots i (slot_of 1 false) d (omega (arith, length-all_slots)) in
+    let at_j : get_or (map area all_slots) j d ≡ area_of c (nth_slot j) protected =
+    get_or-map area all_slots j (slot_of 1 false) d (omega (arith, length-all_slots)) in
+    omega (
+      arith,
+      at_i,
+      at_j,
+      rises,
+      (area-is c (nth_slot i) protected class (IsSlot-nth_slot i (omega arith))).0,
+      (area-is c (nth_slot j) protected class (IsSlot-nth_slot j below)).0,
+    )

@@ -1,0 +1,285 @@
+-- Laws of frames that wait.
+use Rattle.std.proofs.Common.{ap, append-nil, append_assoc, ap₂, arith, Bool, cond, drop, eqb, Err}
+use Rattle.std.proofs.Common.{false, inl, inr, IsOk, length, length-append, List, lit≤, min}
+use Rattle.std.proofs.Common.{mul-suc, Ok, OnOk, refl, Result, slice_get, Some, subst, sym, take}
+use Rattle.std.proofs.Common.{true, unwrap_or, ℕ, [], ◌*◌, ◌++◌, ◌+◌, ◌<◌, ◌↔◌, ◌∙◌, ◌∷◌, ◌≡◌, ◌≤◌}
+use Rattle.std.proofs.{Common.◌⊎◌, Math.{Nat.{min-eq_left, min-eq_right}, Seq.take-length}}
+use Rattle.std.proofs.lemmas.Bool.{cases_lt, false≢true}
+use Rattle.std.proofs.lemmas.List.{drop-append-le, length-drop, map-append, take-append-le}
+use Rattle.circular_buffer.specs.Buffer.{Buffer, buffer}
+use Rattle.frame_header.proofs.HeaderLemmas.{IsClass-class_of}
+use Rattle.frame_header.proofs.LengthLemmas.{least_length, length-least}
+use Rattle.frame_header.proofs.SlotLemmas.{area-is, area-most}
+use Rattle.frame_header.specs.Fields.{ClassFields, IsClass, IsHeader, IsSlot, SlotFields}
+use Rattle.frame_header.specs.Tables.{area_of, class_of, overhead_of, side_bytes_of, side_size_of}
+use Rattle.frame_header.specs.{Tables.window_of, declared.version.Version.Version}
+use Rattle.frame_header.specs.declared.version.Version.TheVariants.{One, Two, TwoFive}
+use Rattle.frame_writer.proofs.LaidLemmas.{laid-later}
+use Rattle.frame_writer.specs.Frames.{all_frame_data, areas_length, AreFieldsOfClass}
+use Rattle.frame_writer.specs.Frames.{AreFramesWritten, bytes_of_frames, fields_of_frames}
+use Rattle.frame_writer.specs.Frames.{first_bytes, Frame, frame_area, frame_data, framed_bytes}
+use Rattle.frame_writer.specs.Frames.{held_bytes, IsNextSettled, WaitingFrames}
+use Rattle.frame_writer.specs.Laid.{AreAreasLaid, BeginsWithin, FrameData, laid_data, WaitingAreas}
+use Rattle.frame_writer.specs.{Laws.{FewFramesWait, HasFrameRoom, LaidSteps}, Writing.IsNewQueue}
+use Rattle.side_info.specs.{Frame.frame_front_bytes, FrameFields.FrameFields, Side.SideFits}
+
+-- ---- areas cut off one after another
+
+-- frames and others are framed one after the other
+pub framed-more : (ks js : List FrameFields) (xs ys : List ℕ) → length xs ≡ areas_length ks
+    → framed_bytes (ks ++ js) (xs ++ ys) ≡ framed_bytes ks xs ++ framed_bytes js ys
+framed-more [] js [] ys long = refl
+framed-more [] js (x ∷ xs) ys long = absurd (omega (arith, long))
+framed-more (k ∷ ks) js xs ys long =
+    let n = frame_area k in
+    let front = frame_front_bytes k.header k.side in
+    let within : n ≤ length xs = omega (arith, long) in
+    let rest : length (drop n xs) ≡ areas_length ks = omega (arith, length-drop n xs, long) in
+    ap₂ (λ (ps qs : List ℕ). front ++ (ps ++ framed_bytes (ks ++ js) qs))
+    (take-append-le n xs ys within)
+    (drop-append-le n xs ys within)
+    ∙ ap (λ (qs : List ℕ). front ++ (take n xs ++ qs)) (framed-more ks js (drop n xs) ys rest)
+    ∙ ap (λ (qs : List ℕ). front ++ qs)
+    (sym (append_assoc (take n xs) (framed_bytes ks (drop n xs)) (framed_bytes js ys)))
+    ∙ sym (append_assoc front (take n xs ++ framed_bytes ks (drop n xs)) (framed_bytes js ys))
+
+areas_in-more : (xs : List FrameFields) (k : FrameFields)
+    → areas_length (xs ++ k ∷ []) ≡ areas_length xs + frame_area k
+areas_in-more [] k = omega arith
+areas_in-more (x ∷ xs) k = omega (arith, areas_in-more xs k)
+
+-- what was taken, and then what waits, are the bytes of all frames that were given
+pub laid-steps : LaidSteps
+laid-steps taken held fs are =
+    ap (λ (xs : List ℕ). xs ++ held_bytes held) are.bytes
+    ∙ sym (framed-more are.done held.kept are.given held.waiting.bytes are.long)
+    ∙ ap₂ framed_bytes are.all are.laid.same
+
+-- no frame was given
+pub none-written : (c : ClassFields) → AreAreasLaid [] (record { bytes = []; free = 0 }) []
+    → AreFramesWritten []
+    (record { class = c; kept = []; waiting = record { bytes = []; free = 0 } }) []
+none-written c are =
+    record { done = []; given = []; all = refl; long = refl; laid = are; bytes = refl }
+
+-- a queue in which nothing waits is new
+pub none-new : (c : ClassFields) → AreAreasLaid [] (record { bytes = []; free = 0 }) []
+    → IsNewQueue c (record { class = c; kept = []; waiting = record { bytes = []; free = 0 } })
+none-new c are = record {
+  class_is = refl;
+  none = refl;
+  free = refl;
+  written = none-written c are;
+  unsettled =
+      λ next. omega (arith, next.some);
+}
+
+-- a frame that is given is one more of those taken and waiting
+pub more-written : (taken : List ℕ) (c : ClassFields) (kept : List FrameFields)
+    (waiting more : WaitingAreas) (fs : List Frame) (f : Frame) →
+    ((given : List ℕ) (ps : List FrameData) → AreAreasLaid given waiting ps
+    → AreAreasLaid given more (ps ++ frame_data f ∷ [])) →
+    AreFramesWritten taken (record { class = c; kept = kept; waiting = waiting }) fs →
+    AreFramesWritten taken (record { class = c; kept = kept ++ f.kept ∷ []; waiting = more })
+    (fs ++ f ∷ [])
+more-written taken c kept waiting more fs f step are = record {
+  done = are.done;
+  given = are.given;
+  all = sym (append_assoc are.done kept (f.kept ∷ []))
+      ∙ ap (λ (ks : List FrameFields). ks ++ f.kept ∷ []) are.all
+      ∙ sym (map-append (λ (g : Frame). g.kept) fs (f ∷ []));
+  long = are.long;
+  laid = subst (AreAreasLaid are.given more) (sym (map-append frame_data fs (f ∷ [])))
+      (step are.given (all_frame_data fs) are.laid);
+  bytes = are.bytes;
+}
+
+-- when the first frame is taken the bytes of all frames stay the same
+pub first-written : (taken area_bytes : List ℕ) (c : ClassFields) (k : FrameFields)
+    (ks : List FrameFields) (waiting less : WaitingAreas) (fs : List Frame) →
+    length area_bytes ≡ frame_area k →
+    ((given : List ℕ) (ps : List FrameData) → AreAreasLaid given waiting ps
+    → AreAreasLaid (given ++ area_bytes) less ps) →
+    AreFramesWritten taken (record { class = c; kept = k ∷ ks; waiting = waiting }) fs →
+    AreFramesWritten (taken ++ (frame_front_bytes k.header k.side ++ area_bytes))
+    (record { class = c; kept = ks; waiting = less }) fs
+first-written taken area_bytes c k ks waiting less fs long step are =
+    let cut : frame_front_bytes k.header k.side ++ area_bytes ≡ framed_bytes (k ∷ []) area_bytes =
+    ap (λ (xs : List ℕ). frame_front_bytes k.header k.side ++ xs)
+    (sym (append-nil area_bytes) ∙ ap (λ (xs : List ℕ). xs ++ [])
+    (sym (take-length area_bytes) ∙ ap (λ n. take n area_bytes) long)) in
+    record {
+      done = are.done ++ k ∷ [];
+      given = are.given ++ area_bytes;
+      all = append_assoc are.done (k ∷ []) ks ∙ are.all;
+      long = omega
+          (arith, length-append are.given area_bytes, are.long, long, areas_in-more are.done k);
+      laid = step are.given (all_frame_data fs) are.laid;
+      bytes = ap₂ (λ (xs ys : List ℕ). xs ++ ys) are.bytes cut
+          ∙ sym (framed-more are.done (k ∷ []) are.given area_bytes are.long);
+    }
+
+-- whatever frames follow, what was taken stays, where the first of them begins within what is free
+pub later-frames : (taken : List ℕ) (held : WaitingFrames) (fs more : List Frame)
+    → AreFramesWritten taken held fs → BeginsWithin held.waiting.free (all_frame_data more)
+    → (rest : List ℕ) × (bytes_of_frames (fs ++ more) ≡ taken ++ rest)
+later-frames taken held fs more are within =
+    let found =
+    laid-later are.given held.waiting (all_frame_data fs) (all_frame_data more) are.laid within in
+    let all : fields_of_frames (fs ++ more) ≡ are.done ++ (held.kept ++ fields_of_frames more) =
+    map-append (λ (f : Frame). f.kept) fs more
+    ∙ ap (λ (ks : List FrameFields). ks ++ fields_of_frames more)
+    (sym are.all) ∙ append_assoc are.done held.kept (fields_of_frames more) in (
+      framed_bytes (held.kept ++ fields_of_frames more) found.0,
+      ap₂ framed_bytes all (ap laid_data (map-append frame_data fs more) ∙ found.1)
+          ∙ framed-more are.done (held.kept ++ fields_of_frames more) are.given found.0 are.long
+          ∙ ap (λ (xs : List ℕ). xs ++ framed_bytes (held.kept ++ fields_of_frames more) found.0)
+          (sym are.bytes),
+    )
+
+-- ---- frames in their queue
+
+-- frames of a class and one more of it are of the class
+pub AreOf-more : (c : ClassFields) (ks : List FrameFields) (k : FrameFields) → AreFieldsOfClass c ks
+    → IsHeader k.header → class_of k.header ≡ c → SideFits c k.side
+    → AreFieldsOfClass c (ks ++ k ∷ [])
+AreOf-more c [] k are is same fits = (is, same, fits, tt)
+AreOf-more c (j ∷ ks) k are is same fits =
+    (are.0, are.1, are.2, AreOf-more c ks k are.3 is same fits)
+
+-- areas that are as long as bytes are so with one more and its bytes
+pub areas_in-pushed : (ks : List FrameFields) (k : FrameFields) (bytes more : List ℕ)
+    → areas_length ks ≡ length bytes → length more ≡ length bytes + frame_area k →
+    areas_length (ks ++ k ∷ []) ≡ length more
+areas_in-pushed ks k bytes more same long = omega (arith, areas_in-more ks k, same, long)
+
+-- a frame that is added where there is room is the last of the queue
+pub pushed-kept : {R : Type 0} (old new : Buffer FrameFields) (k : FrameFields)
+    (r : Result R FrameFields) → old.capacity ≡ 256 → length old.items < 256
+    → (IsOk r ↔ (length old.items < old.capacity)) →
+    OnOk r (new ≡ buffer (old.items ++ k ∷ []) old.capacity)
+    → (new.capacity ≡ 256) × (new.items ≡ old.items ++ k ∷ [])
+pushed-kept old new k (Ok x) many few when is = (
+  ap (λ (b : Buffer FrameFields). b.capacity) is ∙ many,
+  ap (λ (b : Buffer FrameFields). b.items) is,
+)
+pushed-kept old new k (Err e) many few when is =
+    absurd (false≢true (when.1 (omega (arith, many, few))))
+
+-- a queue with frames has a first one, and the others behind it
+pub first-kept : (ks : List FrameFields) (k : FrameFields) → 0 < length ks → slice_get ks 0 ≡ Some k
+    → ks ≡ k ∷ drop 1 ks
+first-kept [] k some is = absurd (omega (arith, some))
+first-kept (j ∷ ks) k some is = ap (λ (i : FrameFields). i ∷ ks) (ap (λ o. unwrap_or o j) is)
+
+-- ---- the bytes of a frame
+
+-- how long the area of a frame is
+pub area-range : (k : FrameFields) → IsHeader k.header → (1 ≤ frame_area k) × (frame_area k ≤ 1441)
+area-range k is =
+    let class = IsClass-class_of k.header is in (
+      (area-is (class_of k.header) k.header.slot k.header.protected class is.slot).1,
+      omega (arith, area-most (class_of k.header) k.header.slot k.header.protected class is.slot),
+    )
+
+-- framed bytes are those of the first frame, and those of the frames after it
+pub first-framed : (k : FrameFields) (ks : List FrameFields) (bytes : List ℕ)
+    → first_bytes k bytes ++ framed_bytes ks (drop (frame_area k) bytes)
+    ≡ framed_bytes (k ∷ ks) bytes
+first-framed k ks bytes =
+    append_assoc (frame_front_bytes k.header k.side) (take (frame_area k) bytes)
+    (framed_bytes ks (drop (frame_area k) bytes))
+
+-- ---- how many can wait
+
+-- a bound below the areas of all frames of a version, in bytes
+abbrev pub least_of : Version → ℕ
+least_of One = 3
+least_of Two = 1
+least_of TwoFive = 1
+
+-- the shortest frames have such areas, also with a check word
+least_room : (version : Version) (channels : ℕ)
+    → least_of version + 6 + side_bytes_of version channels ≤ least_length version
+least_room One channels =
+    elim (eqb channels 1) as (λ b. 9 + cond b 17 32 ≤ 96) [ true ↦ lit≤ tt | false ↦ lit≤ tt ]
+least_room Two channels =
+    elim (eqb channels 1) as (λ b. 7 + cond b 9 17 ≤ 24) [ true ↦ lit≤ tt | false ↦ lit≤ tt ]
+least_room TwoFive channels =
+    elim (eqb channels 1) as (λ b. 7 + cond b 9 17 ≤ 48) [ true ↦ lit≤ tt | false ↦ lit≤ tt ]
+
+area-least : (c : ClassFields) (s : SlotFields) (protected : Bool) → IsClass c → IsSlot s
+    → least_of c.version ≤ area_of c s protected
+unfolding area_of overhead_of side_size_of
+area-least c s true class is =
+    omega (arith, length-least c s class is, least_room c.version c.channels)
+area-least c s false class is =
+    omega (arith, length-least c s class is, least_room c.version c.channels)
+
+kept-least : (c : ClassFields) (k : FrameFields) → IsClass c → IsHeader k.header
+    → class_of k.header ≡ c → least_of c.version ≤ frame_area k
+kept-least c k class is same =
+    subst (λ d. least_of c.version ≤ area_of d k.header.slot k.header.protected) (sym same)
+    (area-least c k.header.slot k.header.protected class is.slot)
+
+many : (c : ClassFields) (m : ℕ) (ks : List FrameFields) → IsClass c → AreFieldsOfClass c ks
+    → m ≡ least_of c.version → m * length ks ≤ areas_length ks
+many c m [] class are is = omega arith
+many c m (k ∷ ks) class are is =
+    omega
+    (arith, mul-suc m (length ks), many c m ks class are.3 is, kept-least c k class are.0 are.1, is)
+
+-- if so few bytes of areas are after the first frame, so few frames are
+few_behind : (version : Version) (n bytes : ℕ) → least_of version * n ≤ bytes
+    → bytes < window_of version → n + 1 < 256
+few_behind One n bytes all behind = omega (arith, all, behind)
+few_behind Two n bytes all behind = omega (arith, all, behind)
+few_behind TwoFive n bytes all behind = omega (arith, all, behind)
+
+window-most : (version : Version) → window_of version ≤ 511
+window-most One = lit≤ tt
+window-most Two = lit≤ tt
+window-most TwoFive = lit≤ tt
+
+least_left : (m n : ℕ) → (n < m) ⊎ (m ≤ n) → min m n ≤ m
+least_left m n (inl less) = let le : n ≤ m = omega (arith, less) in
+    let is : min m n ≡ n = min-eq_right le in omega (arith, is, le)
+least_left m n (inr more) = let is : min m n ≡ m = min-eq_left more in omega (arith, is)
+
+have_room : (c : ClassFields) (kept : List FrameFields) (waiting : WaitingAreas)
+    → AreFieldsOfClass c kept → areas_length kept ≡ length waiting.bytes →
+    (IsNextSettled (record { class = c; kept = kept; waiting = waiting }) → ⊥)
+    → HasFrameRoom (record { class = c; kept = kept; waiting = waiting })
+have_room c [] waiting are same unsettled = record { few = lit≤ tt; room = omega (arith, same) }
+have_room c (k ∷ ks) waiting are same unsettled =
+    let class : IsClass c = subst IsClass are.1 (IsClass-class_of k.header are.0) in
+    let held : WaitingFrames = record { class = c; kept = k ∷ ks; waiting = waiting } in
+    let behind : areas_length ks < window_of c.version =
+    elim (cases_lt (areas_length ks) (window_of c.version))
+    as (λ _. areas_length ks < window_of c.version) [
+      | inl less ↦ less
+      | inr more ↦ absurd (unsettled (record {
+        some = omega arith;
+        behind = omega (
+          arith,
+          same,
+          more,
+          least_left (window_of c.version)
+              waiting.free (cases_lt waiting.free (window_of c.version)),
+        );
+      }))
+    ] in
+    let first : frame_area k ≤ 1428 = subst (λ d. area_of d k.header.slot k.header.protected ≤ 1428)
+    (sym are.1) (area-most c k.header.slot k.header.protected class are.0.slot) in
+    record {
+      few = omega (
+        arith,
+        few_behind c.version (length ks) (areas_length ks)
+            (many c (least_of c.version) ks class are.3 refl) behind,
+      );
+      room = omega (arith, same, first, behind, window-most c.version);
+    }
+
+-- while later main data can reach the area of the first frame that waits, one more has room
+pub few-wait : FewFramesWait
+few-wait held are same unsettled = have_room held.class held.kept held.waiting are same unsettled

@@ -1,0 +1,282 @@
+-- Laws of frames on their way to a file.
+use Rattle.std.proofs.Common.{ap, append-nil, append_assoc, ap₂, arith, drop, Err, length}
+use Rattle.std.proofs.Common.{length-append, List, Ok, OnErr, OnOk, refl, Result, subst, sym, take}
+use Rattle.std.proofs.Common.{ℕ, [], ◌++◌, ◌∙◌, ◌∷◌, ◌≡◌, ◌≤◌}
+use Rattle.std.proofs.lemmas.List.{append_cancel_right, length-take-le, nil_from_length}
+use Rattle.std.proofs.lemmas.List.{take-append-le}
+use Rattle.frame_header.specs.Fields.{ClassFields}
+use Rattle.frame_writer.proofs.FrameLemmas.{first-framed, first-written}
+use Rattle.frame_writer.specs.Frames.{AreFramesWritten, first_bytes, Frame, frame_area}
+use Rattle.frame_writer.specs.Frames.{framed_bytes, held_bytes, IsNextSettled, WaitingFrames}
+use Rattle.frame_writer.specs.{Laid.{AreAreasLaid, FrameData, WaitingAreas}, Writer.IsWriterSettled}
+use Rattle.frame_writer.specs.Writing.{AcceptsFrame, AreBytesBehind, ForwardsBytes, ForwardsFrames}
+use Rattle.frame_writer.specs.Writing.{ForwardsPart, waiting_bytes, WritesPart, Writing, writing_of}
+use Rattle.frame_writer.specs.declared.writer.State.{State}
+use Rattle.outside.proofs.BufferOutputLemmas.{passed_more, passed_more_prefix, passed_then_prefix}
+use Rattle.outside.proofs.{BufferOutputLemmas.passed_with, FilesLemmas.appended_twice}
+use Rattle.outside.specs.BufferOutput.{AppendedPrefix, AppendsWaiting}
+use Rattle.outside.specs.Files.{Files, with_appended_bytes}
+use Rattle.side_info.specs.FrameFields.{FrameFields}
+
+-- ---- facts of an answer
+
+-- what follows from a fact of an answer without error holds of it
+pub ok-map : {T E P Q : Type 0} (r : Result T E) → (P → Q) → OnOk r P → OnOk r Q
+ok-map (Ok x) f p = f p
+ok-map (Err e) f p = tt
+
+-- what follows from a fact of an error holds of it
+pub err-map : {T E P Q : Type 0} (r : Result T E) → (P → Q) → OnErr r P → OnErr r Q
+err-map (Ok x) f p = tt
+err-map (Err e) f p = f p
+
+-- what follows from two facts of an answer holds of it
+pub ok-both : {T E P Q R : Type 0} (r : Result T E) → (P → Q → R) → OnOk r P → OnOk r Q → OnOk r R
+ok-both (Ok x) f p q = f p q
+ok-both (Err e) f p q = tt
+
+-- ---- one frame handed on
+
+-- a prefix of what waits and some bytes is one of what waits and more of them
+pub prefix-piece : (name unsent piece before after : List ℕ) (f g : Files) → piece ++ after ≡ before
+    →
+    AppendedPrefix name (unsent ++ piece) f g → AppendedPrefix name (unsent ++ before) f g
+prefix-piece name unsent piece before after f g is p =
+    let all : (unsent ++ piece) ++ after ≡ unsent ++ before =
+    append_assoc unsent piece after ∙ ap (λ (xs : List ℕ). unsent ++ xs) is in
+    record {
+      count = p.count;
+      short = omega (arith, p.short, ap length all, length-append (unsent ++ piece) after);
+      files = p.files
+          ∙ ap (with_appended_bytes f name) (sym (take-append-le p.count (unsent ++ piece) after
+          (omega (arith, p.short))) ∙ ap (take p.count) all);
+    }
+
+-- nothing was handed on yet
+pub handed-none : (held : WaitingFrames) → ForwardsFrames held held
+handed-none held = record {
+  moved = [];
+  bytes = refl;
+  class = refl;
+  written =
+      λ taken fs are. subst (λ (xs : List ℕ). AreFramesWritten xs held fs)
+      (sym (append-nil taken)) are;
+}
+
+-- what was handed on in two steps was handed on
+pub handed-then : {old mid new : WaitingFrames} → ForwardsFrames old mid → ForwardsFrames mid new
+    → ForwardsFrames old new
+handed-then {old} {mid} {new} p q = record {
+  moved = p.moved ++ q.moved;
+  bytes = append_assoc p.moved q.moved (held_bytes new)
+      ∙ ap (λ (xs : List ℕ). p.moved ++ xs) q.bytes ∙ p.bytes;
+  class = q.class ∙ p.class;
+  written = λ taken fs are.
+      subst (λ (xs : List ℕ). AreFramesWritten xs new fs) (append_assoc taken p.moved q.moved)
+      (q.written (taken ++ p.moved) fs (p.written taken fs are));
+}
+
+-- the first frame was taken
+pub first-handed : (old : WaitingFrames) (c : ClassFields) (k : FrameFields)
+    (ks left : List FrameFields)
+    (waiting less : WaitingAreas) → record { class = c; kept = ks; waiting = waiting } ≡ old
+    → ks ≡ k ∷ drop 1 ks → left ≡ drop 1 ks →
+    less.bytes ≡ drop (frame_area k) waiting.bytes →
+    ((given : List ℕ) (ps : List FrameData) → AreAreasLaid given waiting ps
+    → AreAreasLaid (given ++ take (frame_area k) waiting.bytes) less ps)
+    → frame_area k ≤ length waiting.bytes
+    →
+    ForwardsFrames old (record { class = c; kept = left; waiting = less })
+first-handed old c k ks left waiting less view is rest drops step within = record {
+  moved = first_bytes k waiting.bytes;
+  bytes =
+      ap₂ (λ (js : List FrameFields) (xs : List ℕ). first_bytes k waiting.bytes
+      ++ framed_bytes js xs)
+      rest drops
+      ∙ first-framed k (drop 1 ks) waiting.bytes
+      ∙ ap (λ (js : List FrameFields). framed_bytes js waiting.bytes) (sym is)
+      ∙ ap held_bytes view;
+  class = ap (λ (h : WaitingFrames). h.class) view;
+  written = λ taken fs are.
+      subst (λ (js : List FrameFields). AreFramesWritten (taken ++ first_bytes k waiting.bytes)
+      (record { class = c; kept = js; waiting = less }) fs) (sym rest)
+      (first-written taken (take (frame_area k) waiting.bytes) c k (drop 1 ks) waiting less fs
+      (length-take-le (frame_area k) waiting.bytes within) step
+      (subst (λ (js : List FrameFields). AreFramesWritten taken
+      (record { class = c; kept = js; waiting = waiting }) fs) is
+      (subst (λ (h : WaitingFrames). AreFramesWritten taken h fs) (sym view) are)));
+}
+
+-- the first frame was taken, and a prefix of it was written
+pub first-part : (name unsent : List ℕ) (old : WaitingFrames) (c : ClassFields) (k : FrameFields)
+    (ks left : List FrameFields) (waiting less : WaitingAreas) (f g : Files)
+    → record { class = c; kept = ks; waiting = waiting } ≡ old →
+    ks ≡ k ∷ drop 1 ks → left ≡ drop 1 ks → less.bytes ≡ drop (frame_area k) waiting.bytes →
+    ((given : List ℕ) (ps : List FrameData) → AreAreasLaid given waiting ps
+    → AreAreasLaid (given ++ take (frame_area k) waiting.bytes) less ps)
+    → frame_area k ≤ length waiting.bytes
+    →
+    AppendedPrefix name (unsent ++ first_bytes k waiting.bytes) f g → ForwardsPart name
+    (writing_of old unsent) (record { class = c; kept = left; waiting = less }) f g
+unfolding first-handed
+first-part name unsent old c k ks left waiting less f g view is rest drops step within prefix =
+    record {
+      on = first-handed old c k ks left waiting less view is rest drops step within;
+      prefix = prefix;
+    }
+
+-- what was there before, and after it what is taken
+pub behind-more : {base bytes : List ℕ} {old new : WaitingFrames} {fs : List Frame}
+    → (h : ForwardsFrames old new) → AreBytesBehind base bytes old fs
+    → AreBytesBehind base (bytes ++ h.moved) new fs
+behind-more {base} {bytes} {old} {new} {fs} h are = record {
+  taken = are.taken ++ h.moved;
+  is = ap (λ (xs : List ℕ). xs ++ h.moved) are.is ∙ append_assoc base are.taken h.moved;
+  written = h.written are.taken fs are.written;
+}
+
+-- what was passed on, and what waits in the buffer, are
+-- the bytes before and those of the frames that were taken
+passed-same : (name unsent : List ℕ) (mid : WaitingFrames) (new : Writing) (f g : Files)
+    (p : AppendsWaiting name (unsent ++ held_bytes mid) (waiting_bytes new) f g)
+    (h : ForwardsFrames mid new.held) → unsent ++ h.moved ≡ p.passed ++ new.unsent
+passed-same name unsent mid new f g p h =
+    append_cancel_right (unsent ++ h.moved) (p.passed ++ new.unsent) (held_bytes new.held)
+    (append_assoc unsent h.moved (held_bytes new.held)
+    ∙ ap (λ (xs : List ℕ). unsent ++ xs) h.bytes
+    ∙ p.split
+    ∙ sym (append_assoc p.passed new.unsent (held_bytes new.held)))
+
+-- once the frame waits after the others, the bytes before the file are the same
+module _ (name : List ℕ) (f : Frame) (old : Writing) (mid : WaitingFrames) where
+  abbrev Waits : Type 0
+  Waits = (taken : List ℕ) (fs : List Frame) → AreFramesWritten taken old.held fs
+      → AreFramesWritten taken mid (fs ++ f ∷ [])
+
+  behind-frame : {base bytes : List ℕ} {fs : List Frame} → Waits
+      → AreBytesBehind base bytes old.held fs → AreBytesBehind base bytes mid (fs ++ f ∷ [])
+  behind-frame {base} {bytes} {fs} waits are =
+      record { taken = are.taken; is = are.is; written = waits are.taken fs are.written }
+
+  -- the writer goes on
+  pub writes-on : (new : Writing) (before after : Files) → Waits
+      → ForwardsBytes name (writing_of mid old.unsent) new before after
+      → ForwardsFrames mid new.held → AcceptsFrame name f old new before after
+  writes-on new before after waits p h =
+      let same = passed-same name old.unsent mid new before after p h in
+      record {
+        passed = p.passed;
+        files = p.files;
+        writer = λ base out fs are.
+            subst
+            (λ (xs : List ℕ). AreBytesBehind base xs new.held (fs ++ f ∷ []))
+            (append_assoc out old.unsent h.moved ∙ ap (λ (xs : List ℕ). out ++ xs) same
+            ∙ sym (append_assoc out p.passed new.unsent))
+            (behind-more h (behind-frame waits are));
+      }
+
+  -- a write fails
+  pub writes-part : (held : WaitingFrames) (before after : Files) → Waits
+      → ForwardsPart name (writing_of mid old.unsent) held before after
+      → WritesPart name f old held before after
+  writes-part held before after waits part = record {
+    settled = old.unsent ++ part.on.moved;
+    prefix = part.prefix;
+    writer = λ base out fs are.
+        subst (λ (xs : List ℕ). AreBytesBehind base xs held (fs ++ f ∷ []))
+        (append_assoc out old.unsent part.on.moved) (behind-more part.on (behind-frame waits are));
+  }
+
+-- after frames that were handed on
+pub part-then : (name : List ℕ) (old mid : Writing) (held : WaitingFrames) (f g h : Files)
+    → ForwardsBytes name old mid f g → ForwardsFrames old.held mid.held
+    → ForwardsPart name mid held g h → ForwardsPart name old held f h
+unfolding handed-then
+part-then name old mid held f g h passed on part =
+    let same = passed-same name old.unsent old.held mid f g passed on in
+    let moved = part.on.moved in
+    let all : AppendsWaiting name (old.unsent ++ on.moved) mid.unsent f g =
+    record { passed = passed.passed; split = same; files = passed.files } in
+    record {
+      on = handed-then on part.on;
+      prefix = subst (λ (xs : List ℕ). AppendedPrefix name xs f h)
+          (append_assoc old.unsent on.moved moved)
+          (passed_then_prefix (passed_with moved all) part.prefix);
+    }
+
+-- if no frame waits, all that waits is in the buffer
+pub none-left : (held : WaitingFrames) (unsent : List ℕ) → length held.kept ≡ 0
+    → waiting_bytes (writing_of held unsent) ≡ unsent
+none-left held unsent none =
+    ap (λ (ks : List FrameFields). unsent ++ framed_bytes ks held.waiting.bytes)
+    (nil_from_length held.kept none) ∙ append-nil unsent
+
+-- first some bytes were passed on, and then others
+pub passed-two : {name mid after : List ℕ} {f g h : Files} (before a b c : List ℕ) → a ++ b ≡ c
+    → AppendsWaiting name (before ++ a) mid f g → AppendsWaiting name (mid ++ b) after g h
+    → AppendsWaiting name (before ++ c) after f h
+passed-two {name} {mid} {after} {f} {g} {h} before a b c is p q =
+    subst (λ (xs : List ℕ). AppendsWaiting name xs after f h)
+    (append_assoc before a b ∙ ap (λ (xs : List ℕ). before ++ xs) is) (passed_more b p q)
+
+-- a piece that went on, and then a prefix of the next, are a prefix of both
+pub prefix-two : {name mid : List ℕ} {f g h : Files} (before a b c : List ℕ) → a ++ b ≡ c
+    → AppendsWaiting name (before ++ a) mid f g → AppendedPrefix name (mid ++ b) g h
+    → AppendedPrefix name (before ++ c) f h
+prefix-two {name} {mid} {f} {g} {h} before a b c is p q =
+    subst (λ (xs : List ℕ). AppendedPrefix name xs f h)
+    (append_assoc before a b ∙ ap (λ (xs : List ℕ). before ++ xs) is) (passed_more_prefix b p q)
+
+-- ---- what waits in the buffer is written too
+
+module _ {name bytes : List ℕ} {f g h : Files} (new : Writing)
+    (p : AppendsWaiting name bytes (waiting_bytes new) f g) where
+  -- the bytes that were passed on into the buffer, and then all of it
+  pub passed-sent : h ≡ with_appended_bytes g name new.unsent
+      → AppendsWaiting name bytes (held_bytes new.held) f h
+  passed-sent all = record {
+    passed = p.passed ++ new.unsent;
+    split = p.split ∙ sym (append_assoc p.passed new.unsent (held_bytes new.held));
+    files = all ∙ ap (λ files. with_appended_bytes files name new.unsent) p.files
+        ∙ appended_twice f name p.passed new.unsent;
+  }
+
+  -- a prefix of what waits in the buffer is one of all that waits
+  pub unsent-prefix : AppendedPrefix name new.unsent g h → AppendedPrefix name bytes f h
+  unsent-prefix part =
+      passed_then_prefix p
+      (prefix-piece name [] new.unsent (waiting_bytes new) (held_bytes new.held) g h refl part)
+
+module _ {name : List ℕ} {fr : Frame} {old : Writing} {f g h : Files} (new : Writing)
+    (on : AcceptsFrame name fr old new f g) where
+  -- a frame was given, and then the buffer was written
+  pub writes-sent : h ≡ with_appended_bytes g name new.unsent
+      → AcceptsFrame name fr old (writing_of new.held []) f h
+  writes-sent all = record {
+    passed = on.passed ++ new.unsent;
+    files = all ∙ ap (λ files. with_appended_bytes files name new.unsent) on.files
+        ∙ appended_twice f name on.passed new.unsent;
+    writer = λ base out fs are.
+        subst (λ (xs : List ℕ). AreBytesBehind base xs new.held (fs ++ fr ∷ []))
+        (append_assoc out on.passed new.unsent
+        ∙ sym (append-nil (out ++ (on.passed ++ new.unsent))))
+        (on.writer base out fs are);
+  }
+
+  -- if the buffer couldn't be written, a part of the frames was
+  pub writes-unsent : AppendedPrefix name new.unsent g h → WritesPart name fr old new.held f h
+  writes-unsent part = record {
+    settled = on.passed ++ new.unsent;
+    prefix =
+        passed_then_prefix (record { passed = on.passed; split = refl; files = on.files }) part;
+    writer = λ base out fs are.
+        subst (λ (xs : List ℕ). AreBytesBehind base xs new.held (fs ++ fr ∷ []))
+        (append_assoc out on.passed new.unsent)
+        (on.writer base out fs are);
+  }
+
+-- in an open writer nothing waits in the buffer, and the first frame can't go yet
+pub is-open : (state : State) (held : WaitingFrames) (unsent : List ℕ)
+    → IsWriterSettled state held unsent → state ≡ State.Open →
+    (unsent ≡ []) × (IsNextSettled held → ⊥)
+is-open state held unsent is opened = subst (λ s. IsWriterSettled s held unsent) opened is

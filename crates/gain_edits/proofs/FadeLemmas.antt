@@ -1,0 +1,292 @@
+-- What a sheet changes, and its faults as those of the command.
+use Rattle.std.proofs.Common.{ap, arith, Bool, Err, inl, inr, List, None, Ok, Option, refl, Result}
+use Rattle.std.proofs.Common.{Some, subst, sym, true, ℕ, ◌∙◌, ◌≡◌}
+use Rattle.std.specs.Prelude.{IfErr, IfSome, length, MatchResult, ◌⊎◌}
+use Rattle.bit_fields.specs.Bits.{AreBytes}
+use Rattle.commands.proofs.InputLemmas.{input_is_early, made-survey}
+use Rattle.commands.proofs.NamedLemmas.{lost_name, missed_name, unread_name}
+use Rattle.commands.proofs.{RefusingLemmas.{then_all, unless_all}, SheetLemmas.sheet-all}
+use Rattle.commands.proofs.WhyLemmas.{each_why, each_why_of}
+use Rattle.commands.specs.AfterCall.{HasInputNumbers, IsEditRefusal, IsNotBefore, why_of}
+use Rattle.commands.specs.{Refusing.{refusal_or, then_made}, Sheet.sheet_in}
+use Rattle.commands.specs.SingleOutput.{file_task, HasTaskNumbers, input_result, IsEarlyFault}
+use Rattle.commands.specs.SingleOutput.{IsInputFault, IsMaking, Making, most_frames, TaskRefuses}
+use Rattle.commands.specs.declared.fault.EditFault.{EditFault, TheVariants.{Input, Memory, Refused}}
+use Rattle.commands.specs.declared.fault.Refusal.{Refusal, TheVariants.Differ}
+use Rattle.fade_plan.specs.{Curves.{curve_of, CurvePoint}, Sheets.{envelope_of, EnvelopePoint}}
+use Rattle.fade_plan.specs.declared.envelope_fault.EnvelopeFault.{EnvelopeFault, TheVariants.Line}
+use Rattle.gain_edits.proofs.{ProperLemmas.changed_all, RefusalLemmas.range_may}
+use Rattle.gain_edits.specs.Change.{change_making, changed_or_fault}
+use Rattle.gain_edits.specs.Fade.{choice_refuses, curve_change, curve_result, fade_change}
+use Rattle.gain_edits.specs.Fade.{fade_refuses, fade_task, faded_stream, input_sheet_change}
+use Rattle.gain_edits.specs.Fade.{points_curve, points_in, points_result, sheet_change, sheet_curve}
+use Rattle.gain_edits.specs.{Fade.steps_change, GainRange.range_fault}
+use Rattle.gain_edits.specs.Steps.{HasChangeNumbers, IsChangeFault}
+use Rattle.moved_gains.specs.Change.{change_in, file_with_change, FileChange}
+use Rattle.moved_gains.specs.{Course.steps_at_offset, declared.change.Change.Change as CodeChange}
+use Rattle.moved_gains.specs.declared.course.Course.TheVariants.{Along}
+use Rattle.outside.proofs.FilesLemmas.{there_holds}
+use Rattle.outside.specs.Files.{Contents, Files, Holds, IfTold, IsFileThere, Told, Untold}
+use Rattle.outside.specs.Seen.{Seen}
+use Rattle.requests.specs.declared.shift.Steps.{Steps}
+use Rattle.sync_survey.{proofs.SurveyedFileLemmas.survey_of-parts, specs.Faults.SurveyFields}
+use Rattle.sync_survey.specs.Survey.{survey_of}
+use Rattle.sync_survey.specs.declared.survey_fault.SurveyFault.TheVariants.{Absent, Read}
+
+-- ---- the change
+
+-- a gain that would leave its range refuses the fade
+pub along_refused : (steps : ℕ → Steps) (s : SurveyFields) (refusal : Refusal) (fault : EditFault)
+    → range_fault steps s.frames ≡ Some refusal → fault ≡ Refused refusal
+    → IsEditRefusal choice_refuses fault × (steps_change steps s ≡ Err fault)
+along_refused steps s refusal fault first is =
+    let may : choice_refuses refusal ≡ true =
+    subst (λ o. IfSome o (λ r. choice_refuses r ≡ true)) first
+    (range_may choice_refuses (λ offset granule channel gain. refl) steps s.frames) in (
+      subst (IsEditRefusal choice_refuses) (sym is) may,
+      ap (λ (o : Option Refusal). refusal_or o (record { steps = steps; tag = None })) first
+          ∙ ap (λ f. Err f) (sym is),
+    )
+
+-- a fault of the curve is one of the fade
+pub curve_fault : (sheet : List ℕ) (back : Bool) (s : SurveyFields) (fault : EditFault)
+    → (fault ≡ Memory) ⊎ (IsEditRefusal choice_refuses fault × (sheet_curve s sheet ≡ Err fault))
+    → (fault ≡ Memory)
+    ⊎ (IsEditRefusal choice_refuses fault × (sheet_change sheet back s ≡ Err fault))
+unfolding sheet_change
+curve_fault sheet back s fault (inl memory) = inl memory
+curve_fault sheet back s fault (inr is) =
+    inr (is.0, ap (λ r. then_made r (curve_change back s)) is.1)
+
+-- with a curve, the fade is the one along it
+pub fade_in-curve : (sheet : List ℕ) (back : Bool) (s : SurveyFields) (curve : List CurvePoint)
+    → sheet_curve s sheet ≡ Ok curve → sheet_change sheet back s ≡ curve_change back s curve
+unfolding sheet_change
+fade_in-curve sheet back s curve is = ap (λ r. then_made r (curve_change back s)) is
+
+-- so its answer is that of the change along the curve
+pub along_answer : (sheet : List ℕ) (back : Bool) (s : SurveyFields) (curve : List CurvePoint)
+    → sheet_curve s sheet ≡ Ok curve → (r : Result CodeChange EditFault)
+    → MatchResult r (λ change. steps_change (steps_at_offset (Along curve back) s.frames) s
+    ≡ Ok (change_in change s)) (λ fault. IsEditRefusal choice_refuses fault
+    × (steps_change (steps_at_offset (Along curve back) s.frames) s ≡ Err fault))
+    → MatchResult r (λ change. sheet_change sheet back s ≡ Ok (change_in change s)) (λ fault.
+    (fault ≡ Memory)
+    ⊎ (IsEditRefusal choice_refuses fault × (sheet_change sheet back s ≡ Err fault)))
+along_answer sheet back s curve is (Ok change) made = fade_in-curve sheet back s curve is ∙ made
+along_answer sheet back s curve is (Err fault) refused =
+    inr (refused.0, fade_in-curve sheet back s curve is ∙ refused.1)
+
+-- ---- none comes before the sheet is read
+
+choice_before : (refusal : Refusal) → choice_refuses refusal ≡ true
+    → IsNotBefore (Input 1 Read) (Refused refusal)
+choice_before (Differ at) may = absurd cc
+choice_before _ may = tt
+
+points_before : (r : Result (List EnvelopePoint) EnvelopeFault)
+    → IfErr (points_result r) (IsNotBefore (Input 1 Read))
+points_before (Ok points) = tt
+points_before (Err (Line line)) = tt
+points_before (Err _) = tt
+
+curve_before : (r : Result (List CurvePoint) ℕ)
+    → IfErr (curve_result r) (IsNotBefore (Input 1 Read))
+curve_before (Ok curve) = tt
+curve_before (Err line) = tt
+
+range_before : (o : Option Refusal) → IfSome o (λ r. choice_refuses r ≡ true)
+    → IfSome o (λ r. IsNotBefore (Input 1 Read) (Refused r))
+range_before None may = tt
+range_before (Some refusal) may = choice_before refusal may
+
+in_before : (bytes : List ℕ) (back : Bool) (s : SurveyFields)
+    → IfErr (sheet_change bytes back s) (IsNotBefore (Input 1 Read))
+unfolding sheet_change
+in_before bytes back s =
+    then_all (IsNotBefore (Input 1 Read)) (sheet_curve s bytes) (curve_change back s)
+    (then_all (IsNotBefore (Input 1 Read)) (points_in bytes) (points_curve s) (points_before
+    (envelope_of bytes)) (λ points. curve_before (curve_of s.class (length s.frames) points)))
+    (λ curve. unless_all (IsNotBefore (Input 1 Read)) _ _
+    (range_before _ (range_may choice_refuses (λ offset granule channel gain. refl) _ s.frames)))
+
+fade_of-before : (sheet : Option (List ℕ)) (back : Bool) (s : SurveyFields)
+    → IfErr (input_sheet_change sheet back s) (IsNotBefore (Input 1 Read))
+fade_of-before sheet back s =
+    then_all (IsNotBefore (Input 1 Read)) (sheet_in sheet) (λ bytes. sheet_change bytes back s)
+    (sheet-all (IsNotBefore (Input 1 Read)) (omega arith) (λ size. tt) sheet)
+    (λ bytes. in_before bytes back s)
+
+-- ---- as faults of the command
+
+-- a fault of the input has the numbers of the fade's inputs
+pub input_numbers : (sheet : List ℕ) (back : Bool) (input : List ℕ) (fault : EditFault)
+    → HasInputNumbers fade_refuses fault → HasTaskNumbers (fade_task sheet back input) fault
+input_numbers sheet back input (Input place fault) h = (omega (arith, h.0), h.1, h.2, inl h.0)
+input_numbers sheet back input (Refused refusal) h = h
+input_numbers sheet back input Memory h = tt
+input_numbers sheet back input _ h = absurd h
+
+-- so has a fault of the change
+pub change_numbers : (sheet : List ℕ) (back : Bool) (input : List ℕ) (fault : EditFault)
+    → HasChangeNumbers fault → HasTaskNumbers (fade_task sheet back input) fault
+change_numbers sheet back input (Input place fault) h =
+    (omega (arith, h.0), h.1, h.2, inr (inr h.3))
+change_numbers sheet back input (Refused refusal) h = h
+change_numbers sheet back input Memory h = tt
+change_numbers sheet back input _ h = absurd h
+
+module _ (sheet : List ℕ) (back : Bool) (input : List ℕ) where
+  -- what the command makes of its input, by the sheet that these files hold
+  abbrev pub making_in : Files → Making
+  making_in (Untold touched) = change_making (fade_change None back)
+  making_in (Told f) = change_making (fade_change (f sheet) back)
+
+  refuses_same : (files : Files) (fault : EditFault)
+      → TaskRefuses (file_task (making_in files) (faded_stream None back) fade_refuses input) files
+      fault → TaskRefuses (fade_task sheet back input) files fault
+  refuses_same (Untold touched) fault h = tt
+  refuses_same (Told f) fault h = h
+
+  before_same : (files : Files) (P : EditFault → Type 0) → IfTold files (λ f.
+      IfErr ((file_task (making_in files) (faded_stream None back) fade_refuses input).makes f) P)
+      → IfTold files (λ f. IfErr ((fade_task sheet back input).makes f) P)
+  before_same (Untold touched) P is = tt
+  before_same (Told f) P is = is
+
+  module _ (old new : Seen) (fault : EditFault) where
+    -- a fault of the input comes before the output is created
+    pub input_early : IsInputFault (making_in old.files) input old new fault
+        → IsEarlyFault (fade_task sheet back input) old new fault
+    input_early h = each_why_of (why_of fault) h (input_is_early (making_in old.files)
+        (faded_stream None back) fade_refuses input old new fault h) (record {
+          rejected =
+              λ i e. record { defined = refuses_same old.files fault e.defined; stays = e.stays };
+          missing = λ i e. record {
+            defined = refuses_same old.files fault e.defined;
+            rose = missed_name (fade_task sheet back input).inputs 0 refl i;
+            files = e.files;
+          };
+          unread = λ i e. record {
+            before = before_same old.files (IsNotBefore fault) e.before;
+            rose = unread_name (fade_task sheet back input).inputs 0 refl i;
+            files = e.files;
+          };
+          shorter = λ i e. record {
+            ended = lost_name (fade_task sheet back input).inputs 0 refl i;
+            files = e.files;
+          };
+          unwritten = λ k i e. absurd e;
+          unsent = λ i e. absurd e;
+          no_memory = λ i e. e;
+        })
+
+  -- the input was surveyed
+  module _ (s : SurveyFields) where
+    makes_by : (f : Contents) (bytes : List ℕ) → f input ≡ Some bytes
+        → survey_of bytes most_frames ≡ Ok s → (fade_task sheet back input).makes f
+        ≡ changed_or_fault bytes s (input_sheet_change (f sheet) back s)
+    makes_by f bytes held is = ap (input_result (change_making (fade_change (f sheet) back))) held
+        ∙ made-survey (change_making (fade_change (f sheet) back)) bytes s is
+
+    refuses_by : (files : Files) (fault : EditFault) → IsFileThere files input
+        → ((bytes : List ℕ) → Holds files input bytes → survey_of bytes most_frames ≡ Ok s)
+        → IfTold files (λ f. input_sheet_change (f sheet) back s ≡ Err fault)
+        → TaskRefuses (fade_task sheet back input) files fault
+    refuses_by (Untold touched) fault there is refused = tt
+    refuses_by (Told f) fault there is refused =
+        let held = there_holds f input there in
+        makes_by f held.0 held.1 (is held.0 held.1) ∙ ap (changed_or_fault held.0 s) refused
+
+    -- the sheet could not be read
+    sheet_before : (files : Files) (fault : EditFault) → IsFileThere files input
+        → ((bytes : List ℕ) → Holds files input bytes → survey_of bytes most_frames ≡ Ok s)
+        → fault ≡ Input 1 Read
+        → IfTold files (λ f. IfErr ((fade_task sheet back input).makes f) (IsNotBefore fault))
+    sheet_before (Untold touched) fault there is unread = tt
+    sheet_before (Told f) fault there is unread =
+        let held = there_holds f input there in
+        subst (λ e. IfErr ((fade_task sheet back input).makes f) (IsNotBefore e)) (sym unread)
+        (subst (λ r. IfErr r (IsNotBefore (Input 1 Read)))
+        (sym (makes_by f held.0 held.1 (is held.0 held.1))) (changed_all (IsNotBefore
+        (Input 1 Read)) held.0 s (input_sheet_change (f sheet) back s)
+        (fade_of-before (f sheet) back s)))
+
+    with_sheet : (files : Files) (r : Result FileChange EditFault) → IsFileThere files sheet
+        → ((bytes : List ℕ) → Holds files sheet bytes → input_sheet_change (Some bytes) back s ≡ r)
+        → IfTold files (λ f. input_sheet_change (f sheet) back s ≡ r)
+    with_sheet (Untold touched) r there are = tt
+    with_sheet (Told f) r there are = let held = there_holds f sheet there in
+        ap (λ o. input_sheet_change o back s) held.1 ∙ are held.0 held.1
+
+    without_sheet : (files : Files) (fault : EditFault) → IfTold files (λ f. f sheet ≡ None) → fault
+        ≡ Input 1 Absent → IfTold files (λ f. input_sheet_change (f sheet) back s ≡ Err fault)
+    without_sheet (Untold touched) fault missing is = tt
+    without_sheet (Told f) fault missing is =
+        ap (λ o. input_sheet_change o back s) missing ∙ ap (λ e. Err e) (sym is)
+
+    module _ (old new : Seen) (there : IsFileThere old.files input) (surveyed : (bytes : List ℕ)
+        → Holds old.files input bytes → survey_of bytes most_frames ≡ Ok s) where
+      -- so does a fault of the change
+      pub change_early : (fault : EditFault) → IsChangeFault sheet back s old new fault
+          → IsEarlyFault (fade_task sheet back input) old new fault
+      change_early fault h = each_why (why_of fault) h (record {
+        rejected = λ r. record {
+          defined = refuses_by old.files fault there surveyed
+              (with_sheet old.files (Err fault) r.there r.bytes);
+          stays = r.stays;
+        };
+        missing = λ m. record {
+          defined = refuses_by old.files fault there surveyed
+              (without_sheet old.files fault m.missing m.is);
+          rose = missed_name (fade_task sheet back input).inputs 1 refl m;
+          files = m.files;
+        };
+        unread = λ u. record {
+          before = sheet_before old.files fault there surveyed u.is;
+          rose = unread_name (fade_task sheet back input).inputs 1 refl u;
+          files = u.files;
+        };
+        shorter = λ l. record {
+          ended = lost_name (fade_task sheet back input).inputs 1 refl l;
+          files = l.files;
+        };
+        unwritten = λ k w. absurd w;
+        unsent = λ w. absurd w;
+        no_memory = λ same. record {
+          there = there;
+          few = λ bytes holds. (survey_of-parts bytes most_frames s (surveyed bytes holds)).0;
+          stays = same;
+        };
+      })
+
+      -- after the survey, by which nothing changed
+      pub change_early_behind : (fault : EditFault) (mid : Seen) → mid ≡ old
+          → IsChangeFault sheet back s mid new fault
+          → IsEarlyFault (fade_task sheet back input) old new fault
+      change_early_behind fault mid stays h =
+          change_early fault (subst (λ (m : Seen). IsChangeFault sheet back s m new fault) stays h)
+
+    -- a fade that isn't refused makes the faded file
+    pub fade_makes : (files : Files) (change : FileChange) → IsFileThere files input
+        → ((bytes : List ℕ) → Holds files input bytes → survey_of bytes most_frames ≡ Ok s)
+        → ((bytes : List ℕ) → Holds files input bytes → AreBytes bytes) → IsFileThere files sheet
+        → ((bytes : List ℕ) → Holds files sheet bytes
+        → input_sheet_change (Some bytes) back s ≡ Ok change)
+        → IsMaking (fade_task sheet back input) (λ file. file_with_change change file s) files
+    fade_makes files change there is octets sheet_there are = record {
+      there = there;
+      makes = at files is octets (with_sheet files (Ok change) sheet_there are);
+    }
+      where
+        at : (files : Files)
+            → ((bytes : List ℕ) → Holds files input bytes → survey_of bytes most_frames ≡ Ok s)
+            → ((bytes : List ℕ) → Holds files input bytes → AreBytes bytes)
+            → IfTold files (λ f. input_sheet_change (f sheet) back s ≡ Ok change)
+            → IfTold files (λ f. (bytes : List ℕ) → f input ≡ Some bytes → AreBytes bytes
+            × ((fade_task sheet back input).makes f ≡ Ok (file_with_change change bytes s)))
+        at (Untold touched) is octets made = tt
+        at (Told f) is octets made = λ bytes holds. (
+          octets bytes holds,
+          makes_by f bytes holds (is bytes holds) ∙ ap (changed_or_fault bytes s) made,
+        )

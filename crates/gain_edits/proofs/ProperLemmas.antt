@@ -1,0 +1,381 @@
+-- What a command makes of a file: it is well-formed, its stream is that of the
+-- file with each gain moved, and the one body has what it asks of the command.
+use Rattle.std.proofs.Common.{ap, arith, cond, Err, false, inl, inr, length, List, map, None, Ok}
+use Rattle.std.proofs.Common.{Option, refl, Result, Some, subst, sym, true, ℕ, [], ◌+◌, ◌==◌, ◌∙◌}
+use Rattle.std.{proofs.Common.{◌∷◌, ◌≡◌}, specs.{List.enumerate_from, Prelude.{IfErr, IfSome}}}
+use Rattle.bit_fields.specs.Bits.{AreBytes}
+use Rattle.commands.proofs.InputLemmas.{file_makes, file_proper, IsProperMaking}
+use Rattle.commands.{proofs.RefusingLemmas.{then_ok, unless_ok}, specs.AfterCall.IsLateFault}
+use Rattle.commands.specs.Refusing.{or_else, then_made}
+use Rattle.commands.specs.SingleOutput.{IsMaking, IsProperTask, made_file, most_frames}
+use Rattle.commands.specs.{SingleOutput.surveyed_result, declared.fault.EditFault.EditFault}
+use Rattle.gain_edits.proofs.RefusalLemmas.{change_late}
+use Rattle.gain_edits.specs.Change.{change_making, change_result, changed_or_fault, Changing}
+use Rattle.gain_edits.specs.Change.{moved_file_stream}
+use Rattle.gain_edits.specs.Changes.{changing_of, refuses_of_changes, steps_of_changes}
+use Rattle.gain_edits.specs.{Changes.task_of_changes, Channels.channel_fault}
+use Rattle.gain_edits.specs.{Gain.{gain_change, noted_change, tagged_change}, GainRange.range_fault}
+use Rattle.gain_edits.specs.Undo.{file_undo, surveyed_undo_steps, undo_change, undo_result_steps}
+use Rattle.gain_edits.specs.Undo.{undone_change}
+use Rattle.gain_edits.specs.UndoItem.{bytes_unless_empty, found_undo, next_undo, noted_undo}
+use Rattle.gain_edits.specs.UndoItem.{output_fault, size_fault, tag_result, tag_with_undo}
+use Rattle.gain_edits.specs.UndoItem.{tag_without_undo, undo_fault, undo_steps}
+use Rattle.gain_edits.specs.declared.changes.Changes.{Changes, TheVariants.{Move, Undo as UndoAll}}
+use Rattle.moved_gains.proofs.{EditedSurveyLemmas.surveyed-edited, MovedStreamLemmas.stream-edited}
+use Rattle.moved_gains.proofs.NewTagLemmas.{own-tag}
+use Rattle.moved_gains.proofs.RetaggedFileLemmas.{stream-retagged, surveyed-retagged}
+use Rattle.moved_gains.proofs.TagReadingLemmas.{file_tag-none}
+use Rattle.moved_gains.specs.Change.{file_with_change, FileChange, retagged_file}
+use Rattle.moved_gains.specs.{Course.constant_steps, Edited.edited_file}
+use Rattle.moved_gains.specs.Streams.{edited_survey, IsStreamMoved, moved_stream_frame}
+use Rattle.moved_gains.specs.Streams.{moved_stream_of}
+use Rattle.moved_gains.specs.TagPlace.{IsTagBytes, retagged_fields, tag_block, tag_offset}
+use Rattle.moved_gains.specs.TagReading.{empty_tag, file_tag}
+use Rattle.moved_gains.specs.declared.tag_fault.FileTagFault.{FileTagFault}
+use Rattle.outside.specs.Files.{Files, Holds, IsFileThere}
+use Rattle.requests.specs.{Shifts.steps_of, declared.shift.{Shift.Shift, Steps.Steps}}
+use Rattle.sync_survey.proofs.SurveyPartsLemmas.{surveyed-allowed}
+use Rattle.sync_survey.proofs.SurveyedFileLemmas.{survey_of-parts}
+use Rattle.sync_survey.specs.Faults.{HoldsStream, stream_of, stream_of_survey, survey_fields}
+use Rattle.sync_survey.specs.Faults.{surveyed_stream, SurveyFields}
+use Rattle.sync_survey.specs.MainData.{main_bytes, stream_frame, stream_frames, StreamFrame}
+use Rattle.sync_survey.specs.{Row.Row, Survey.survey_of, declared.places.{Head.Head, Piece.Piece}}
+use Rattle.tag_blocks.proofs.TagsLemmas.{block_front-tag_bytes}
+use Rattle.tag_blocks.proofs.UndoItemsLemmas.{IsTag-with_undo, IsTag-without_undo}
+use Rattle.tag_blocks.specs.{Tags.{IsTag, tag_bytes, TagFields}, UndoItems.undo_from}
+use Rattle.tag_blocks.specs.declared.undo.Undo.{Undo}
+
+IsTag-empty : IsTag empty_tag
+IsTag-empty = record {
+  items = refl;
+  one = omega arith;
+  others = omega arith;
+  own = omega arith;
+  header_bits = refl;
+  footer_bits = refl;
+  header_number = refl;
+  footer_number = refl;
+}
+
+abbrev ok_tag : TagFields → Result TagFields FileTagFault
+ok_tag tag = Ok tag
+
+-- tags are the same where the answers are
+pub same_tag : (a b : TagFields) → ok_tag a ≡ ok_tag b → a ≡ b
+same_tag a b e = cc
+
+-- the tag that is read of a surveyed file is a tag
+pub file_tag-is : (file : List ℕ) (allowed : ℕ) (s : SurveyFields) (tag : TagFields) → AreBytes file
+    → survey_fields file allowed ≡ Ok s → file_tag file s ≡ Ok tag → IsTag tag
+file_tag-is file allowed s tag all is e = at (tag_block s) refl
+  where
+    at : (o : Option Piece) → tag_block s ≡ o → IsTag tag
+    at None none =
+        subst IsTag (same_tag empty_tag tag (sym (file_tag-none file s none) ∙ e)) IsTag-empty
+    at (Some b) some = ((own-tag file allowed s is).tag tag b all some e).0
+
+-- ---- what is made of a file
+
+-- the change of a file with this survey, and the new file
+pub record IsMadeBy (of : Changing) (file new : List ℕ) (s : SurveyFields) : Type 0 where
+  pub change : FileChange
+  pub made : of file s ≡ Ok change
+  pub bytes : file_with_change change file s ≡ new
+
+-- a file that was changed has a change, by which it was made
+pub made_cases : (of : Changing) (file new : List ℕ) (s : SurveyFields)
+    (r : Result FileChange EditFault) → of file s ≡ r → changed_or_fault file s r ≡ Ok new
+    → IsMadeBy of file new s
+made_cases of file new s (Err fault) made e = absurd cc
+made_cases of file new s (Ok change) made e = record { change = change; made = made; bytes = cc }
+
+-- the same by its survey
+pub made_of : (of : Changing) (file new : List ℕ) (s : SurveyFields)
+    → survey_of file most_frames ≡ Ok s → change_result of file ≡ Ok new → IsMadeBy of file new s
+unfolding made_file
+made_of of file new s is e =
+    made_cases of file new s (of file s) refl
+    (ap (surveyed_result (change_making of) file) (sym is) ∙ e)
+
+-- a change of a surveyed file makes the changed file
+pub changed-ok : (of : Changing) (file : List ℕ) (s : SurveyFields) (change : FileChange)
+    → survey_of file most_frames ≡ Ok s → of file s ≡ Ok change
+    → change_result of file ≡ Ok (file_with_change change file s)
+unfolding made_file
+changed-ok of file s change is made =
+    ap (surveyed_result (change_making of) file) is ∙ ap (changed_or_fault file s) made
+
+-- ---- the stream
+
+-- the survey of the changed file
+abbrev pub survey_with : Option (List ℕ) → SurveyFields → SurveyFields
+survey_with None s = s
+survey_with (Some tag) s = retagged_fields (length tag) s
+
+abbrev pub changed_survey : FileChange → SurveyFields → SurveyFields
+changed_survey change s = survey_with change.tag (edited_survey change.steps s)
+
+no_junk : (steps : ℕ → Steps) (s : SurveyFields)
+    → (edited_survey steps s).junk ≡ (edited_survey steps s).first
+unfolding edited_survey
+no_junk steps s = refl
+
+module _ (file : List ℕ) (allowed : ℕ) (s : SurveyFields) (all : AreBytes file)
+    (is : survey_fields file allowed ≡ Ok s) where
+  edited_is : (steps : ℕ → Steps)
+      → survey_fields (edited_file steps file s) allowed ≡ Ok (edited_survey steps s)
+  edited_is steps = surveyed-edited steps file allowed s all is
+
+  tagged_is : (steps : ℕ → Steps) (o : Option (List ℕ)) → IfSome o IsTagBytes
+      → survey_fields (retagged_file o (edited_survey steps s) (edited_file steps file s)) allowed
+      ≡ Ok (survey_with o (edited_survey steps s))
+  tagged_is steps None tags = edited_is steps
+  tagged_is steps (Some tag) tags = surveyed-retagged (edited_file steps file s) tag allowed
+      (edited_survey steps s) (edited_is steps) (no_junk steps s) tags
+
+  -- the changed file has the survey of the file, changed
+  pub surveyed-changed : (change : FileChange) → IfSome change.tag IsTagBytes
+      → survey_fields (file_with_change change file s) allowed ≡ Ok (changed_survey change s)
+  unfolding file_with_change
+  surveyed-changed change tags = tagged_is change.steps change.tag tags
+
+  stream_is : (steps : ℕ → Steps) (o : Option (List ℕ)) → IfSome o IsTagBytes
+      → stream_of_survey (retagged_file o (edited_survey steps s) (edited_file steps file s))
+      (survey_with o (edited_survey steps s)) ≡ moved_stream_of steps file s
+  stream_is steps None tags = stream-edited steps file allowed s all is
+  stream_is steps (Some tag) tags =
+      stream-retagged (edited_file steps file s) tag allowed (edited_survey steps s)
+      (edited_is steps)
+      (no_junk steps s) tags ∙ stream-edited steps file allowed s all is
+
+  -- and its stream is that of the file with its gains moved
+  pub stream-changed : (change : FileChange) → IfSome change.tag IsTagBytes
+      → stream_of_survey (file_with_change change file s) (changed_survey change s)
+      ≡ moved_stream_of change.steps file s
+  unfolding file_with_change
+  stream-changed change tags = stream_is change.steps change.tag tags
+
+  changed-moved : (change : FileChange) → IfSome change.tag IsTagBytes
+      → IsStreamMoved change.steps file (file_with_change change file s)
+  changed-moved change tags =
+      let new = file_with_change change file s in
+      record {
+        before = (s, surveyed-allowed file allowed (length file + 1) s (omega arith) is);
+        after = (
+          changed_survey change s,
+          surveyed-allowed new allowed (length new + 1) (changed_survey change s) (omega arith)
+              (surveyed-changed change tags),
+        );
+        stream = stream-changed change tags;
+      }
+
+-- what a command makes of a file is well-formed as the file
+-- is, and its stream is that of the file with each gain moved
+pub changed-stream : (of : Changing) (file new : List ℕ) (s : SurveyFields)
+    (c : IsMadeBy of file new s) → AreBytes file → survey_of file most_frames ≡ Ok s
+    → IfSome c.change.tag IsTagBytes → IsStreamMoved c.change.steps file new
+changed-stream of file new s c all is tags = subst (IsStreamMoved c.change.steps file) c.bytes
+    (changed-moved file most_frames s all (survey_of-parts file most_frames s is).1 c.change tags)
+
+-- the stream of a file is that of its survey
+pub stream_of-survey : (file : List ℕ) (s : SurveyFields)
+    → survey_fields file (length file + 1) ≡ Ok s → stream_of file ≡ stream_of_survey file s
+unfolding stream_of
+stream_of-survey file s is = ap (surveyed_stream file) is
+
+each_even : (steps : Steps) (main : List ℕ) (o : Option Head) (rows : List Row)
+    (more : List (ℕ × Row))
+    → map (λ (p : ℕ × Row). moved_stream_frame steps (stream_frame main o rows p.0 p.1)) more
+    ≡ map (moved_stream_frame steps) (map (λ (p : ℕ × Row). stream_frame main o rows p.0 p.1) more)
+each_even steps main o rows [] = refl
+each_even steps main o rows (p ∷ more) =
+    ap (λ (l : List StreamFrame). moved_stream_frame steps (stream_frame main o rows p.0 p.1) ∷ l)
+    (each_even steps main o rows more)
+
+-- where all frames have the same steps
+pub even_stream : (steps : Steps) (file : List ℕ) (s : SurveyFields)
+    → moved_stream_of (constant_steps steps) file s
+    ≡ map (moved_stream_frame steps) (stream_of_survey file s)
+unfolding moved_stream_of stream_of_survey stream_frames
+even_stream steps file s =
+    each_even steps (main_bytes file s.head s.frames) s.head s.frames (enumerate_from 0 s.frames)
+
+-- as a stream that it holds
+pub holds_moved : (steps : ℕ → Steps) (file new : List ℕ) (h : IsStreamMoved steps file new)
+    → HoldsStream new (moved_stream_of steps file h.before.0)
+holds_moved steps file new h = record {
+  well_formed = h.after;
+  stream_is = stream_of-survey new h.after.0 h.after.1 ∙ h.stream;
+}
+
+-- a file whose stream is moved holds the moved stream
+pub moved_holds : (steps : Steps) (file new : List ℕ)
+    → IsStreamMoved (constant_steps steps) file new
+    → HoldsStream new (map (moved_stream_frame steps) (stream_of file))
+moved_holds steps file new h =
+    subst (HoldsStream new) (even_stream steps file h.before.0 ∙ ap (map (moved_stream_frame steps))
+    (sym (stream_of-survey file h.before.0 h.before.1)))
+    (holds_moved (constant_steps steps) file new h)
+
+-- ---- what is made
+
+-- the change was noted in this tag, whose undo item said this before
+pub record IsNoted (shift : Shift) (file : List ℕ) (s : SurveyFields)
+    (change : FileChange) : Type 0 where
+  pub tag : TagFields
+  pub undo : Undo
+  pub read : tag_result (file_tag file s) ≡ Ok tag
+  pub item : noted_undo (tag_offset s) (undo_from 32 tag.items) ≡ Ok undo
+  pub free : or_else (channel_fault shift s) (or_else (undo_fault (next_undo shift undo))
+      (or_else (size_fault (tag_bytes (tag_with_undo (next_undo shift undo) tag)))
+      (or_else (output_fault s (tag_bytes (tag_with_undo (next_undo shift undo) tag)))
+      (range_fault (constant_steps (steps_of shift)) s.frames)))) ≡ None
+  pub is : record {
+    steps = constant_steps (steps_of shift);
+    tag = Some (tag_bytes (tag_with_undo (next_undo shift undo) tag));
+  } ≡ change
+
+-- a noted change that isn't refused has a tag, in which its undo is noted
+pub tagged-parts : (shift : Shift) (file : List ℕ) (s : SurveyFields) (change : FileChange)
+    → tagged_change shift file s ≡ Ok change → IsNoted shift file s change
+tagged-parts shift file s change e =
+    let one = then_ok (tag_result (file_tag file s)) _ change e in
+    let two = then_ok (noted_undo (tag_offset s) (undo_from 32 one.0.items))
+    (noted_change shift s one.0) change one.2 in
+    let three = unless_ok _ _ change two.2 in
+    record { tag = one.0; undo = two.0; read = one.1; item = two.1; free = three.0; is = three.1 }
+
+-- the tag, the undo in it, and the change by that undo, by which no gain leaves its range
+pub record IsUndone (file : List ℕ) (s : SurveyFields) (change : FileChange) : Type 0 where
+  pub tag : TagFields
+  pub undo : Undo
+  pub read : tag_result (file_tag file s) ≡ Ok tag
+  pub item : found_undo (tag_offset s) (undo_from 32 tag.items) ≡ Ok undo
+  pub free : range_fault (constant_steps (undo_steps undo)) s.frames ≡ None
+  pub is : record {
+    steps = constant_steps (undo_steps undo);
+    tag = Some (bytes_unless_empty (tag_without_undo tag));
+  } ≡ change
+
+-- an undo that isn't refused has these parts
+pub undone-parts : (file : List ℕ) (s : SurveyFields) (change : FileChange)
+    → undo_change file s ≡ Ok change → IsUndone file s change
+unfolding undo_change
+undone-parts file s change e =
+    let one = then_ok (tag_result (file_tag file s)) _ change e in
+    let two = then_ok (found_undo (tag_offset s) (undo_from 32 one.0.items))
+    (undone_change s one.0) change one.2 in
+    let three =
+    unless_ok (range_fault (constant_steps (undo_steps two.0)) s.frames) _ change two.2 in
+    record { tag = one.0; undo = two.0; read = one.1; item = two.1; free = three.0; is = three.1 }
+
+-- ---- the new tag
+
+-- a tag that isn't refused is the one that is read
+pub read_ok : (r : Result TagFields FileTagFault) (tag : TagFields) → tag_result r ≡ Ok tag
+    → r ≡ Ok tag
+read_ok (Ok found) tag e = cc
+read_ok (Err fault) tag e = absurd cc
+
+-- the tag of a file is a tag
+pub read-tag : (file : List ℕ) (s : SurveyFields) (tag : TagFields) → AreBytes file
+    → survey_of file most_frames ≡ Ok s → tag_result (file_tag file s) ≡ Ok tag → IsTag tag
+read-tag file s tag all is e = file_tag-is file most_frames s tag all
+    (survey_of-parts file most_frames s is).1 (read_ok (file_tag file s) tag e)
+
+-- the bytes of a tag, or none where it has no items, may take a tag's place
+pub unless_empty-are : (tag : TagFields) → IsTag tag → IsTagBytes (bytes_unless_empty tag)
+unless_empty-are tag is = elim (length tag.items == 0) as (λ b. IsTagBytes (cond b []
+    (tag_bytes tag))) [ true ↦ inl refl | false ↦ inr (block_front-tag_bytes tag is) ]
+
+-- the new tag of a change that is noted
+pub noted-tag : (shift : Shift) (file : List ℕ) (s : SurveyFields) (change : FileChange)
+    → AreBytes file → survey_of file most_frames ≡ Ok s → tagged_change shift file s ≡ Ok change
+    → IfSome change.tag IsTagBytes
+noted-tag shift file s change all is e =
+    let parts = tagged-parts shift file s change e in
+    let next = next_undo shift parts.undo in
+    subst (λ (c : FileChange). IfSome c.tag IsTagBytes)
+    parts.is (inr (block_front-tag_bytes (tag_with_undo next parts.tag)
+    (IsTag-with_undo next parts.tag (read-tag file s parts.tag all is parts.read))))
+
+-- that of a change that is undone
+pub undone-tag : (file : List ℕ) (s : SurveyFields) (change : FileChange) → AreBytes file
+    → survey_of file most_frames ≡ Ok s → undo_change file s ≡ Ok change
+    → IfSome change.tag IsTagBytes
+undone-tag file s change all is e =
+    let parts = undone-parts file s change e in
+    subst (λ (c : FileChange). IfSome c.tag IsTagBytes)
+    parts.is (unless_empty-are (tag_without_undo parts.tag)
+    (IsTag-without_undo parts.tag (read-tag file s parts.tag all is parts.read)))
+
+-- the steps are those of the command, and there is no new tag or the bytes of one
+abbrev IsChangeOf : Changes → List ℕ → FileChange → Type 0
+IsChangeOf changes file change =
+    (change.steps ≡ constant_steps (steps_of_changes changes file)) × IfSome change.tag IsTagBytes
+
+change_is : (changes : Changes) (file : List ℕ) (s : SurveyFields) (change : FileChange)
+    → AreBytes file → survey_of file most_frames ≡ Ok s → changing_of changes file s ≡ Ok change
+    → IsChangeOf changes file change
+unfolding gain_change
+change_is (Move shift true) file s change all is e =
+    let parts = tagged-parts shift.now file s change e in
+    (ap (λ (c : FileChange). c.steps) (sym parts.is), noted-tag shift.now file s change all is e)
+change_is (Move shift false) file s change all is e =
+    let parts = unless_ok (or_else (channel_fault shift.now s)
+    (range_fault (constant_steps (steps_of shift.now)) s.frames)) _ change e in
+    subst (IsChangeOf (Move shift false) file) parts.1 (refl, tt)
+change_is UndoAll file s change all is e =
+    let parts = undone-parts file s change e in
+    let undo : file_undo file s ≡ Ok parts.undo =
+    ap (λ (r : Result TagFields EditFault). then_made r
+    (λ tag. found_undo (tag_offset s) (undo_from 32 tag.items))) parts.read ∙ parts.item in (
+      ap (λ (c : FileChange). c.steps) (sym parts.is)
+          ∙ ap constant_steps (sym (ap (surveyed_undo_steps file) is ∙ ap undo_result_steps undo)),
+      undone-tag file s change all is e,
+    )
+
+-- ---- as commands
+
+-- what holds of the errors of a change holds of those of the changed file
+pub changed_all : (P : EditFault → Type 0) (file : List ℕ) (s : SurveyFields)
+    (r : Result FileChange EditFault) → IfErr r P → IfErr (changed_or_fault file s r) P
+changed_all P file s (Err fault) is = is
+changed_all P file s (Ok change) is = tt
+
+moved_stream : (changes : Changes) (file : List ℕ) (s : SurveyFields) (new : List ℕ) → AreBytes file
+    → survey_of file most_frames ≡ Ok s → change_making (changing_of changes) file s ≡ Ok new
+    → HoldsStream new (moved_file_stream (steps_of_changes changes) file)
+moved_stream changes file s new all is e =
+    let c = made_cases (changing_of changes) file new s (changing_of changes file s) refl e in
+    let parts = change_is changes file s c.change all is c.made in
+    let moved = changed-stream (changing_of changes) file new s c all is parts.1 in
+    moved_holds (steps_of_changes changes file) file new
+    (subst (λ (t : ℕ → Steps). IsStreamMoved t file new) parts.0 moved)
+
+proper : (changes : Changes) → IsProperMaking (change_making (changing_of changes))
+    (moved_file_stream (steps_of_changes changes))
+proper changes = record {
+  late = λ file s. changed_all IsLateFault file s (changing_of changes file s)
+      (change_late changes file s);
+  streams = moved_stream changes;
+}
+
+-- a change of the input makes the changed file
+pub edit_makes : (changes : Changes) (input : List ℕ) (s : SurveyFields) (change : FileChange)
+    (files : Files) → IsFileThere files input
+    → ((bytes : List ℕ) → Holds files input bytes → survey_of bytes most_frames ≡ Ok s)
+    → ((bytes : List ℕ) → Holds files input bytes → AreBytes bytes)
+    → ((bytes : List ℕ) → Holds files input bytes → changing_of changes bytes s ≡ Ok change)
+    → IsMaking (task_of_changes changes input) (λ file. file_with_change change file s) files
+edit_makes changes input s change files there survey_fields octets changed_by =
+    file_makes (change_making (changing_of changes)) (moved_file_stream (steps_of_changes changes))
+    (refuses_of_changes changes) input files _ s there survey_fields octets
+    (λ bytes holds. ap (changed_or_fault bytes s) (changed_by bytes holds))
+
+-- a command that changes gains is proper
+pub edit_proper : (changes : Changes) (input : List ℕ)
+    → IsProperTask (task_of_changes changes input)
+edit_proper changes input = file_proper (change_making (changing_of changes))
+    (moved_file_stream (steps_of_changes changes)) (proper changes)
+    (refuses_of_changes changes) input

@@ -1,0 +1,202 @@
+-- Two changes of gains, one after the other: where no gain leaves its range
+-- by either, none does by both together, nor by what takes the first back.
+use Rattle.std.proofs.Common.{ap, ap₂, arith, Bool, cond, false, List, map, None, not, Option, pos}
+use Rattle.std.proofs.Common.{refl, Some, subst, sym, true, ℕ, ℤ, ◌+ℤ◌, [], ◌&&◌, ◌<◌, ◌||◌, ◌∙◌}
+use Rattle.std.proofs.{Common.{◌∷◌, ◌≡◌}, Math.IntN.+ℤ_idr, lemmas.Bool.le-ltb}
+use Rattle.commands.proofs.RefusingLemmas.{first-cons, first-nil, none_both, none_first}
+use Rattle.frame_header.specs.Tables.{class_of}
+use Rattle.gain_edits.specs.GainRange.{out_of_range_refusal, range_fault, row_range_fault}
+use Rattle.moved_gains.proofs.MovedAgainLemmas.{AreTogether, stood}
+use Rattle.moved_gains.proofs.MovedFrameLemmas.{gains_fit, whole_class}
+use Rattle.moved_gains.proofs.MovedGainLemmas.{free-parts, free-whole, GainsFit, granule_next}
+use Rattle.moved_gains.proofs.MovedGainLemmas.{is_stuck, IsNoStep, moved_with, side_then}
+use Rattle.moved_gains.proofs.MovedGainLemmas.{wrapped-free}
+use Rattle.moved_gains.proofs.WholeFrameLemmas.{AreFramesOf, frame_of, IsFrameOf, row_shaped}
+use Rattle.moved_gains.specs.{Course.constant_steps, Edited.row_out_of_range}
+use Rattle.moved_gains.specs.Gains.{is_out_of_range, is_silent_granule, moved_granule, moved_side}
+use Rattle.moved_gains.specs.Gains.{moved_side_unless_lost, side_out_of_range}
+use Rattle.moved_gains.specs.declared.gains.OutOfRange.{OutOfRange}
+use Rattle.requests.specs.declared.shift.Steps.{Steps}
+use Rattle.side_info.proofs.FrameLemmas.{fits-side_in}
+use Rattle.side_info.proofs.SideLemmas.{each_shaped, IsShaped, side_with}
+use Rattle.side_info.specs.declared.{granule.Granule.Granule, side.Side.Side}
+use Rattle.sync_survey.specs.Row.{Row}
+
+-- ---- two changes together
+
+abbrev BothGoal : Steps → Steps → Steps → Side → Type 0
+BothGoal one two all s =
+    side_out_of_range one s ≡ None → side_out_of_range two (moved_side one s) ≡ None
+    → side_out_of_range all s ≡ None
+
+both-with : (one two all : Steps) → one.wrap ≡ false → two.wrap ≡ false → all.wrap ≡ false
+    → AreTogether one two all → (m p a b : ℕ) (g h k l : Granule)
+    → BothGoal one two all (side_with m p a b g h k l)
+both-with one two all strict_one strict_two strict_all sum m p a b g h k l first second =
+    let f = free-parts one m p a b g h k l strict_one first in
+    let w =
+    free-parts two m p a b (moved_granule one.left g) (moved_granule one.right h)
+    (moved_granule one.left k)
+    (moved_granule one.right l) strict_two
+    (sym (ap (side_out_of_range two) (moved_with one m p a b g h k l)) ∙ second) in
+    let on_left = granule_next one.left two.left all.left sum.left in
+    let on_right = granule_next one.right two.right all.right sum.right in
+    free-whole all m p a b g h k l
+    (record {
+      first = sym (on_left g f.first) ∙ w.first;
+      second = sym (on_right h f.second) ∙ w.second;
+      third = sym (on_left k f.third) ∙ w.third;
+      fourth = sym (on_right l f.fourth) ∙ w.fourth;
+    })
+    strict_all
+
+-- where no gain is stuck by the one change and then by the other, none is by both together
+pub side_both : (one two all : Steps) (s : Side) → IsShaped s → all.wrap ≡ one.wrap || two.wrap
+    → AreTogether one two all → side_out_of_range one s ≡ None
+    → side_out_of_range two (moved_side one s) ≡ None → side_out_of_range all s ≡ None
+side_both one two all s shaped wraps sum first second = by_wrap one.wrap two.wrap refl refl
+  where
+    by_wrap : (v w : Bool) → one.wrap ≡ v → two.wrap ≡ w → side_out_of_range all s ≡ None
+    by_wrap false false e d =
+        each_shaped (BothGoal one two all) (both-with one two all e d
+        (wraps ∙ ap₂ (λ (x y : Bool). x || y) e d) sum) s shaped first second
+    by_wrap false true e d = wrapped-free all s (wraps ∙ ap₂ (λ (x y : Bool). x || y) e d)
+    by_wrap true w e d = wrapped-free all s (wraps ∙ ap₂ (λ (x y : Bool). x || y) e d)
+
+-- ---- no step
+
+abbrev pub still : Steps
+still = record { left = pos 0; right = pos 0; wrap = false }
+
+still_granule : (z : ℤ) → z ≡ pos 0 → (g : Granule) → g.global_gain < 256 → is_stuck z g ≡ false
+still_granule z none g small =
+    let inside : is_out_of_range (pos g.global_gain +ℤ pos 0) ≡ false =
+    ap is_out_of_range (+ℤ_idr (pos g.global_gain))
+    ∙ le-ltb 255 g.global_gain (omega (arith, small)) in
+    ap (λ z. is_stuck z g) none ∙ (elim (is_silent_granule g) as (λ b.
+    (not b && is_out_of_range (pos g.global_gain +ℤ pos 0))
+    ≡ false) [ true ↦ refl | false ↦ inside ])
+
+abbrev StillGoal : Steps → Side → Type 0
+StillGoal steps s = GainsFit s → side_out_of_range steps s ≡ None
+
+still-with : (steps : Steps) → IsNoStep steps → steps.wrap ≡ false
+    → (m p a b : ℕ) (g h k l : Granule) → StillGoal steps (side_with m p a b g h k l)
+still-with steps none strict m p a b g h k l fits =
+    free-whole steps m p a b g h k l
+    (record {
+      first = still_granule steps.left none.0 g fits.first;
+      second = still_granule steps.right none.1 h fits.second;
+      third = still_granule steps.left none.0 k fits.third;
+      fourth = still_granule steps.right none.1 l fits.fourth;
+    })
+    strict
+
+-- by 0 steps none is stuck
+pub side_still : (steps : Steps) → IsNoStep steps → steps.wrap ≡ false → (s : Side) → IsShaped s
+    → GainsFit s → side_out_of_range steps s ≡ None
+side_still steps none strict s shaped =
+    each_shaped (StillGoal steps) (still-with steps none strict) s shaped
+
+-- the gains of a frame fit
+pub row_fits : (file : List ℕ) (row : Row) → IsFrameOf file row → GainsFit row.side
+row_fits file row here =
+    subst GainsFit (sym here.side) (gains_fit (class_of row.header) _ (fits-side_in row.header
+    (frame_of file row) (whole_class row.header (frame_of file row) here.whole)))
+
+-- ---- all frames
+
+stuck_none : (at : ℕ) (s : Option OutOfRange) → out_of_range_refusal at s ≡ None → s ≡ None
+stuck_none at (Some s) e = absurd cc
+stuck_none at None e = refl
+
+-- no gain of the first frame leaves its range, and none of the others
+pub frame-none : (steps : ℕ → Steps) (row : Row) (rows : List Row)
+    → range_fault steps (row ∷ rows) ≡ None
+    → (row_out_of_range (steps row.offset) row ≡ None) × (range_fault steps rows ≡ None)
+frame-none steps row rows none =
+    let parts = none_first (row_range_fault steps row) (range_fault steps rows)
+    (sym (first-cons (row_range_fault steps) row rows) ∙ none) in
+    (stuck_none row.offset (row_out_of_range (steps row.offset) row) parts.0, parts.1)
+
+-- if no gain of the first frame is stuck and none of the others is, none of all is
+pub none-frame : (steps : ℕ → Steps) (row : Row) (rows : List Row)
+    → row_out_of_range (steps row.offset) row
+    ≡ None → range_fault steps rows ≡ None → range_fault steps (row ∷ rows) ≡ None
+none-frame steps row rows here rest = first-cons (row_range_fault steps) row rows ∙ none_both
+    (row_range_fault steps row) (range_fault steps rows)
+    (ap (out_of_range_refusal row.offset) here) rest
+
+-- what follows for a frame of which no gain leaves the range
+-- follows also for a lost one, whose gains are never looked at
+unless_both : (lost : Bool) (a b c : Option OutOfRange) → (a ≡ None → b ≡ None → c ≡ None)
+    → cond lost None a ≡ None → cond lost None b ≡ None → cond lost None c ≡ None
+unless_both true a b c three first second = refl
+unless_both false a b c three first second = three first second
+
+moved_or_lost : (lost : Bool) (two one : Steps) (s : Side)
+    → cond lost None (side_out_of_range two (moved_side_unless_lost lost one s))
+    ≡ cond lost None (side_out_of_range two (moved_side one s))
+moved_or_lost true two one s = refl
+moved_or_lost false two one s = refl
+
+-- where no gain leaves its range by the first change, and
+-- then none by the second, none does by both together
+pub range_both : (one two all : Steps) → all.wrap ≡ one.wrap || two.wrap → AreTogether one two all
+    → (file : List ℕ) (to : ℕ → ℕ) (rows : List Row) → AreFramesOf file rows
+    → range_fault (constant_steps one) rows ≡ None
+    → range_fault (constant_steps two) (map (stood to (constant_steps one)) rows)
+    ≡ None → range_fault (constant_steps all) rows ≡ None
+range_both one two all wraps sum file to [] frames first second =
+    first-nil (row_range_fault (constant_steps all))
+range_both one two all wraps sum file to (row ∷ rows) frames first second =
+    let f = frame-none (constant_steps one) row rows first in
+    let t =
+    frame-none (constant_steps two) (stood to (constant_steps one) row)
+    (map (stood to (constant_steps one)) rows) second in
+    none-frame (constant_steps all) row rows
+    (unless_both row.lost (side_out_of_range one row.side)
+    (side_out_of_range two (moved_side one row.side)) (side_out_of_range
+    all row.side) (side_both one two all row.side (row_shaped file row frames.0) wraps sum)
+    f.0 (sym (moved_or_lost row.lost two one row.side) ∙ t.0))
+    (range_both one two all wraps sum file to rows frames.1 f.1 t.1)
+
+-- by these steps and then by those a frame has no step
+-- at all, and its gains wrap by both or by neither
+pub record AreOpposite (one two : Steps) : Type 0 where
+  pub wraps : two.wrap ≡ one.wrap
+  pub left : one.left +ℤ two.left ≡ pos 0
+  pub right : one.right +ℤ two.right ≡ pos 0
+
+abbrev pub AllOpposite : (ℕ → Steps) → (ℕ → Steps) → (ℕ → ℕ) → List Row → Type 0
+AllOpposite one two to [] = Unit {0}
+AllOpposite one two to (row ∷ rows) =
+    AreOpposite (one row.offset) (two (to row.offset)) × AllOpposite one two to rows
+
+-- opposite steps for all frames are opposite for each
+pub even_opposite : (one two : Steps) → AreOpposite one two → (to : ℕ → ℕ) (rows : List Row)
+    → AllOpposite (constant_steps one) (constant_steps two) to rows
+even_opposite one two opposite to [] = tt
+even_opposite one two opposite to (row ∷ rows) = (opposite, even_opposite one two opposite to rows)
+
+-- where both together are no step, no gain that the first moved leaves its range by the second
+pub range_back : (one two : ℕ → Steps) (file : List ℕ) (to : ℕ → ℕ) (rows : List Row)
+    → AllOpposite one two to rows → AreFramesOf file rows → range_fault one rows ≡ None
+    → range_fault two (map (stood to one) rows) ≡ None
+range_back one two file to [] opposite frames free = first-nil (row_range_fault two)
+range_back one two file to (row ∷ rows) opposite frames free =
+    let or_none : (b : Bool) → b ≡ b || false =
+    λ b. elim b as (λ c. c ≡ c || false) [ true ↦ refl | false ↦ refl ] in
+    let a = one row.offset in
+    let b = two (to row.offset) in
+    let f = frame-none one row rows free in
+    let shaped = row_shaped file row frames.0 in
+    none-frame two (stood to one row) (map (stood to one) rows)
+    (moved_or_lost row.lost b a row.side
+    ∙ unless_both row.lost (side_out_of_range a row.side) (side_out_of_range a row.side)
+    (side_out_of_range b (moved_side a row.side))
+    (λ first again. side_then a b still row.side shaped (opposite.0.wraps ∙ or_none a.wrap)
+    (sym opposite.0.left) (sym opposite.0.right) first
+    (side_still still (refl, refl) refl row.side shaped (row_fits file row frames.0)))
+    f.0 f.0)
+    (range_back one two file to rows opposite.1 frames.1 f.1)

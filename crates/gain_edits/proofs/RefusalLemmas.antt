@@ -1,0 +1,328 @@
+-- Which refusals gain and undo give, why the tag isn't read, and what is said of an answer.
+use Rattle.std.proofs.Common.{ap, ap₂, arith, Bool, cond, Err, false, inl, inr, List, None, Ok}
+use Rattle.std.proofs.Common.{Option, refl, Result, Some, subst, sym, true, ℕ, [], ◌+◌, ◌==◌, ◌∙◌}
+use Rattle.std.proofs.{Common.{◌∷◌, ◌≡◌, ◌≤◌}, lemmas.{List.Sums.sum_by-cons, Result.IfErr-weaker}}
+use Rattle.std.specs.Prelude.{IfErr, IfSome, is_some, nat_lt, unsigned_abs, ◌⊎◌}
+use Rattle.commands.proofs.InputLemmas.{memory_is_input, refusal_numbers, refused_is_input}
+use Rattle.commands.proofs.RefusingLemmas.{of_err, then_all, then_late, unless_late}
+use Rattle.commands.specs.AfterCall.{HasInputNumbers, IsEditRefusal, IsLateFault}
+use Rattle.commands.specs.Refusing.{first_refusal, or_else, refusal_or, then_made}
+use Rattle.commands.specs.SingleOutput.{IsInputFault, most_frames}
+use Rattle.commands.specs.declared.fault.EditFault.{EditFault, TheVariants.{Memory, Refused}}
+use Rattle.commands.specs.declared.fault.Refusal.{Refusal}
+use Rattle.commands.specs.declared.fault.Refusal.TheVariants.{GainRange, Joint, Mono, UndoRange}
+use Rattle.gain_edits.specs.Change.{change_making, changed_or_fault, IsChangeDecided}
+use Rattle.gain_edits.specs.Changes.{are_noted, changing_of, decided_change, IsDecision}
+use Rattle.gain_edits.specs.Changes.{refuses_of_changes}
+use Rattle.gain_edits.specs.Channels.{are_both, channel_fault, is_joint, joint_fault, joint_refusal}
+use Rattle.gain_edits.specs.Channels.{single_channel_fault}
+use Rattle.gain_edits.specs.Gain.{gain_change, gain_refuses, noted_change, noted_tag_change}
+use Rattle.gain_edits.specs.Gain.{plain_change}
+use Rattle.gain_edits.specs.GainRange.{out_of_range_refusal, range_fault, row_range_fault}
+use Rattle.gain_edits.specs.Undo.{undo_change, undo_refuses, undone_change, undone_tag_change}
+use Rattle.gain_edits.specs.UndoItem.{found_undo, next_undo, noted_undo, number_fault, output_fault}
+use Rattle.gain_edits.specs.UndoItem.{size_fault, tag_edit_fault, tag_result, tag_with_undo}
+use Rattle.gain_edits.specs.{UndoItem.undo_fault, declared.changes.Changes.Changes}
+use Rattle.gain_edits.specs.declared.changes.Changes.TheVariants.{Move, Undo as UndoAll}
+use Rattle.moved_gains.specs.{Change.FileChange, Course.constant_steps, Edited.row_out_of_range}
+use Rattle.moved_gains.specs.{TagPlace.tag_offset, TagReading.{file_tag, IsTagCause}}
+use Rattle.moved_gains.specs.declared.change.Change.{Change as CodeChange}
+use Rattle.moved_gains.specs.declared.gains.OutOfRange.{OutOfRange}
+use Rattle.moved_gains.specs.declared.tag_fault.FileTagFault.{FileTagFault}
+use Rattle.moved_gains.specs.declared.tag_fault.FileTagFault.TheVariants.{Bad as BadBlock}
+use Rattle.moved_gains.specs.declared.tag_fault.FileTagFault.TheVariants.{Memory as NoRoom, Read}
+use Rattle.moved_gains.specs.declared.tag_fault.FileTagFault.TheVariants.{TooLarge}
+use Rattle.outside.specs.{Counts.OnlyReads, Files.{Holds, IsFileThere}, Seen.{Seen, seen_folder}}
+use Rattle.outside.specs.declared.exact.ReadFault.TheVariants.{Failed, Shrunk}
+use Rattle.requests.specs.{Shifts.steps_of, declared.shift.{Shift.Shift, Steps.Steps}}
+use Rattle.sync_survey.specs.{Faults.SurveyFields, Row.Row, Survey.survey_of}
+use Rattle.tag_blocks.specs.Items.{is_undo, item_length, items_length, TagItem}
+use Rattle.tag_blocks.specs.{Tags.{tag_bytes, TagFields}, UndoItems.{undo_at, undo_from}}
+use Rattle.tag_blocks.specs.{UndoText.undo_of, declared.undo.{Undo.Undo, UndoItem.UndoItem}}
+use Rattle.tag_blocks.specs.declared.undo.UndoItem.TheVariants.{Bad, Found}
+
+-- ---- the place of an undo item in its tag
+
+undo_cases : (b : Bool) (start next place : ℕ) (o : Option Undo) (later : UndoItem)
+    → cond b (undo_at start o) later ≡ Bad place → start ≤ next → (later ≡ Bad place → place ≤ next)
+    → place ≤ next
+undo_cases true start next place None later e low rest = let same : start ≡ place = cc in
+    omega (arith, same, low)
+undo_cases true start next place (Some undo) later e low rest = absurd cc
+undo_cases false start next place o later e low rest = rest e
+
+-- an item without a value of the form begins within the items
+pub bad_place : (start : ℕ) (items : List TagItem) (place : ℕ) → undo_from start items ≡ Bad place
+    → place ≤ start + items_length items
+bad_place start [] place e = absurd cc
+bad_place start (item ∷ items) place e =
+    undo_cases (is_undo item) start (start + items_length (item ∷ items)) place (undo_of item.value)
+    (undo_from (start + item_length item) items) e (omega arith)
+    (λ found. omega (
+      arith,
+      bad_place (start + item_length item) items place found,
+      sum_by-cons item_length item items,
+    ))
+
+-- ---- where there is none
+
+-- where a fault that may come doesn't, what would bring it is false
+pub not_there : (b : Bool) (fault : Refusal) → cond b (Some fault) None ≡ None → b ≡ false
+not_there true fault e = absurd cc
+not_there false fault e = refl
+
+-- ---- which there are
+
+-- the refusal, if there is one, is one of these
+abbrev pub May : (Refusal → Bool) → Option Refusal → Type 0
+May may o = IfSome o (λ refusal. may refusal ≡ true)
+
+or_may : (may : Refusal → Bool) (o later : Option Refusal) → May may o → May may later
+    → May may (or_else o later)
+or_may may None later first rest = rest
+or_may may (Some refusal) later first rest = first
+
+unless_may : {A : Type 0} (may : Refusal → Bool) (o : Option Refusal) (a : A) → May may o
+    → IfErr (refusal_or o a) (IsEditRefusal may)
+unless_may may None a is = tt
+unless_may may (Some refusal) a is = is
+
+where_may : (may : Refusal → Bool) (b : Bool) (refusal : Refusal) → may refusal ≡ true
+    → May may (cond b (Some refusal) None)
+where_may may true refusal is = is
+where_may may false refusal is = tt
+
+first_may : {A : Type 0} (may : Refusal → Bool) (refuse : A → Option Refusal)
+    → ((a : A) → May may (refuse a)) → (list : List A) → May may (first_refusal refuse list)
+unfolding first_refusal
+first_may may refuse each [] = tt
+first_may may refuse each (a ∷ list) =
+    or_may may (refuse a) (first_refusal refuse list) (each a) (first_may may refuse each list)
+
+-- a gain out of range may refuse wherever that may
+pub range_may : (may : Refusal → Bool)
+    → ((offset granule channel gain : ℕ) → may (GainRange offset granule channel gain) ≡ true)
+    → (steps : ℕ → Steps) (rows : List Row) → May may (range_fault steps rows)
+range_may may range steps rows =
+    first_may may (row_range_fault steps)
+    (λ row. stuck_may row (row_out_of_range (steps row.offset) row)) rows
+  where
+    stuck_may : (row : Row) (o : Option OutOfRange) → May may (out_of_range_refusal row.offset o)
+    stuck_may row (Some stuck) = range row.offset stuck.granule stuck.channel stuck.gain
+    stuck_may row None = tt
+
+joint_may : (tags : Bool) (rows : List Row) → May (gain_refuses tags) (joint_fault rows)
+joint_may tags rows = first_may (gain_refuses tags) joint_refusal
+    (λ row. where_may (gain_refuses tags) (is_joint row) (Joint row.offset) refl) rows
+
+apart_may : (tags : Bool) (s : SurveyFields) → May (gain_refuses tags) (single_channel_fault s)
+apart_may tags s = elim (s.class.channels == 1) as (λ b. May (gain_refuses tags)
+    (cond b (Some Mono) (joint_fault s.frames))) [ true ↦ refl | false ↦ joint_may tags s.frames ]
+
+channel_may : (tags : Bool) (shift : Shift) (s : SurveyFields)
+    → May (gain_refuses tags) (channel_fault shift s)
+channel_may tags shift s = elim (are_both shift.channels) as (λ b. May (gain_refuses tags)
+    (cond b None (single_channel_fault s))) [ true ↦ tt | false ↦ apart_may tags s ]
+
+-- a gain without a note is refused by what may refuse it
+pub plain_may : (tags : Bool) (shift : Shift) (s : SurveyFields)
+    → IfErr (plain_change shift s) (IsEditRefusal (gain_refuses tags))
+plain_may tags shift s =
+    unless_may (gain_refuses tags) _ _
+    (or_may (gain_refuses tags) (channel_fault shift s) _ (channel_may tags shift s)
+    (range_may (gain_refuses tags) (λ o g c n. refl) (constant_steps (steps_of shift)) s.frames))
+
+noted_may : (shift : Shift) (s : SurveyFields) (tag : TagFields) (undo : Undo)
+    → IfErr (noted_change shift s tag undo) (IsEditRefusal (gain_refuses true))
+noted_may shift s tag undo =
+    let next = next_undo shift undo in
+    let bytes = tag_bytes (tag_with_undo next tag) in
+    let may = gain_refuses true in
+    unless_may may _ _
+    (or_may may (channel_fault shift s) _ (channel_may true shift s)
+    (or_may may (undo_fault next) _
+    (or_may may (number_fault next.left) (number_fault next.right)
+    (where_may may (nat_lt 999 (unsigned_abs next.left)) (UndoRange next.left) refl)
+    (where_may may (nat_lt 999 (unsigned_abs next.right)) (UndoRange next.right) refl))
+    (or_may may (size_fault bytes) _ (where_may may _ _ refl)
+    (or_may may (output_fault s bytes) (range_fault (constant_steps (steps_of shift)) s.frames)
+    (where_may may _ _ refl)
+    (range_may may (λ o g c n. refl) (constant_steps (steps_of shift)) s.frames)))))
+
+undone_may : (s : SurveyFields) (tag : TagFields) (undo : Undo)
+    → IfErr (undone_change s tag undo) (IsEditRefusal undo_refuses)
+undone_may s tag undo =
+    unless_may undo_refuses _ _ (range_may undo_refuses (λ o g c n. refl) _ s.frames)
+
+noted_item_may : (at : ℕ) (item : UndoItem)
+    → IfErr (noted_undo at item) (IsEditRefusal (gain_refuses true))
+noted_item_may at (Bad place) = refl
+noted_item_may at _ = tt
+
+found_item_may : (at : ℕ) (item : UndoItem)
+    → IfErr (found_undo at item) (IsEditRefusal undo_refuses)
+found_item_may at (Found undo) = tt
+found_item_may at _ = refl
+
+-- so is one with a note
+pub noted_in_may : (shift : Shift) (s : SurveyFields) (tag : TagFields)
+    → IfErr (noted_tag_change shift s tag) (IsEditRefusal (gain_refuses true))
+noted_in_may shift s tag =
+    then_all (IsEditRefusal (gain_refuses true))
+    (noted_undo (tag_offset s) (undo_from 32 tag.items))
+    (noted_change shift s tag) (noted_item_may (tag_offset s) (undo_from 32 tag.items))
+    (noted_may shift s tag)
+
+-- so is an undo
+pub undone_in_may : (s : SurveyFields) (tag : TagFields)
+    → IfErr (undone_tag_change s tag) (IsEditRefusal undo_refuses)
+undone_in_may s tag =
+    then_all (IsEditRefusal undo_refuses) (found_undo (tag_offset s) (undo_from 32 tag.items))
+    (undone_change s tag) (found_item_may (tag_offset s) (undo_from 32 tag.items))
+    (undone_may s tag)
+
+-- ---- memory was taken before
+
+tag_late : (r : Result TagFields FileTagFault) → IfErr (tag_result r) IsLateFault
+tag_late (Ok tag) = tt
+tag_late (Err (TooLarge size)) = refl
+tag_late (Err (Read Failed)) = refl
+tag_late (Err (Read (Shrunk first second))) = refl
+tag_late (Err _) = refl
+
+refusal_late : (refuses : Refusal → Bool) (fault : EditFault) → IsEditRefusal refuses fault
+    → IsLateFault fault
+refusal_late refuses (Refused refusal) is = refl
+refusal_late refuses _ is = absurd is
+
+-- the refusals of a change are late
+pub change_late : (changes : Changes) (file : List ℕ) (s : SurveyFields)
+    → IfErr (changing_of changes file s) IsLateFault
+unfolding gain_change undo_change
+change_late (Move shift true) file s =
+    then_late (tag_result (file_tag file s)) (noted_tag_change shift.now s)
+    (tag_late (file_tag file s))
+    (λ tag. IfErr-weaker (noted_tag_change shift.now s tag) _ _ (refusal_late (gain_refuses true))
+    (noted_in_may shift.now s tag))
+change_late (Move shift false) file s = unless_late _ _
+change_late UndoAll file s =
+    then_late (tag_result (file_tag file s)) (undone_tag_change s) (tag_late (file_tag file s))
+    (λ tag. IfErr-weaker (undone_tag_change s tag) _ _ (refusal_late undo_refuses)
+    (undone_in_may s tag))
+
+-- ---- what the definition says
+
+-- without a note the change is decided without a tag
+pub plain-is : (changes : Changes) (bytes : List ℕ) (s : SurveyFields) → are_noted changes ≡ false
+    → changing_of changes bytes s ≡ decided_change changes s None
+unfolding gain_change
+plain-is (Move shift true) bytes s plain = absurd cc
+plain-is (Move shift false) bytes s plain = refl
+plain-is UndoAll bytes s plain = absurd cc
+
+-- with one it is decided by the tag that is read
+pub noted-is : (changes : Changes) (bytes : List ℕ) (s : SurveyFields)
+    (r : Result TagFields FileTagFault) → are_noted changes ≡ true → file_tag bytes s ≡ r
+    → changing_of changes bytes s
+    ≡ then_made (tag_result r) (λ tag. decided_change changes s (Some tag))
+unfolding gain_change undo_change
+noted-is (Move shift true) bytes s r noted is =
+    ap (λ (r : Result TagFields FileTagFault). then_made (tag_result r)
+    (noted_tag_change shift.now s)) is
+noted-is (Move shift false) bytes s r noted is = absurd cc
+noted-is UndoAll bytes s r noted is =
+    ap (λ (r : Result TagFields FileTagFault). then_made (tag_result r) (undone_tag_change s)) is
+
+-- a change that is decided is refused by what may refuse it
+pub decided-may : (changes : Changes) (s : SurveyFields) (o : Option TagFields) → are_noted changes
+    ≡ is_some o → IfErr (decided_change changes s o) (IsEditRefusal (refuses_of_changes changes))
+decided-may (Move shift tags) s None asks = plain_may tags shift.now s
+decided-may (Move shift true) s (Some tag) asks = noted_in_may shift.now s tag
+decided-may (Move shift false) s (Some tag) asks = absurd cc
+decided-may UndoAll s None asks = refl
+decided-may UndoAll s (Some tag) asks = undone_in_may s tag
+
+-- ---- what is said of an answer
+
+module _ (changes : Changes) (name : List ℕ) (old new : Seen) (s : SurveyFields)
+    (there : IsFileThere old.files name)
+    (is : (bytes : List ℕ) → Holds old.files name bytes → survey_of bytes most_frames ≡ Ok s) where
+  -- a fault of the tag is one of the input
+  pub tag_is_input : are_noted changes ≡ true → new.files ≡ old.files → (fault : FileTagFault)
+      → IsTagCause name old.files s old.counts new.counts fault
+      → IsInputFault (change_making (changing_of changes)) name old new (tag_edit_fault fault)
+  tag_is_input noted same fault = at fault
+    where
+      refuses : (fault : FileTagFault) (bytes : List ℕ) → file_tag bytes s ≡ Err fault
+          → change_making (changing_of changes) bytes s ≡ Err (tag_edit_fault fault)
+      refuses fault bytes is =
+          ap (changed_or_fault bytes s) (noted-is changes bytes s (Err fault) noted is)
+
+      refused : (fault : FileTagFault) → IsEditRefusal (λ _. true) (tag_edit_fault fault)
+          → ((bytes : List ℕ) → Holds old.files name bytes → file_tag bytes s ≡ Err fault)
+          → new.counts ≡ old.counts
+          → IsInputFault (change_making (changing_of changes)) name old new (tag_edit_fault fault)
+      refused fault kind h stays =
+          refused_is_input (change_making (changing_of changes)) name old new s (λ _. true)
+          (tag_edit_fault fault) kind there is (λ bytes holds. refuses fault bytes (h bytes holds))
+          (ap₂ seen_folder same stays)
+
+      at : (fault : FileTagFault) → IsTagCause name old.files s old.counts new.counts fault
+          → IsInputFault (change_making (changing_of changes)) name old new (tag_edit_fault fault)
+      at (TooLarge size) h = refused (TooLarge size) refl h.0 h.3
+      at (BadBlock place) h = refused (BadBlock place) refl h.0 h.3
+      at (Read Failed) h = record { is = refl; rose = h.0; files = same }
+      at (Read (Shrunk first second)) h = record {
+        first = first;
+        second = second;
+        is = refl;
+        rose = h.3;
+        counts = h.4;
+        untold = h.0;
+        files =
+            same;
+      }
+      at NoRoom h =
+          memory_is_input (change_making (changing_of changes)) name old new s there is
+          (ap₂ seen_folder same h)
+
+  -- after it the code answers what the definition says, or has no memory
+  pub answered : (made : Result FileChange EditFault)
+      → IfErr made (IsEditRefusal (refuses_of_changes changes))
+      → ((bytes : List ℕ) → Holds old.files name bytes → changing_of changes bytes s ≡ made)
+      → new ≡ old → OnlyReads old.counts new.counts → (r : Result CodeChange EditFault)
+      → IsChangeDecided s made r → IsDecision changes name old new s r
+  answered made may whole stays reads (Ok change) is-made = record {
+    change = λ bytes holds. whole bytes holds ∙ is-made;
+    refused = tt;
+    numbers = tt;
+    done = λ i. (stays i).counts;
+    files = λ i. (stays i).files;
+    counts = reads;
+  }
+  answered made may whole stays reads (Err fault) answer = record {
+    change = tt;
+    refused = cause fault answer;
+    numbers = kind fault answer;
+    done = tt;
+    files = λ i. (stays i).files;
+    counts = reads;
+  }
+    where
+      cause : (fault : EditFault) → (fault ≡ Memory) ⊎ (made ≡ Err fault)
+          → IsInputFault (change_making (changing_of changes)) name old new fault
+      cause fault (inl memory) =
+          subst (IsInputFault (change_making (changing_of changes)) name old new) (sym memory)
+          (memory_is_input (change_making (changing_of changes)) name old new s there is stays)
+      cause fault (inr refused) =
+          refused_is_input (change_making (changing_of changes)) name old new s
+          (refuses_of_changes changes)
+          fault (of_err (IsEditRefusal (refuses_of_changes changes)) made fault may refused) there
+          is
+          (λ bytes holds. ap (changed_or_fault bytes s) (whole bytes holds ∙ refused)) stays
+
+      kind : (fault : EditFault) → (fault ≡ Memory) ⊎ (made ≡ Err fault)
+          → HasInputNumbers (refuses_of_changes changes) fault
+      kind fault (inl memory) = subst (HasInputNumbers (refuses_of_changes changes)) (sym memory) tt
+      kind fault (inr refused) = refusal_numbers (refuses_of_changes changes) fault
+          (of_err (IsEditRefusal (refuses_of_changes changes)) made fault may refused)

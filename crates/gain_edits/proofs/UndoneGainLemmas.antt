@@ -1,0 +1,473 @@
+-- What a file is after noted changes of gains, one after the other; and that undo takes them back.
+use Rattle.std.proofs.Common.{ap, arith, Bool, cond, drop, false, inl, inr, length, List, ltb, map}
+use Rattle.std.proofs.Common.{None, Ok, Option, pos, refl, Result, Some, subst, sym, take}
+use Rattle.std.proofs.Common.{take-append-drop, true, ℕ, ℤ, ◌+ℤ◌, [], ◌++◌, ◌+◌, ◌-◌, ◌==◌, ◌||◌}
+use Rattle.std.proofs.{Common.{◌∙◌, ◌∷◌, ◌≡◌, ◌≤◌}, Math.IntN.{+ℤ_assoc, +ℤ_comm, -ℤ-+ℤ_cancel}}
+use Rattle.std.{proofs.lemmas.Bool.{le-ltb, ltb-false, ne_eqb}, specs.Prelude.{unsigned_abs, ◌-ℤ◌}}
+use Rattle.bit_fields.specs.Bits.{AreBytes}
+use Rattle.commands.proofs.RefusingLemmas.{none_first, then_ok, unless_ok}
+use Rattle.commands.specs.{Refusing.{or_else, refusal_or, then_made}, SingleOutput.most_frames}
+use Rattle.commands.specs.declared.fault.{EditFault.EditFault, Refusal.Refusal}
+use Rattle.commands.specs.declared.fault.Refusal.TheVariants.{UndoRange}
+use Rattle.gain_edits.proofs.OppositeStepLemmas.{edited_still, own_again, still_holds}
+use Rattle.gain_edits.proofs.ProperLemmas.{changed-ok, file_tag-is, made_of, same_tag}
+use Rattle.gain_edits.proofs.ProperLemmas.{unless_empty-are}
+use Rattle.gain_edits.proofs.RangeAgainLemmas.{even_opposite, range_back, range_both, still}
+use Rattle.gain_edits.{proofs.RefusalLemmas.not_there, specs.Change.change_result}
+use Rattle.gain_edits.specs.Channels.{channel_fault}
+use Rattle.gain_edits.specs.Gain.{gain_change, noted_change, noted_tag_change}
+use Rattle.gain_edits.specs.GainRange.{range_fault}
+use Rattle.gain_edits.specs.GivenBack.{gains_result, HasNoEmptyTag, IsGivenBack, tidied_file}
+use Rattle.gain_edits.specs.GivenBack.{UndoGivesBack}
+use Rattle.gain_edits.specs.Undo.{undo_change, undone_change, undone_tag_change}
+use Rattle.gain_edits.specs.UndoItem.{bytes_unless_empty, found_undo, next_undo, no_undo}
+use Rattle.gain_edits.specs.UndoItem.{noted_undo, number_fault, output_fault, output_length}
+use Rattle.gain_edits.specs.UndoItem.{size_fault, tag_result, tag_with_undo, tag_without_undo}
+use Rattle.gain_edits.specs.UndoItem.{undo_fault, undo_steps}
+use Rattle.moved_gains.proofs.FoundTagLemmas.{surveyed-length}
+use Rattle.moved_gains.proofs.MovedAgainLemmas.{AreTogether, even_together, stood}
+use Rattle.moved_gains.proofs.{MovedGainLemmas.sum_of, NewTagLemmas.own-tag}
+use Rattle.moved_gains.proofs.{TagPlaceLemmas.tag_none, TagReadingLemmas.file_tag-none}
+use Rattle.moved_gains.proofs.TaggedAgainLemmas.{changed_again, clean_survey, has_block, new}
+use Rattle.moved_gains.proofs.TaggedAgainLemmas.{new_frames, new_is, new_long, new_survey, to}
+use Rattle.moved_gains.proofs.WholeFrameLemmas.{AreFramesOf, frames_there}
+use Rattle.moved_gains.proofs.WrittenTagLemmas.{length_moved}
+use Rattle.moved_gains.specs.{Change.{file_with_change, FileChange}, Course.constant_steps}
+use Rattle.moved_gains.specs.Edited.{edited_file}
+use Rattle.moved_gains.specs.Streams.{edited_survey, file_without_junk, junk_length}
+use Rattle.moved_gains.specs.TagLaws.{own_tag_bytes}
+use Rattle.moved_gains.specs.TagPlace.{file_with_tag, tag_block, tag_length, tag_offset}
+use Rattle.moved_gains.specs.TagReading.{empty_tag, file_tag, longest_tag, tag_of_block}
+use Rattle.requests.specs.{Shifts.steps_of, declared.shift.{Shift.Shift, Steps.Steps}}
+use Rattle.sync_survey.proofs.{FoldersLemmas.survey_of-short, SurveyedFileLemmas.survey_of-parts}
+use Rattle.sync_survey.specs.Faults.{HoldsStream, longest_file, stream_of, survey_fields}
+use Rattle.sync_survey.specs.{Faults.SurveyFields, Survey.survey_of, declared.places.Piece.Piece}
+use Rattle.tag_blocks.proofs.TagsLemmas.{block_front-tag_bytes, tag_of-tag_bytes}
+use Rattle.tag_blocks.proofs.UndoItemsLemmas.{IsTag-with_undo, undo_from-with_undo}
+use Rattle.tag_blocks.proofs.UndoItemsLemmas.{without_undo-with_undo}
+use Rattle.tag_blocks.{proofs.UndoTextLemmas.undo_of-undo_text, specs.Blocks.block_front}
+use Rattle.tag_blocks.specs.Items.{is_undo, item_length, TagItem}
+use Rattle.tag_blocks.specs.Tags.{IsTag, tag_bytes, TagFields}
+use Rattle.tag_blocks.specs.UndoItems.{undo_at, undo_from, without_undo}
+use Rattle.tag_blocks.specs.{UndoText.{undo_of, UndoFitsText}, declared.block.Kind.TheVariants.Ape}
+use Rattle.tag_blocks.specs.declared.undo.{Undo.Undo, UndoItem.UndoItem}
+use Rattle.tag_blocks.specs.declared.undo.UndoItem.TheVariants.{Found, Missing}
+
+-- ---- the steps
+
+-- a further change by some steps, and as many less to be taken back
+pub sum_again : (sum step undo : ℤ) → (sum +ℤ step) +ℤ (undo -ℤ step) ≡ sum +ℤ undo
+sum_again sum step undo = +ℤ_assoc sum step (undo -ℤ step)
+    ∙ ap (λ z. sum +ℤ z) (+ℤ_comm step (undo -ℤ step) ∙ -ℤ-+ℤ_cancel undo step)
+
+-- steps and as many the other way are 0
+pub sum_first : (step : ℤ) → step +ℤ (pos 0 -ℤ step) ≡ pos 0
+sum_first step = +ℤ_comm step (pos 0 -ℤ step) ∙ -ℤ-+ℤ_cancel (pos 0) step
+
+-- ---- the undo item
+
+missing_cases : (b : Bool) (place : ℕ) (o : Option Undo) (later : UndoItem) (item : TagItem)
+    (items left : List TagItem) → cond b (undo_at place o) later ≡ Missing
+    → (later ≡ Missing → left ≡ items) → cond b items (item ∷ left) ≡ item ∷ items
+missing_cases true place None later item items left e rest = absurd cc
+missing_cases true place (Some undo) later item items left e rest = absurd cc
+missing_cases false place o later item items left e rest =
+    ap (λ (l : List TagItem). item ∷ l) (rest e)
+
+-- items without an undo item stay
+without_none : (place : ℕ) (items : List TagItem) → undo_from place items ≡ Missing
+    → without_undo items ≡ items
+without_none place [] e = refl
+without_none place (item ∷ items) e =
+    missing_cases (is_undo item) place (undo_of item.value)
+    (undo_from (place + item_length item) items) item items (without_undo items) e
+    (λ none. without_none (place + item_length item) items none)
+
+-- a tag without an undo item is itself when that is removed
+pub tag_without_none : (tag : TagFields) → undo_from 32 tag.items ≡ Missing
+    → tag_without_undo tag ≡ tag
+tag_without_none tag e =
+    ap (λ (l : List TagItem). record tag { items = l }) (without_none 32 tag.items e)
+
+-- an undo that was put in changes nothing of what is left without one
+pub tag_without_with : (undo : Undo) (tag : TagFields)
+    → tag_without_undo (tag_with_undo undo tag) ≡ tag_without_undo tag
+tag_without_with undo tag =
+    ap (λ (l : List TagItem). record tag { items = l }) (without_undo-with_undo undo tag.items)
+
+-- an undo that was put in is found
+pub found_with : (undo : Undo) (tag : TagFields) → UndoFitsText undo
+    → undo_from 32 (tag_with_undo undo tag).items ≡ Found undo
+found_with undo tag fits = undo_from-with_undo undo tag.items 32 (undo_of-undo_text undo fits)
+
+-- ---- the tag of a block
+
+-- a tag is read from the block of its bytes
+pub block_read : (at : ℕ) (tag : TagFields) → IsTag tag → length (tag_bytes tag) ≤ longest_tag
+    → tag_of_block at (tag_bytes tag) ≡ Ok tag
+block_read at tag are small =
+    simp (le-ltb longest_tag (length (tag_bytes tag)) small, tag_of-tag_bytes tag are)
+
+-- ---- what was accepted
+
+small_number : (number : ℤ) → number_fault number ≡ None → unsigned_abs number ≤ 999
+small_number number e = ltb-false 999 (unsigned_abs number)
+    (not_there (ltb 999 (unsigned_abs number)) (UndoRange number) e)
+
+fits_text : (undo : Undo) → undo_fault undo ≡ None → UndoFitsText undo
+fits_text undo e = let both = none_first (number_fault undo.left) (number_fault undo.right) e in
+    record { left = small_number undo.left both.0; right = small_number undo.right both.1 }
+
+-- the undo fits, the tag and the file aren't too long, and no gain leaves its range
+pub record AreNoted (shift : Shift) (s : SurveyFields) (tag : TagFields) (undo : Undo)
+    (change : FileChange) : Type 0 where
+  pub fits : UndoFitsText (next_undo shift undo)
+  pub small : length (tag_bytes (tag_with_undo (next_undo shift undo) tag)) ≤ longest_tag
+  pub few : output_length s (tag_bytes (tag_with_undo (next_undo shift undo) tag)) ≤ longest_file
+  pub free : range_fault (constant_steps (steps_of shift)) s.frames ≡ None
+  pub is : record {
+    steps = constant_steps (steps_of shift);
+    tag = Some (tag_bytes (tag_with_undo (next_undo shift undo) tag));
+  } ≡ change
+
+noted_parts : (shift : Shift) (s : SurveyFields) (tag : TagFields) (undo : Undo)
+    (change : FileChange) → noted_change shift s tag undo ≡ Ok change
+    → AreNoted shift s tag undo change
+noted_parts shift s tag undo change e =
+    let next = next_undo shift undo in
+    let bytes = tag_bytes (tag_with_undo next tag) in
+    let all = unless_ok _ _ change e in
+    let apart =
+    none_first (channel_fault shift s) (or_else (undo_fault next) (or_else (size_fault bytes)
+    (or_else (output_fault s bytes) (range_fault (constant_steps (steps_of shift)) s.frames))))
+    all.0 in
+    let number = none_first (undo_fault next) (or_else (size_fault bytes)
+    (or_else (output_fault s bytes) (range_fault (constant_steps (steps_of shift)) s.frames)))
+    apart.1 in
+    let size = none_first (size_fault bytes)
+    (or_else (output_fault s bytes) (range_fault (constant_steps (steps_of shift)) s.frames))
+    number.1 in
+    let output =
+    none_first (output_fault s bytes)
+    (range_fault (constant_steps (steps_of shift)) s.frames) size.1 in
+    record {
+      fits = fits_text next number.0;
+      small = ltb-false longest_tag (length bytes)
+          (not_there (ltb longest_tag (length bytes)) _ size.0);
+      few = ltb-false longest_file (output_length s bytes)
+          (not_there (ltb longest_file (output_length s bytes)) _ output.0);
+      free = output.1;
+      is = all.1;
+    }
+
+-- of a file whose tag is read and says this undo
+pub gain_noted : (shift : Shift) (file : List ℕ) (s : SurveyFields) (tag : TagFields) (undo : Undo)
+    (change : FileChange) → tag_result (file_tag file s) ≡ Ok tag
+    → noted_undo (tag_offset s) (undo_from 32 tag.items) ≡ Ok undo
+    → gain_change shift true file s ≡ Ok change → AreNoted shift s tag undo change
+unfolding gain_change
+gain_noted shift file s tag undo change read item e =
+    noted_parts shift s tag undo change
+    (sym (ap (λ (r : Result TagFields EditFault). then_made r (noted_tag_change shift s)) read
+    ∙ ap (λ (r : Result Undo EditFault). then_made r (noted_change shift s tag)) item) ∙ e)
+
+-- ---- what is known of it
+
+-- It is the file with its gains moved by all steps together, and with a tag that
+-- is the file's except the undo item, which says the steps that undo all of them.
+pub record IsGained (file : List ℕ) (s : SurveyFields) (tag : TagFields)
+    (last : List ℕ) : Type 0 where
+  pub steps : Steps
+  pub noted : TagFields
+  pub undo : Undo
+  pub are : IsTag noted
+  pub small : length (tag_bytes noted) ≤ longest_tag
+  pub item : undo_from 32 noted.items ≡ Found undo
+  pub others : tag_without_undo noted ≡ tag_without_undo tag
+  pub is : last
+      ≡ file_with_tag (tag_bytes noted) (edited_survey (constant_steps steps) s)
+      (edited_file (constant_steps steps) file s)
+  pub left : steps.left +ℤ undo.left ≡ pos 0
+  pub right : steps.right +ℤ undo.right ≡ pos 0
+  pub wraps : undo.wrap ≡ steps.wrap
+  pub free : range_fault (constant_steps steps) s.frames ≡ None
+  pub few : length last ≤ longest_file
+
+changed-with : (steps : Steps) (bytes file : List ℕ) (s : SurveyFields)
+    → file_with_change (record { steps = constant_steps steps; tag = Some bytes }) file s
+    ≡ file_with_tag bytes (edited_survey (constant_steps steps) s)
+    (edited_file (constant_steps steps) file s)
+unfolding file_with_change
+changed-with steps bytes file s = refl
+
+undo_made : (file : List ℕ) (s : SurveyFields) (tag : TagFields) (undo : Undo)
+    → tag_result (file_tag file s) ≡ Ok tag
+    → found_undo (tag_offset s) (undo_from 32 tag.items) ≡ Ok undo
+    → range_fault (constant_steps (undo_steps undo)) s.frames ≡ None → undo_change file s ≡ Ok
+    (record {
+      steps = constant_steps (undo_steps undo);
+      tag = Some (bytes_unless_empty (tag_without_undo tag));
+    })
+unfolding undo_change
+undo_made file s tag undo read item free =
+    ap (λ (r : Result TagFields EditFault). then_made r (undone_tag_change s)) read
+    ∙ ap (λ (r : Result Undo EditFault). then_made r (undone_change s tag)) item
+    ∙ ap (λ (o : Option Refusal). refusal_or o (record {
+      steps = constant_steps (undo_steps undo);
+      tag = Some (bytes_unless_empty (tag_without_undo tag));
+    })) free
+
+module _ (file : List ℕ) (s : SurveyFields) (tag : TagFields) (are : AreBytes file)
+    (is : survey_fields file most_frames ≡ Ok s) where
+  frames : AreFramesOf file s.frames
+  frames = frames_there file most_frames s are is
+
+  -- ---- its length
+
+  new_length : (steps : Steps) (block : List ℕ) → block_front block
+      ≡ Some (record { kind = Ape; length = length block }) → length (file_with_tag block
+      (edited_survey (constant_steps steps) s) (edited_file (constant_steps steps) file s))
+      ≡ s.length - junk_length s - tag_length s + length block
+  new_length steps block front =
+      surveyed-length (file_with_tag block (edited_survey (constant_steps steps) s)
+      (edited_file (constant_steps steps) file s))
+      most_frames (new_survey (constant_steps steps) file most_frames s are is block front)
+      (new_is (constant_steps steps) file most_frames s are is block front)
+      ∙ new_long (constant_steps steps) file most_frames s are is block front
+      ∙ ap (λ k. s.length - junk_length s - k + length block)
+      (length_moved (constant_steps steps) s)
+
+  -- ---- the first gain
+
+  module _ (short : survey_of file most_frames ≡ Ok s) (own : IsTag tag)
+      (read : file_tag file s ≡ Ok tag) (none : undo_from 32 tag.items ≡ Missing) where
+    -- a file with one noted gain was gained
+    pub first_gain : (shift : Shift) (last : List ℕ)
+        → change_result (gain_change shift true) file ≡ Ok last → IsGained file s tag last
+    first_gain shift last e =
+        let made = made_of (gain_change shift true) file last s short e in
+        let noted = gain_noted shift file s tag no_undo made.change (ap tag_result read)
+        (ap (noted_undo (tag_offset s)) none) made.made in
+        let next = next_undo shift no_undo in
+        let steps = steps_of shift in
+        let new_tag = tag_with_undo next tag in
+        let new_own = IsTag-with_undo next tag own in
+        let there : last
+        ≡ file_with_tag (tag_bytes new_tag) (edited_survey (constant_steps steps) s)
+        (edited_file (constant_steps steps) file s) =
+        sym made.bytes ∙ ap (λ (c : FileChange). file_with_change c file s) (sym noted.is)
+        ∙ changed-with steps (tag_bytes new_tag) file s in
+        record {
+          steps = steps;
+          noted = new_tag;
+          undo = next;
+          are = new_own;
+          small = noted.small;
+          item = found_with next tag noted.fits;
+          others = tag_without_with next tag;
+          is = there;
+          left = sum_first steps.left;
+          right = sum_first steps.right;
+          wraps = refl;
+          free = noted.free;
+          few = omega (
+            arith,
+            ap length there,
+            new_length steps (tag_bytes new_tag) (block_front-tag_bytes new_tag new_own),
+            noted.few,
+          );
+        }
+
+  -- ---- a file that gains have changed
+
+  module _ (last : List ℕ) (g : IsGained file s tag last) where
+    abbrev block : List ℕ
+    block = tag_bytes g.noted
+
+    front : block_front block ≡ Some (record { kind = Ape; length = length block })
+    front = block_front-tag_bytes g.noted g.are
+
+    abbrev here : List ℕ
+    here = new (constant_steps g.steps) file most_frames s are is block front
+
+    abbrev n : SurveyFields
+    n = new_survey (constant_steps g.steps) file most_frames s are is block front
+
+    here_survey : survey_of here most_frames ≡ Ok n
+    here_survey = survey_of-short here most_frames (omega (arith, g.few, ap length g.is))
+        ∙ new_is (constant_steps g.steps) file most_frames s are is block front
+
+    here_read : tag_result (file_tag here n) ≡ Ok g.noted
+    here_read =
+        ap tag_result
+        ((has_block (constant_steps g.steps) file most_frames s are is block front).tag
+        ∙ block_read (tag_offset (edited_survey (constant_steps g.steps) s)) g.noted g.are g.small)
+
+    abbrev by : ℕ → ℕ
+    by = to (constant_steps g.steps) file most_frames s are is block front
+
+    here_frames : n.frames ≡ map (stood by (constant_steps g.steps)) s.frames
+    here_frames = new_frames (constant_steps g.steps) file most_frames s are is block front
+
+    -- and so was one that is gained once more
+    pub further_gain : (shift : Shift) (more : List ℕ)
+        → change_result (gain_change shift true) last ≡ Ok more → IsGained file s tag more
+    further_gain shift more e =
+        let made = made_of (gain_change shift true) here more n here_survey
+        (ap (change_result (gain_change shift true)) (sym g.is) ∙ e) in
+        let noted = gain_noted shift here n g.noted g.undo made.change here_read
+        (ap (noted_undo (tag_offset n)) g.item) made.made in
+        let next = next_undo shift g.undo in
+        let step = steps_of shift in
+        let steps = sum_of g.steps step in
+        let together : AreTogether g.steps step steps = record { left = refl; right = refl } in
+        let new_tag = tag_with_undo next g.noted in
+        let new_own = IsTag-with_undo next g.noted g.are in
+        let there : more
+        ≡ file_with_tag (tag_bytes new_tag) (edited_survey (constant_steps steps) s)
+        (edited_file (constant_steps steps) file s) =
+        sym made.bytes
+        ∙ ap (λ (c : FileChange). file_with_change c here n) (sym noted.is)
+        ∙ changed-with step (tag_bytes new_tag) here n
+        ∙ changed_again (constant_steps g.steps) file most_frames s are is block front
+        (constant_steps step)
+        (constant_steps steps) (even_together g.steps step steps together by s.frames)
+        (tag_bytes new_tag) in
+        record {
+          steps = steps;
+          noted = new_tag;
+          undo = next;
+          are = new_own;
+          small = noted.small;
+          item = found_with next g.noted noted.fits;
+          others = tag_without_with next g.noted ∙ g.others;
+          is = there;
+          left = sum_again g.steps.left step.left g.undo.left ∙ g.left;
+          right = sum_again g.steps.right step.right g.undo.right ∙ g.right;
+          wraps = ap (λ (b : Bool). b || shift.wrap) g.wraps;
+          free = range_both g.steps step steps refl together file by s.frames frames
+              g.free (sym (ap (range_fault (constant_steps step)) here_frames) ∙ noted.free);
+          few =
+              omega (
+                arith,
+                ap length there,
+                new_length steps (tag_bytes new_tag) (block_front-tag_bytes new_tag new_own),
+                noted.few,
+                new_long (constant_steps g.steps) file most_frames s are is block front,
+                length_moved (constant_steps g.steps) s,
+                (has_block (constant_steps g.steps) file most_frames s are is block front).size,
+                clean_survey (constant_steps g.steps) file most_frames s are is block front,
+              );
+        }
+
+    -- undo gives the file with its gains moved by 0 steps, and with the other items of its tag
+    pub undone : change_result undo_change last
+        ≡ Ok (file_with_tag (bytes_unless_empty (tag_without_undo tag))
+        (edited_survey (constant_steps still) s) (edited_file (constant_steps still) file s))
+    undone =
+        let back = undo_steps g.undo in
+        let bytes = bytes_unless_empty (tag_without_undo g.noted) in
+        let free : range_fault (constant_steps back) n.frames ≡ None =
+        ap (range_fault (constant_steps back)) here_frames
+        ∙ range_back (constant_steps g.steps)
+        (constant_steps back) file by s.frames (even_opposite g.steps back
+        (record { wraps = g.wraps; left = g.left; right = g.right }) by s.frames) frames g.free in
+        let made =
+        undo_made here n g.noted g.undo here_read (ap (found_undo (tag_offset n)) g.item) free in
+        let together : AreTogether g.steps back still =
+        record { left = sym g.left; right = sym g.right } in
+        ap (change_result undo_change) g.is
+        ∙ changed-ok undo_change here n
+        (record { steps = constant_steps back; tag = Some bytes }) here_survey made
+        ∙ ap Ok
+        (changed-with back bytes here n
+        ∙ changed_again (constant_steps g.steps) file most_frames s are is block front
+        (constant_steps back)
+        (constant_steps still) (even_together g.steps back still together by s.frames) bytes
+        ∙ ap (λ (t : TagFields). file_with_tag (bytes_unless_empty t)
+        (edited_survey (constant_steps still) s)
+        (edited_file (constant_steps still) file s)) g.others)
+
+  -- ---- several gains
+
+  -- after more noted gains the file is still one that was gained, by all of them
+  pub gained_then : (shifts : List Shift) (last more : List ℕ) → IsGained file s tag last
+      → gains_result shifts last ≡ Ok more → IsGained file s tag more
+  gained_then [] last more g e = let same : last ≡ more = cc in subst (IsGained file s tag) same g
+  gained_then (shift ∷ shifts) last more g e =
+      let parts =
+      then_ok (change_result (gain_change shift true) last) (gains_result shifts) more e in
+      gained_then shifts parts.0 more (further_gain last g shift parts.0 parts.1) parts.2
+
+  -- ---- what undo gives
+
+  abbrev bytes : List ℕ
+  bytes = bytes_unless_empty tag
+
+  edited_is : edited_file (constant_steps still) file s ≡ file_without_junk s file
+  edited_is = edited_still still (refl, refl) file most_frames s are is
+
+  undone_tidied : file_with_tag bytes (edited_survey (constant_steps still) s)
+      (edited_file (constant_steps still) file s)
+      ≡ tidied_file tag s file
+  unfolding tidied_file
+  undone_tidied = ap (file_with_tag bytes (edited_survey (constant_steps still) s)) edited_is
+
+  -- the bytes of its tag, written again, are those that are in the file
+  own_cases : (read : file_tag file s ≡ Ok tag) (o : Option Piece) → tag_block s ≡ o
+      → HasNoEmptyTag tag s → bytes ≡ own_tag_bytes file s
+  own_cases read None none has =
+      let nothing : empty_tag ≡ tag =
+      same_tag empty_tag tag (sym (file_tag-none file s none) ∙ read) in
+      let size : tag_length s ≡ 0 = (tag_none s none).1 in
+      ap bytes_unless_empty (sym nothing) ∙ sym (ap (λ k. take k (drop (tag_offset s) file)) size)
+  own_cases read (Some b) some (inl none) = let both : None ≡ Some b = sym none ∙ some in absurd cc
+  own_cases read (Some b) some (inr items) =
+      let full : (length tag.items == 0) ≡ false =
+      ne_eqb (length tag.items) 0 (λ e. omega (arith, e, items)) in
+      ap (λ (c : Bool). cond c [] (tag_bytes tag)) full
+      ∙ ((own-tag file most_frames s is).tag tag b are some read).1
+
+  tidied_kept : file_tag file s ≡ Ok tag → HasNoEmptyTag tag s
+      → tidied_file tag s file ≡ file_without_junk s file
+  tidied_kept read has =
+      sym undone_tidied
+      ∙ ap (λ (l : List ℕ). file_with_tag l (edited_survey (constant_steps still) s)
+      (edited_file (constant_steps still) file s))
+      (own_cases read (tag_block s) refl has)
+      ∙ own_again (constant_steps still) file most_frames s is
+      ∙ edited_is
+
+  tidied_stream : IsTag tag → HoldsStream (tidied_file tag s file) (stream_of file)
+  tidied_stream own =
+      let made : file_with_change (record { steps = constant_steps still; tag = Some bytes }) file s
+      ≡ tidied_file tag s file = changed-with still bytes file s ∙ undone_tidied in
+      subst (λ (l : List ℕ). HoldsStream l (stream_of file)) made (still_holds still (refl, refl)
+      (Some bytes) (unless_empty-are tag own) file most_frames s are is)
+
+  given_back : IsTag tag → file_tag file s ≡ Ok tag → undo_from 32 tag.items ≡ Missing
+      → (last : List ℕ) → IsGained file s tag last → IsGivenBack file last s tag
+  given_back own read none last g =
+      let back : change_result undo_change last ≡ Ok (tidied_file tag s file) =
+      undone last g
+      ∙ ap Ok (ap (λ (t : TagFields). file_with_tag (bytes_unless_empty t)
+      (edited_survey (constant_steps still) s)
+      (edited_file (constant_steps still) file s)) (tag_without_none tag none) ∙ undone_tidied) in
+      record {
+        back = back;
+        kept = λ has. back ∙ ap Ok (tidied_kept read has);
+        same = λ has clean. back ∙ ap Ok (tidied_kept read has
+            ∙ ap (λ n. take s.junk file ++ drop n file) (sym clean) ∙ take-append-drop s.junk file);
+        stream = tidied_stream own;
+      }
+
+-- one undo takes back one change or more
+pub gains_undone : UndoGivesBack
+gains_undone shift shifts file last s tag are short read none e =
+    let is = (survey_of-parts file most_frames s short).1 in
+    let own = file_tag-is file most_frames s tag are is read in
+    let parts =
+    then_ok (change_result (gain_change shift true) file) (gains_result shifts) last e in
+    let g = gained_then file s tag are is shifts parts.0 last
+    (first_gain file s tag are is short own read none shift parts.0 parts.1) parts.2 in
+    given_back file s tag are is own read none last g

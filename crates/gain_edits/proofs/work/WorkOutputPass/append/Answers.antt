@@ -1,5 +1,0 @@
--- The output was created, and nothing is held of any file.
-use Rattle.gain_edits.proofs.work.WorkOutputPass.append.Goals as goal
-
-pub write_changed-requires-clause-fresh : goal.write_changed-requires-clause-fresh
-write_changed-requires-clause-fresh g c = c.requires.created.1.fresh _ _

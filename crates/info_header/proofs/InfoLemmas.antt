@@ -1,0 +1,55 @@
+-- Laws of the fields of a head: where they are, and what is after them.
+use Rattle.std.proofs.Common.{ap, append-nil, append_assoc, arith, cond, drop, inl, inr, length}
+use Rattle.std.proofs.Common.{List, min, replicate, suc, sym, take, true, ℕ, [], ◌++◌, ◌+◌, ◌-◌}
+use Rattle.std.proofs.{Common.{◌<◌, ◌∙◌, ◌≡◌, ◌≤◌, ◌⊎◌}, Math.Nat.{min-eq_left, min-eq_right}}
+use Rattle.std.proofs.{Math.Seq.{take-append-add, take-length}, lemmas.Bool.cases_lt}
+use Rattle.std.proofs.lemmas.List.{drop-replicate, take-append-le, take-replicate}
+use Rattle.info_header.specs.Info.{field_place, field_size, is_flagged, padded_bytes}
+
+-- ---- places
+
+field_next : (flags field next : ℕ) → next ≡ suc field → field_place flags next
+    ≡ field_place flags field + cond (is_flagged flags field) (field_size field) 0
+unfolding field_place
+field_next flags field next is = ap (field_place flags) is
+
+-- the place after a field that is there
+pub place-set : (flags field at : ℕ) → at ≡ field_place flags field → is_flagged flags field ≡ true
+    → at + field_size field ≡ field_place flags (field + 1)
+place-set flags field at is set =
+    ap (λ k. k + field_size field) is ∙ sym (field_next flags field (field + 1) (omega arith)
+    ∙ ap (λ b. field_place flags field + cond b (field_size field) 0) set)
+
+-- ---- the extension
+
+padded_cases : (n : ℕ) (bytes : List ℕ) → (length bytes < n) ⊎ (n ≤ length bytes)
+    → take (min (length bytes) n) bytes ++ drop (min (length bytes) n) (replicate n 0)
+    ≡ padded_bytes n bytes
+padded_cases n bytes (inl few) =
+    let least : min (length bytes) n ≡ length bytes = min-eq_left (omega arith) in
+    let split : n ≡ length bytes + (n - length bytes) = omega arith in
+    rw (least, take-length bytes)
+    (ap (λ (zeros : List ℕ). bytes ++ zeros)
+    (drop-replicate (length bytes) n 0 ∙ sym (take-replicate (n - length bytes) n 0 (omega arith)))
+    ∙ sym (ap (λ k. take k (bytes ++ replicate n 0)) split
+    ∙ take-append-add bytes (replicate n 0) (n - length bytes)))
+padded_cases n bytes (inr many) =
+    let least : min (length bytes) n ≡ n = min-eq_right many in
+    let nothing : n - n ≡ 0 = omega arith in
+    let none : drop {A = ℕ} n (replicate n 0) ≡ [] =
+    drop-replicate n n 0 ∙ ap (λ k. replicate {A = ℕ} k 0) nothing in
+    rw (least, none) (append-nil (take n bytes) ∙ sym (take-append-le n bytes (replicate n 0) many))
+
+-- as many bytes as there are, and zeros after them
+pub padded-parts : (n : ℕ) (bytes : List ℕ)
+    → take (min (length bytes) n) bytes ++ drop (min (length bytes) n) (replicate n 0)
+    ≡ padded_bytes n bytes
+padded-parts n bytes = padded_cases n bytes (cases_lt (length bytes) n)
+
+-- ---- bytes one after another
+
+-- bytes and then others, added to what is there, are both added one after the other
+pub piece-before : (old mid new piece rest : List ℕ) → mid ≡ old ++ piece → new ≡ mid ++ rest
+    → new ≡ old ++ (piece ++ rest)
+piece-before old mid new piece rest first then =
+    then ∙ ap (λ (xs : List ℕ). xs ++ rest) first ∙ append_assoc old piece rest

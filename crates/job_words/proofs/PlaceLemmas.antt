@@ -1,0 +1,105 @@
+-- The reading of words as relations: the shape that they have, and the place of the bad word.
+use Rattle.std.proofs.Common.{arith, Err, inl, inr, List, None, Ok, refl, Result, Some, take, ℕ, []}
+use Rattle.std.proofs.{Common.{◌+◌, ◌-◌, ◌≡◌, ◌≤◌}, lemmas.{Bool.both_ways, List.length-take}}
+use Rattle.std.proofs.lemmas.List.{Elements.All-contains, Sums.common_prefix_len-le}
+use Rattle.std.specs.Prelude.{Contains, IfErr, IfOk}
+use Rattle.job_words.proofs.ListLemmas.{bounds, common_prefix_len-take, found, none_is, reached}
+use Rattle.job_words.proofs.{ListLemmas.whole, ReadingLemmas.listed_form}
+use Rattle.job_words.{proofs.SoundLemmas.shape_is_sound, specs.Code.{job_request, request_result}}
+use Rattle.job_words.specs.{Forms.{forms, help_form, Shape, shape_with, shapes}, Kinds.fits_kind}
+use Rattle.job_words.specs.Request.{Request}
+use Rattle.job_words.specs.Words.{fitting_count, have_kinds, IsBadWord, IsReadingOf, IsShapePrefix}
+use Rattle.job_words.specs.Words.{IsSoundRequest, job_of, longest_fit, shape_in, shape_kinds}
+use Rattle.job_words.specs.{Words.shape_reading, declared.jobs.Job.Job}
+
+module _ (words : List (List ℕ)) where
+  -- a shape that the words follow furthest
+  nearest : (shape : Shape) × Contains (shapes forms) shape
+      × (fitting_count words shape ≡ longest_fit (shapes forms) words)
+  nearest =
+      let first = shape_with help_form [] in
+      elim (reached (fitting_count words) 0 (shapes forms)) [
+        | inl nought ↦ (
+          first,
+          (0, omega arith, refl),
+          omega (
+            arith,
+            nought,
+            (bounds (fitting_count words) 0 (shapes forms)).1 0 first (omega arith),
+          ),
+        )
+        | inr at ↦ at
+      ]
+
+  -- the words that follow a shape have its first kinds, and no longer prefix has
+  begins : (shape : Shape) → IsShapePrefix (fitting_count words shape) shape words
+  begins shape =
+      let kinds = shape_kinds words shape in
+      let n : ℕ = fitting_count words shape in
+      let le = common_prefix_len-le fits_kind kinds words in
+      let both = common_prefix_len-take fits_kind n kinds words in
+      record {
+        enough_words = le.1;
+        enough_kinds = le.0;
+        fit =
+            (whole fits_kind (take n kinds) (take n words)).1 (
+              omega (arith, both, length-take n kinds, le.0),
+              omega (arith, both, length-take n words, le.1),
+            );
+      }
+
+  begins-le : (shape : Shape) (n : ℕ) → IsShapePrefix n shape words → n ≤ fitting_count words shape
+  begins-le shape n b =
+      let both = (whole fits_kind (take n (shape_kinds words shape)) (take n words)).0 b.fit in
+      omega (
+        arith,
+        both.0,
+        common_prefix_len-take fits_kind n (shape_kinds words shape) words,
+        length-take n (shape_kinds words shape),
+        b.enough_kinds,
+      )
+
+  -- what holds of the answer
+  abbrev pub IsAnswer : Result Request ℕ → Type 0
+  IsAnswer (Ok asked) = IsReadingOf words asked × IsSoundRequest asked
+  IsAnswer (Err place) = IsBadWord words place
+
+  -- the answer is that of the definition
+  pub job_is : IsAnswer (job_of words)
+  unfolding job_of
+  job_is =
+      elim (shape_in (shapes forms) words) as (λ o. shape_in (shapes forms) words ≡ o
+      → IsAnswer (shape_reading o words (longest_fit (shapes forms) words))) [
+        | Some shape ↦ λ is.
+            let first =
+            found (λ shape. have_kinds (shape_kinds words shape) words) (shapes forms) shape is in (
+              record { shape = shape; listed = first.0; kinds = first.1; read = refl },
+              shape_is_sound shape words (listed_form forms shape first.0) first.1,
+            )
+        | None ↦ λ none.
+            let near = nearest in
+            let before : (1 + longest_fit (shapes forms) words) - 1 ≡ fitting_count words near.0 =
+            omega (arith, near.2) in
+            record {
+              none = λ shape listed all. both_ways (have_kinds (shape_kinds words shape) words)
+                  (none_is (λ shape. have_kinds (shape_kinds words shape) words)
+                  (shapes forms) shape none listed) all;
+              counted = omega arith;
+              nearest = near.0;
+              listed = near.1;
+              before = rw before (begins near.0);
+              longest = λ n shape listed b. omega (
+                arith,
+                begins-le shape n b,
+                All-contains (λ shape. fitting_count words shape ≤ longest_fit (shapes forms) words)
+                    (shapes forms) shape (bounds (fitting_count words) 0 (shapes forms)).1 listed,
+              );
+            }
+      ] refl
+
+  -- so it is of the answer of the code
+  pub code_is : (r : Result Job ℕ) → IsAnswer (request_result r)
+      → IfOk r (λ job. IsReadingOf words (job_request job)) × IfErr r (IsBadWord words)
+      × IfOk r (λ job. IsSoundRequest (job_request job))
+  code_is (Ok job) is = (is.0, tt, is.1)
+  code_is (Err place) is = (tt, is, tt)

@@ -1,8 +1,0 @@
--- The others so far.
-use Rattle.std.proofs.Common.{length, take, ◌≡◌, ◌≤◌}
-use Rattle.job_words.specs.Flags.{without}
-use Rattle.job_words.proofs.flags.without.Given as goal
-
-abbrev pub invariant-loop-other : goal.invariant-loop-other
-invariant-loop-other l = (l.others.items ≡ without l.flag (take l.other-index l.flags))
-    × (length l.others.items ≤ l.other-index) × (length l.flags ≤ 4)

@@ -1,0 +1,81 @@
+-- Whether the frames that are shared are alike, where the inputs are told.
+use Rattle.std.proofs.Common.{ap, arith, Bool, cond, false, length, List, None, Option, Some, sym}
+use Rattle.std.proofs.{Common.{ℕ, ◌&&◌, ◌+◌, ◌-◌, ◌∙◌, ◌∷◌, ◌≡◌, ◌≤◌}, lemmas.List.length-map}
+use Rattle.exact_span.specs.declared.overlap.Overlap.{Overlap}
+use Rattle.frame_header.specs.Fields.{ClassFields}
+use Rattle.join_edits.proofs.DecideLemmas.{alike-few, alike-tested, sounds-next, sounds_from}
+use Rattle.join_edits.specs.{Deciding.IsSharedOverlap, Sounds.{all_run_frames, same_sounds}}
+use Rattle.outside.specs.Files.{Contents, Files, IfTold, Told, Untold}
+use Rattle.seam_plan.specs.Decisions.{CanFollow, frame_place, IsBroughtInput, IsRun, last_places}
+use Rattle.seam_plan.specs.{Frames.{Brought, RunFrame}, Seams.overlap_of}
+use Rattle.seam_plan.specs.declared.{input.Input.Input, run.{FramePlace.FramePlace, Run.Run}}
+use Rattle.sync_survey.specs.Faults.{SurveyFields}
+
+-- the input shares these frames with the one before it
+abbrev pub Finds : Run → Input → Overlap → Type 0
+Finds run input overlap =
+    (class : ClassFields) (frames : List RunFrame) (places : List FramePlace)
+    (before brought : Brought) → IsRun class frames places before run → IsBroughtInput input brought
+    → Some overlap ≡ overlap_of class before brought
+
+-- and these are the last of the run
+abbrev pub HasLast : Run → ℕ → Option (List FramePlace) → Type 0
+HasLast run count last =
+    (class : ClassFields) (frames : List RunFrame) (places : List FramePlace) (before : Brought)
+    → IsRun class frames places before run → count ≤ 7 → last ≡ last_places places count
+
+module _ (names : List (List ℕ)) (ss : List SurveyFields) (number : ℕ) (run : Run) (input : Input)
+    (overlap : Overlap) (finds : Finds run input overlap) (can : CanFollow input overlap) where
+  within-brought : (brought : Brought) → IsBroughtInput input brought
+      → overlap.frames ≤ length brought.frames
+  within-brought brought brings = omega (
+    arith,
+    can.within,
+    ap length brings.needs,
+    length-map brought.frames (λ (f : RunFrame). f.need),
+  )
+
+  few-count : overlap.frames - overlap.first_alike ≤ 7
+  few-count = omega (arith, can.few)
+
+  -- where the run has no such last frames, the overlap isn't alike
+  pub none-alike : (files : Files) (last : Option (List FramePlace))
+      → HasLast run (overlap.frames - overlap.first_alike) last → last ≡ None
+      → IsSharedOverlap files names ss number run input None
+  none-alike (Untold touched) last has none = tt
+  none-alike (Told f) last has none = λ class frames places before brought is brings sounds there.
+      alike-few class (all_run_frames f names ss) number frames places before brought overlap
+      is.same (within-brought brought brings) can.some sounds there
+      (finds class frames places before brought is brings)
+      (sym none ∙ has class frames places before is few-count)
+
+  -- where it has them, the test of their sounds decides
+  pub tested-alike : (files : Files) (last : List FramePlace) (b : Bool)
+      → HasLast run (overlap.frames - overlap.first_alike) (Some last) → IfTold files
+      (λ f. sounds_from (all_run_frames f names ss) number overlap.first_alike last ≡ b)
+      → IsSharedOverlap files names ss number run input (cond b (Some overlap) None)
+  tested-alike (Untold touched) last b has test = tt
+  tested-alike (Told f) last b has test =
+      λ class frames places before brought is brings sounds there.
+      sym (alike-tested class
+      (all_run_frames f names ss) number frames places before brought overlap
+      is.same (within-brought brought brings) can.some sounds there
+      (finds class frames places before brought is brings) last
+      (has class frames places before is few-count) b test)
+
+-- a frame more is compared
+module _ (names : List (List ℕ)) (ss : List SurveyFields) (number frame : ℕ) (p : FramePlace)
+    (places rest : List FramePlace) (is : places ≡ p ∷ rest) where
+  abbrev Same : Files → Bool → Type 0
+  Same files b =
+      IfTold files (λ f. b ≡ same_sounds (all_run_frames f names ss) p (frame_place number frame))
+
+  -- where they don't, the answer is that not all do
+  pub ends-here : (files : Files) (all : Contents → Bool) (b : Bool) → b ≡ false → Same files b
+      → IfTold files (λ f. sounds_from (all_run_frames f names ss) number frame places ≡ all f)
+      → IfTold files (λ f. all f ≡ false)
+  ends-here (Untold touched) all b so same before = tt
+  ends-here (Told f) all b so same before =
+      let lists = all_run_frames f names ss in
+      sym before ∙ sounds-next lists number frame places p rest is
+      ∙ ap (λ (x : Bool). x && sounds_from lists number (frame + 1) rest) (sym same ∙ so)

@@ -1,0 +1,265 @@
+-- What becomes of inputs, one more at a time.
+use Rattle.std.proofs.Common.{ap, append-nil, append_assoc, ap₂, arith, Bool, bytes_eq, cond, drop}
+use Rattle.std.proofs.Common.{false, flat_map, length, List, map, None, Option, refl, slice_get}
+use Rattle.std.proofs.Common.{Some, suc, sym, take, true, zero, ℕ, [], ◌&&◌, ◌++◌, ◌+◌, ◌-◌, ◌<◌}
+use Rattle.std.proofs.{Common.{◌∙◌, ◌∷◌, ◌≡◌, ◌≤◌}, lemmas.Bool.leb-true}
+use Rattle.std.proofs.lemmas.List.{drop-map, length-drop, length-take-le, map-append}
+use Rattle.std.specs.{List.AllZip, Prelude.{nat_le, option_and_then}}
+use Rattle.exact_span.specs.declared.overlap.Overlap.{Overlap}
+use Rattle.frame_header.specs.Fields.{ClassFields, SlotFields}
+use Rattle.join_edits.specs.Deciding.{AreMovedNeeds, last_brought, left_out_counts}
+use Rattle.join_edits.specs.Sounds.{same_sounds, sound_at, sound_of_frame}
+use Rattle.seam_plan.specs.Decisions.{alike_overlap, frame_place, IsJoint, joined_needs}
+use Rattle.seam_plan.specs.{Decisions.{last_places, overlap_if_alike}, Frames.{Brought, RunFrame}}
+use Rattle.seam_plan.specs.Seams.{are_frames_alike, compared_frames, ends_alike, joint_of}
+use Rattle.seam_plan.specs.Seams.{JointFrames, joints_from, joints_of, left_out_count, overlap_of}
+use Rattle.seam_plan.specs.{Seams.run_with, declared.run.FramePlace.FramePlace}
+use Rattle.seam_plan.specs.declared.run.Joint.{Joint as CodeJoint}
+use Rattle.slot_plan.specs.{FreeBytes.needs_with_first_slot, Parts.AreNeedsOfClass}
+use Rattle.slot_plan.specs.declared.needs.Need.{Need}
+
+-- ---- joints, one more
+
+module _ (class : ClassFields) where
+  abbrev frames-in : List JointFrames → List RunFrame
+  frames-in joints = flat_map (λ (j : JointFrames). j.frames) joints
+
+  joints-more : (run : List RunFrame) (before : Brought) (others : List Brought) (next : Brought)
+      → joints_from class run before (others ++ next ∷ [])
+      ≡ joints_from class run before others ++ joint_of class (run
+      ++ frames-in (joints_from class run before others)) (last_brought before others) next ∷ []
+  unfolding joints_from
+  joints-more run before [] next =
+      ap (λ (r : List RunFrame). joint_of class r before next ∷ []) (sym (append-nil run))
+  joints-more run before (b ∷ others) next =
+      let joint = joint_of class run before b in
+      let later = joints_from class (run ++ joint.frames) b others in
+      ap (λ (l : List JointFrames). joint ∷ l) (joints-more (run ++ joint.frames) b others next)
+      ∙ ap (λ (r : List RunFrame). joint ∷ (later ++ joint_of class r (last_brought b others) next
+      ∷ [])) (append_assoc run joint.frames (frames-in later))
+
+  -- what becomes of an input more
+  pub joints-next : (first : Brought) (others : List Brought) (next : Brought)
+      → joints_of class first (others ++ next ∷ [])
+      ≡ joints_of class first others ++ joint_of class
+      (run_with first (joints_of class first others)) (last_brought first others) next ∷ []
+  joints-next first others next = joints-more first.frames first others next
+
+  frames-more : (joints : List JointFrames) (joint : JointFrames)
+      → frames-in (joints ++ joint ∷ []) ≡ frames-in joints ++ joint.frames
+  frames-more [] joint = append-nil joint.frames
+  frames-more (j ∷ joints) joint =
+      ap (λ (l : List RunFrame). j.frames ++ l) (frames-more joints joint)
+      ∙ sym (append_assoc j.frames (frames-in joints) joint.frames)
+
+  -- the run with its frames
+  pub run-next : (first : Brought) (others : List Brought) (next : Brought)
+      → run_with first (joints_of class first (others ++ next ∷ []))
+      ≡ run_with first (joints_of class first others)
+      ++ (joint_of class (run_with first (joints_of class first others))
+      (last_brought first others) next).frames
+  run-next first others next =
+      let joints = joints_of class first others in
+      let joint = joint_of class (run_with first joints) (last_brought first others) next in
+      ap (run_with first) (joints-next first others next)
+      ∙ ap (λ (l : List RunFrame). first.frames ++ l) (frames-more joints joint)
+      ∙ sym (append_assoc first.frames (frames-in joints) joint.frames)
+
+-- when one more is brought, it is the last
+pub last-next : (first : Brought) (others : List Brought) (next : Brought)
+    → last_brought first (others ++ next ∷ []) ≡ next
+last-next first [] next = refl
+last-next first (b ∷ others) next = last-next b others next
+
+-- one more joint with its result
+pub zip-more : (joints : List JointFrames) (results : List CodeJoint) (joint : JointFrames)
+    (result : CodeJoint) → AllZip IsJoint joints results → IsJoint joint result
+    → AllZip IsJoint (joints ++ joint ∷ []) (results ++ result ∷ [])
+zip-more [] [] joint result are is = (is, tt)
+zip-more (j ∷ joints) (r ∷ results) joint result are is =
+    (are.0, zip-more joints results joint result are.1 is)
+zip-more _ _ joint result are is = absurd are
+
+-- what one more joint leaves out comes last
+pub outs-more : (joints : List CodeJoint) (joint : CodeJoint)
+    → left_out_counts (joints ++ joint ∷ [])
+    ≡ left_out_counts joints ++ left_out_count joint.seam ∷ []
+outs-more joints joint = map-append (λ (j : CodeJoint). left_out_count j.seam) joints (joint ∷ [])
+
+-- ---- what frames need, in other slots
+
+-- frames are the same frames in their own slots
+pub moved-same : (needs : List Need) → AreMovedNeeds needs needs
+moved-same [] = tt
+moved-same (n ∷ needs) = ((refl, refl), moved-same needs)
+
+-- two lists of frames in other slots make one
+pub moved-append : (ns ms xs ys : List Need) → AreMovedNeeds ns ms → AreMovedNeeds xs ys
+    → AreMovedNeeds (ns ++ xs) (ms ++ ys)
+moved-append [] [] xs ys front back = back
+moved-append (n ∷ ns) (m ∷ ms) xs ys front back = (front.0, moved-append ns ms xs ys front.1 back)
+moved-append _ _ xs ys front back = absurd front
+
+-- the frames behind so many are in other slots, too
+pub moved-drop : (k : ℕ) (ns ms : List Need) → AreMovedNeeds ns ms
+    → AreMovedNeeds (drop k ns) (drop k ms)
+moved-drop zero ns ms are = are
+moved-drop (suc k) [] [] are = tt
+moved-drop (suc k) (n ∷ ns) (m ∷ ms) are = moved-drop k ns ms are.1
+moved-drop (suc k) _ _ are = absurd are
+
+-- the first may have another slot
+pub moved-joined : (slot : Option SlotFields) (needs : List Need)
+    → AreMovedNeeds (joined_needs slot needs) needs
+unfolding needs_with_first_slot
+moved-joined None needs = moved-same needs
+moved-joined (Some slot) [] = tt
+moved-joined (Some slot) (n ∷ needs) = ((refl, refl), moved-same needs)
+
+-- frames are still of the class when the first is in another slot
+pub class-moved : (class : ClassFields) (slot : Option SlotFields) (needs : List Need)
+    → AreNeedsOfClass class needs → AreNeedsOfClass class (joined_needs slot needs)
+unfolding AreNeedsOfClass needs_with_first_slot
+class-moved class None needs same = same
+class-moved class (Some slot) [] same = tt
+class-moved class (Some slot) (n ∷ needs) same = (same.0, same.1)
+
+-- ---- frames that are alike
+
+-- whether the frames at these places sound as those of an input from one on
+abbrev pub sounds_from : List (List RunFrame) → ℕ → ℕ → List FramePlace → Bool
+sounds_from lists number frame [] = true
+sounds_from lists number frame (p ∷ ps) =
+    same_sounds lists p (frame_place number frame) && sounds_from lists number (frame + 1) ps
+
+-- the first of the places is compared, and then the rest
+pub sounds-next : (lists : List (List RunFrame)) (number frame : ℕ) (places : List FramePlace)
+    (p : FramePlace) (rest : List FramePlace) → places ≡ p ∷ rest
+    → sounds_from lists number frame places
+    ≡ (same_sounds lists p (frame_place number frame) && sounds_from lists number (frame + 1) rest)
+sounds-next lists number frame places p rest is = ap (sounds_from lists number frame) is
+
+-- the items from a place on are the one there and those behind it
+pub drop-cons : {X : Type 0} (n : ℕ) (xs : List X) → n < length xs
+    → (x : X) × (slice_get xs n ≡ Some x) × (drop n xs ≡ x ∷ drop (n + 1) xs)
+drop-cons n [] within = absurd (omega (arith, within))
+drop-cons zero (x ∷ xs) within = (x, refl, refl)
+drop-cons (suc n) (x ∷ xs) within =
+    let rest = drop-cons n xs (omega (arith, within)) in
+    let more : suc n + 1 ≡ suc (n + 1) = omega arith in
+    (rest.0, rest.1, rest.2 ∙ ap (λ k. rest.0 ∷ drop k (x ∷ xs)) (sym more))
+
+-- the sound at a place is that of the frame there
+pub sound-here : (lists : List (List RunFrame)) (number frame : ℕ) (all : List RunFrame)
+    (x : RunFrame) → slice_get lists number ≡ Some all → slice_get all frame ≡ Some x
+    → sound_at lists (frame_place number frame) ≡ x.sound
+sound-here lists number frame all x has is =
+    ap (λ (o : Option (List RunFrame)). sound_of_frame
+    (option_and_then (λ (l : List RunFrame). slice_get l frame) o)) has ∙ ap sound_of_frame is
+
+-- so they are alike these frames
+sounds-alike : (lists : List (List RunFrame)) (number from : ℕ) (all : List RunFrame)
+    (ps : List FramePlace) (xs : List RunFrame) → slice_get lists number ≡ Some all
+    → from + length ps ≤ length all → map (sound_at lists) ps ≡ map (λ (x : RunFrame). x.sound) xs
+    → sounds_from lists number from ps ≡ are_frames_alike xs (take (length ps) (drop from all))
+unfolding are_frames_alike
+sounds-alike lists number from all [] [] has within same = refl
+sounds-alike lists number from all [] (x ∷ xs) has within same = absurd cc
+sounds-alike lists number from all (p ∷ ps) [] has within same = absurd cc
+sounds-alike lists number from all (p ∷ ps) (x ∷ xs) has within same =
+    let next = drop-cons from all (omega (arith, within)) in
+    let head : sound_at lists p ≡ x.sound = cc in
+    let tail : map (sound_at lists) ps ≡ map (λ (y : RunFrame). y.sound) xs = cc in
+    ap₂ (λ (a b : List ℕ). bytes_eq a b && sounds_from lists number (from + 1) ps) head
+    (sound-here lists number from all next.0 has next.1)
+    ∙ ap (λ (b : Bool). bytes_eq x.sound next.0.sound && b)
+    (sounds-alike lists number (from + 1) all ps xs has (omega (arith, within)) tail)
+    ∙ sym (ap (λ (l : List RunFrame). are_frames_alike (x ∷ xs) (take (suc (length ps)) l)) next.2)
+
+-- ---- the overlap that is alike
+
+module _ (class : ClassFields) (lists : List (List RunFrame)) (number : ℕ) (frames : List RunFrame)
+    (places : List FramePlace) (before brought : Brought) (overlap : Overlap)
+    (same : length places ≡ length frames) (within : overlap.frames ≤ length brought.frames)
+    (some : overlap.first_alike < overlap.frames)
+    (sounds : map (sound_at lists) places ≡ map (λ (x : RunFrame). x.sound) frames)
+    (has : slice_get lists number ≡ Some brought.frames)
+    (found : Some overlap ≡ overlap_of class before brought) where
+  abbrev count : ℕ
+  count = overlap.frames - overlap.first_alike
+
+  compared-length : length (compared_frames overlap brought) ≡ count
+  compared-length =
+      let behind = drop overlap.first_alike brought.frames in
+      length-take-le count behind
+      (omega (arith, within, length-drop overlap.first_alike brought.frames))
+
+  decided : alike_overlap class frames before brought ≡ overlap_if_alike frames brought overlap
+  decided = ap (option_and_then (overlap_if_alike frames brought)) (sym found)
+
+  -- the run has fewer
+  pub alike-few : None ≡ last_places places count → None ≡ alike_overlap class frames before brought
+  alike-few few =
+      sym (decided ∙ at (nat_le (length (compared_frames overlap brought)) (length frames)) refl)
+    where
+      none-some : (b : Bool) → nat_le count (length places) ≡ b
+          → None ≡ cond b (Some (drop (length places - count) places)) None
+          → nat_le count (length places) ≡ false
+      none-some true is e = absurd cc
+      none-some false is e = is
+
+      fewer : nat_le (length (compared_frames overlap brought)) (length frames) ≡ false
+      fewer =
+          ap₂ nat_le compared-length (sym same) ∙ none-some (nat_le count (length places)) refl few
+
+      at : (b : Bool) → nat_le (length (compared_frames overlap brought)) (length frames) ≡ b
+          → cond (nat_le (length (compared_frames overlap brought)) (length frames)
+          && are_frames_alike
+          (drop (length frames - length (compared_frames overlap brought)) frames)
+          (compared_frames overlap brought)) (Some overlap) None ≡ None
+      at b is =
+          ap (λ x. cond (x
+          && are_frames_alike (drop (length frames - length (compared_frames overlap brought))
+          frames) (compared_frames overlap brought)) (Some overlap) None) fewer
+
+  -- its last frames are compared
+  module _ (last : List FramePlace) (is : Some last ≡ last_places places count) where
+    enough : (nat_le count (length places) ≡ true) × (last ≡ drop (length places - count) places)
+    enough = at (nat_le count (length places)) refl is
+      where
+        at : (b : Bool) → nat_le count (length places) ≡ b
+            → Some last ≡ cond b (Some (drop (length places - count) places)) None
+            → (nat_le count (length places) ≡ true) × (last ≡ drop (length places - count) places)
+        at true test e = (test, cc)
+        at false test e = absurd cc
+
+    last-sounds : map (sound_at lists) last
+        ≡ map (λ (x : RunFrame). x.sound) (drop (length frames - count) frames)
+    last-sounds =
+        ap (map (sound_at lists)) enough.1
+        ∙ sym (drop-map (sound_at lists) (length places - count) places)
+        ∙ ap₂ (λ n (l : List (List ℕ)). drop (n - count) l) same sounds
+        ∙ drop-map (λ (x : RunFrame). x.sound) (length frames - count) frames
+
+    last-length : length last ≡ count
+    last-length =
+        let most = leb-true count (length places) enough.0 in
+        omega (arith, ap length enough.1, length-drop (length places - count) places, most)
+
+    tested : ends_alike frames (compared_frames overlap brought)
+        ≡ sounds_from lists number overlap.first_alike last
+    tested =
+        ap (λ m. nat_le m (length frames)
+        && are_frames_alike (drop (length frames - m) frames) (compared_frames overlap brought))
+        compared-length
+        ∙ ap (λ (b : Bool). b && are_frames_alike (drop (length frames - count) frames)
+        (compared_frames overlap brought)) (ap (nat_le count) (sym same) ∙ enough.0)
+        ∙ ap (λ n. are_frames_alike (drop (length frames - count) frames)
+        (take n (drop overlap.first_alike brought.frames))) (sym last-length)
+        ∙ sym (sounds-alike lists number overlap.first_alike brought.frames last (drop
+        (length frames - count) frames) has (omega (arith, within, some, last-length)) last-sounds)
+
+    -- whether the overlap is alike is what the test of these frames says
+    pub alike-tested : (b : Bool) → sounds_from lists number overlap.first_alike last ≡ b
+        → alike_overlap class frames before brought ≡ cond b (Some overlap) None
+    alike-tested b test = decided ∙ ap (λ (x : Bool). cond x (Some overlap) None) (tested ∙ test)

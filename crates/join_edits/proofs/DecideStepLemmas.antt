@@ -1,0 +1,480 @@
+-- One input more is decided.
+use Rattle.std.proofs.Common.{ap, append-nil, append_assoc, ap₂, arith, drop, length, length-append}
+use Rattle.std.proofs.Common.{List, map, Option, refl, slice_get, slice_range, Some, subst, suc}
+use Rattle.std.proofs.Common.{sym, take, unwrap_or, zero, ℕ, [], ◌++◌, ◌+◌, ◌-◌, ◌∙◌, ◌∷◌, ◌≡◌, ◌≤◌}
+use Rattle.std.proofs.lemmas.List.{drop-map, drop_all, length-drop, length-map, length-take}
+use Rattle.std.proofs.lemmas.List.{map-append, take-append-le, take_all}
+use Rattle.std.proofs.lemmas.List.Elements.{All-append, All-cons, All-nil}
+use Rattle.std.proofs.lemmas.List.FromFn.{length-enumerate_from}
+use Rattle.std.specs.{List.{AllZip, enumerate_from}, Prelude.zip}
+use Rattle.exact_span.specs.{PlayedPositions.counted_positions, declared.overlap.Overlap.Overlap}
+use Rattle.frame_header.specs.{Fields.ClassFields, Tables.window_of}
+use Rattle.join_edits.proofs.DecideLemmas.{class-moved, drop-cons, joints-next, last-next}
+use Rattle.join_edits.proofs.DecideLemmas.{moved-append, moved-joined, outs-more, run-next}
+use Rattle.join_edits.proofs.{DecideLemmas.{sound-here, zip-more}, FramePlaceLemmas.get-within}
+use Rattle.join_edits.specs.Deciding.{AreMovedNeeds, BringsNeeds, brought_of, broughts_in}
+use Rattle.join_edits.specs.Deciding.{input_needs, IsDecidedTo, IsDecidingTo, IsSharedOverlap}
+use Rattle.join_edits.specs.{Deciding.{last_brought, left_out_counts}, Join.whole_part}
+use Rattle.join_edits.specs.RestOfInputs.{AreCountsWithin, rest_rows}
+use Rattle.join_edits.specs.Seamless.{run_frame, run_frames}
+use Rattle.join_edits.specs.Sounds.{all_run_frames, AreFramePlaces, IsFramePlace, sound_at}
+use Rattle.join_edits.specs.declared.{beginnings.Beginning.Beginning, decided.Deciding.Deciding}
+use Rattle.laying.specs.Needs.{need_of, needs_of_parts}
+use Rattle.outside.specs.Files.{Contents, Files, IfTold, Told, Untold}
+use Rattle.seam_plan.proofs.{FollowLemmas.joining-sounds, RunSoundLemmas.class-append}
+use Rattle.seam_plan.proofs.SeamLemmas.{joint-adds, joint-by, length-moved}
+use Rattle.seam_plan.specs.Decisions.{alike_overlap, frame_place, frame_places, IsBroughtInput}
+use Rattle.seam_plan.specs.Decisions.{IsJoint, IsRun, IsSoundRun, joined_needs, JoinsRun}
+use Rattle.seam_plan.specs.Frames.{Brought, needs_of, RunFrame}
+use Rattle.seam_plan.specs.Seams.{joint_of, JointFrames, joints_of, left_out_count, run_with}
+use Rattle.seam_plan.specs.declared.{input.Input.Input, run.FramePlace.FramePlace}
+use Rattle.seam_plan.specs.declared.run.Joint.{Joint as CodeJoint}
+use Rattle.slot_plan.{proofs.PartLemmas.class-drop, specs.Parts.AreNeedsOfClass}
+use Rattle.slot_plan.specs.declared.needs.Need.{Need}
+use Rattle.sync_survey.specs.Faults.{stream_of_survey, SurveyFields}
+use Rattle.sync_survey.specs.{MainData.{stream_frames, StreamFrame}, Row.Row}
+
+-- ---- what an input brings
+
+zip-needs : (class : ClassFields) (rows : List Row) (stream : List StreamFrame) → length rows
+    ≡ length stream → needs_of (map (run_frame class) (zip rows stream)) ≡ map need_of rows
+zip-needs class [] [] long = refl
+zip-needs class [] (f ∷ stream) long = absurd (omega (arith, long))
+zip-needs class (r ∷ rows) [] long = absurd (omega (arith, long))
+zip-needs class (r ∷ rows) (f ∷ stream) long =
+    ap (λ (l : List Need). need_of r ∷ l) (zip-needs class rows stream (omega (arith, long)))
+
+range-all : {X : Type 0} (n : ℕ) (xs : List X) → n ≡ length xs → slice_range xs 0 n ≡ xs
+range-all n xs is = take_all (n - 0) xs (omega (arith, is))
+
+stream-length : (file : List ℕ) (s : SurveyFields)
+    → length (stream_of_survey file s) ≡ length s.frames
+unfolding stream_of_survey stream_frames
+stream-length file s = length-map (enumerate_from 0 s.frames) _ ∙ length-enumerate_from 0 s.frames
+
+-- all frames of the input, each with what it needs
+pub brought-needs : (file : List ℕ) (s : SurveyFields)
+    → needs_of (run_frames (whole_part file s)) ≡ input_needs s
+brought-needs file s =
+    ap₂ (λ (rows : List Row) (stream : List StreamFrame).
+    needs_of (map (run_frame s.class) (zip rows stream)))
+    (range-all (length s.frames) s.frames refl)
+    (range-all (length s.frames) (stream_of_survey file s) (sym (stream-length file s)))
+    ∙ zip-needs s.class s.frames (stream_of_survey file s) (sym (stream-length file s))
+
+-- what an input brings by its file needs what its survey tells
+pub brings-told : (file : List ℕ) (s : SurveyFields) (b : Beginning)
+    → BringsNeeds s b (brought_of file s b)
+brings-told file s b = record { needs = brought-needs file s; blank = refl; played = refl }
+
+-- where nothing is told, frames without a sound
+abbrev pub silent_frame : Need → RunFrame
+silent_frame n = record { need = n; sound = [] }
+
+-- what such frames need is what they were made of
+pub silent-needs : (needs : List Need) → needs_of (map silent_frame needs) ≡ needs
+silent-needs [] = refl
+silent-needs (n ∷ needs) = ap (λ (l : List Need). n ∷ l) (silent-needs needs)
+
+abbrev pub silent_brought : SurveyFields → Beginning → Brought
+silent_brought s b = record {
+  frames = map silent_frame (input_needs s);
+  blank = b.blank;
+  played = counted_positions b.head s.class (length s.frames);
+}
+
+-- such frames are what the input brings, but for the sounds
+pub brings-silent : (s : SurveyFields) (b : Beginning) → BringsNeeds s b (silent_brought s b)
+brings-silent s b = record { needs = silent-needs (input_needs s); blank = refl; played = refl }
+
+-- ---- the sounds of frames that join
+
+abbrev map-sounds : List RunFrame → List (List ℕ)
+map-sounds frames = map (λ (f : RunFrame). f.sound) frames
+
+abbrev Keeps : Brought → JointFrames → Type 0
+Keeps brought joint =
+    map-sounds joint.frames ≡ map-sounds (drop (left_out_count joint.seam) brought.frames)
+
+-- they are those of the frames that are left
+joint-keeps : (class : ClassFields) (run : List RunFrame) (before brought : Brought)
+    → Keeps brought (joint_of class run before brought)
+joint-keeps class run before brought =
+    joint-by class run before brought (Keeps brought)
+    (λ seam frames is.
+    joining-sounds (window_of class.version) run
+    (drop (left_out_count seam) brought.frames) frames is)
+    refl
+
+-- ---- lists with one more
+
+within-more : (ss : List SurveyFields) (froms : List ℕ) (s : SurveyFields) (from : ℕ)
+    → length froms ≡ length ss → AreCountsWithin ss froms → from ≤ length s.frames
+    → AreCountsWithin (ss ++ s ∷ []) (froms ++ from ∷ [])
+within-more [] [] s from long are is = (is, tt)
+within-more [] (n ∷ froms) s from long are is = absurd (omega (arith, long))
+within-more (t ∷ ss) [] s from long are is = absurd are
+within-more (t ∷ ss) (n ∷ froms) s from long are is =
+    (are.0, within-more ss froms s from (omega (arith, long)) are.1 is)
+
+rows-more : (ss : List SurveyFields) (froms : List ℕ) (s : SurveyFields) (from : ℕ)
+    → length froms ≡ length ss → needs_of_parts (rest_rows (ss ++ s ∷ []) (froms ++ from ∷ []))
+    ≡ needs_of_parts (rest_rows ss froms)
+    ++ map need_of (slice_range s.frames from (length s.frames))
+unfolding rest_rows needs_of_parts
+rows-more [] [] s from long = append-nil (map need_of (slice_range s.frames from (length s.frames)))
+rows-more [] (n ∷ froms) s from long = absurd (omega (arith, long))
+rows-more (t ∷ ss) [] s from long = absurd (omega (arith, long))
+rows-more (t ∷ ss) (n ∷ froms) s from long =
+    let own = map need_of (slice_range t.frames n (length t.frames)) in
+    ap (λ (l : List Need). own ++ l) (rows-more ss froms s from (omega (arith, long)))
+    ∙ sym (append_assoc own (needs_of_parts (rest_rows ss froms))
+    (map need_of (slice_range s.frames from (length s.frames))))
+
+-- the rows from one on need what all rows do but those before it
+pub range-behind : (s : SurveyFields) (from : ℕ)
+    → map need_of (slice_range s.frames from (length s.frames)) ≡ drop from (input_needs s)
+range-behind s from =
+    ap (map need_of) (take_all (length s.frames - from) (drop from s.frames)
+    (omega (arith, length-drop from s.frames)))
+    ∙ sym (drop-map need_of from s.frames)
+
+-- the items up to a place and the one there are one item more
+pub take-more : {X : Type 0} (xs : List X) (n : ℕ) (x : X) → slice_get xs n ≡ Some x
+    → take (n + 1) xs ≡ take n xs ++ x ∷ []
+take-more [] n x is = absurd cc
+take-more (y ∷ xs) zero x is = ap (λ z. z ∷ []) cc
+take-more (y ∷ xs) (suc n) x is =
+    let more : suc n + 1 ≡ suc (n + 1) = omega arith in
+    ap (λ k. take k (y ∷ xs)) more ∙ ap (λ l. y ∷ l) (take-more xs n x is)
+
+-- so many places from one on are places of frames, if the input has so many frames
+pub places-at : (ss : List SurveyFields) (number : ℕ) (s : SurveyFields) (from count : ℕ)
+    → slice_get ss number ≡ Some s → from + count ≤ length s.frames
+    → AreFramePlaces ss (frame_places number from count)
+places-at ss number s from zero is within = All-nil (IsFramePlace ss)
+places-at ss number s from (suc count) is within =
+    All-cons (IsFramePlace ss) (frame_place number from) (frame_places number (from + 1) count)
+    (record { survey = s; input = is; frame = omega (arith, within) })
+    (places-at ss number s (from + 1) count is (omega (arith, within)))
+
+-- the sounds of the frames of an input from one on
+pub places-sound : (lists : List (List RunFrame)) (number from count : ℕ) (all : List RunFrame)
+    → slice_get lists number ≡ Some all → from + count ≡ length all
+    → map (sound_at lists) (frame_places number from count) ≡ map-sounds (drop from all)
+places-sound lists number from count all has is = at count from all has is
+  where
+    at : (count from : ℕ) (all : List RunFrame) → slice_get lists number ≡ Some all
+        → from + count ≡ length all
+        → map (sound_at lists) (frame_places number from count) ≡ map-sounds (drop from all)
+    at zero from all has is = sym (ap map-sounds (drop_all from all (omega (arith, is))))
+    at (suc count) from all has is =
+        let next = drop-cons from all (omega (arith, is)) in
+        ap₂ (λ (x : List ℕ) (l : List (List ℕ)). x ∷ l) (sound-here lists number from all next.0 has
+        next.1) (at count (from + 1) all has (omega (arith, is)))
+        ∙ sym (ap map-sounds next.2)
+
+-- what the input with this number brings
+pub broughts-get : (f : Contents) (names : List (List ℕ)) (ss : List SurveyFields)
+    (bs : List Beginning) (n : ℕ) (name : List ℕ) (s : SurveyFields) (b : Beginning)
+    → slice_get names n ≡ Some name → slice_get ss n ≡ Some s → slice_get bs n ≡ Some b
+    → slice_get (broughts_in f names ss bs) n ≡ Some (brought_of (unwrap_or (f name) []) s b)
+unfolding broughts_in
+broughts-get f [] ss bs n name s b is found begun = absurd cc
+broughts-get f (m ∷ names) [] bs n name s b is found begun = absurd cc
+broughts-get f (m ∷ names) (t ∷ ss) [] n name s b is found begun = absurd cc
+broughts-get f (m ∷ names) (t ∷ ss) (c ∷ bs) zero name s b is found begun =
+    let names-same : m ≡ name = cc in
+    let surveys-same : t ≡ s = cc in
+    let begun-same : c ≡ b = cc in
+    ap₂ (λ (k : List ℕ) (u : SurveyFields). Some (brought_of (unwrap_or (f k) []) u c)) names-same
+    surveys-same
+    ∙ ap (λ (d : Beginning). Some (brought_of (unwrap_or (f name) []) s d)) begun-same
+broughts-get f (m ∷ names) (t ∷ ss) (c ∷ bs) (suc n) name s b is found begun =
+    broughts-get f names ss bs n name s b is found begun
+
+-- the frames of the input with this number
+pub frames-get : (f : Contents) (names : List (List ℕ)) (ss : List SurveyFields) (n : ℕ)
+    (name : List ℕ) (s : SurveyFields) → slice_get names n ≡ Some name → slice_get ss n ≡ Some s
+    → slice_get (all_run_frames f names ss) n
+    ≡ Some (run_frames (whole_part (unwrap_or (f name) []) s))
+unfolding all_run_frames
+frames-get f [] ss n name s is found = absurd cc
+frames-get f (m ∷ names) [] n name s is found = absurd cc
+frames-get f (m ∷ names) (t ∷ ss) zero name s is found =
+    let names-same : m ≡ name = cc in
+    let surveys-same : t ≡ s = cc in
+    ap₂ (λ (k : List ℕ) (u : SurveyFields). Some (run_frames (whole_part (unwrap_or (f k) []) u)))
+    names-same surveys-same
+frames-get f (m ∷ names) (t ∷ ss) (suc n) name s is found = frames-get f names ss n name s is found
+
+-- ---- the step
+
+-- what was made of the input with this number
+pub record IsAdded (number : ℕ) (input : Input) (alike : Option Overlap) (joint : CodeJoint)
+    (old new : Deciding) : Type 0 where
+  pub joints : new.joints.items ≡ old.joints.items ++ joint ∷ []
+  pub needs : new.needs.items
+      ≡ old.needs.items
+      ++ joined_needs joint.slot (drop (left_out_count joint.seam) input.needs.now)
+  pub out : left_out_count joint.seam ≤ length input.needs.now
+  pub sound : IsSoundRun new.run
+  pub goes : (class : ClassFields) (frames more : List RunFrame) (places : List FramePlace)
+      (before brought : Brought) → IsRun class frames places before old.run
+      → IsBroughtInput input brought
+      → needs_of more ≡ joined_needs joint.slot (drop (left_out_count joint.seam) input.needs.now)
+      → IsRun class (frames ++ more)
+      (places ++ frame_places number (left_out_count joint.seam) (length more)) brought new.run
+  pub joins : (class : ClassFields) (frames : List RunFrame) (places : List FramePlace)
+      (before brought : Brought) → IsRun class frames places before old.run
+      → IsBroughtInput input brought → alike ≡ alike_overlap class frames before brought
+      → JoinsRun class number frames places before brought joint new.run
+
+-- the input with this number is the one of this survey
+pub record IsInputOf (ss : List SurveyFields) (bs : List Beginning) (number : ℕ)
+    (class : ClassFields) (input : Input) : Type 0 where
+  pub survey : SurveyFields
+  pub found : slice_get ss number ≡ Some survey
+  pub beginning : Beginning
+  pub begun : slice_get bs number ≡ Some beginning
+  pub needs : input.needs.now ≡ input_needs survey
+  pub blank : input.blank ≡ beginning.blank
+  pub played : input.played ≡ counted_positions beginning.head survey.class (length survey.frames)
+  pub same : AreNeedsOfClass class input.needs.now
+
+is-brought : (ss : List SurveyFields) (bs : List Beginning) (number : ℕ) (class : ClassFields)
+    (input : Input) (of : IsInputOf ss bs number class input) (brought : Brought)
+    → BringsNeeds of.survey of.beginning brought → IsBroughtInput input brought
+is-brought ss bs number class input of brought brings = record {
+  needs = of.needs ∙ sym brings.needs;
+  blank = of.blank ∙ sym brings.blank;
+  played = of.played ∙ sym brings.played;
+}
+
+module _ (files : Files) (names : List (List ℕ)) (ss : List SurveyFields) (bs : List Beginning)
+    (number : ℕ) (input : Input) (alike : Option Overlap) (joint : CodeJoint)
+    (old new : Deciding) (so_far : IsDecidingTo files names ss bs number old) (of : IsInputOf ss bs
+    number so_far.class input) (added : IsAdded number input alike joint old new) where
+  abbrev out : ℕ
+  out = left_out_count joint.seam
+
+  abbrev left : List Need
+  left = joined_needs joint.slot (drop out input.needs.now)
+
+  many-more : (more : List RunFrame) → needs_of more ≡ left
+      → out + length more ≡ length of.survey.frames
+  many-more more adds =
+      let n : length input.needs.now ≡ length of.survey.frames =
+      ap length of.needs ∙ length-map of.survey.frames need_of in
+      omega (
+        arith,
+        sym (length-map more (λ (f : RunFrame). f.need)) ∙ ap length adds
+            ∙ length-moved joint.slot (drop out input.needs.now),
+        length-drop out input.needs.now,
+        n,
+        added.out,
+      )
+
+  outs-next : 0 ∷ left_out_counts new.joints.items
+      ≡ (0 ∷ left_out_counts old.joints.items) ++ out ∷ []
+  outs-next =
+      ap (λ (l : List ℕ). 0 ∷ l)
+      (ap left_out_counts added.joints ∙ outs-more old.joints.items joint)
+
+  outs-long : length (0 ∷ left_out_counts old.joints.items) ≡ length (take number ss)
+  outs-long =
+      omega (
+        arith,
+        so_far.many,
+        length-map old.joints.items (λ (j : CodeJoint). left_out_count j.seam),
+        length-take number ss,
+        get-within ss number of.survey of.found,
+      )
+
+  ss-next : take (number + 1) ss ≡ take number ss ++ of.survey ∷ []
+  ss-next = take-more ss number of.survey of.found
+
+  out-within : out ≤ length of.survey.frames
+  out-within = omega (arith, added.out, ap length of.needs, length-map of.survey.frames need_of)
+
+  -- the state with these frames more
+  build : (brought : Brought) (more : List RunFrame) → BringsNeeds of.survey of.beginning brought
+      → needs_of more ≡ left → IfTold files (λ f. IsDecidedTo so_far.class (take (number + 1)
+      (broughts_in f names ss bs)) (all_run_frames f names ss) (so_far.frames ++ more)
+      (so_far.places ++ frame_places number out (length more)) brought new.joints.items)
+      → IsDecidingTo files names ss bs (number + 1) new
+  build brought more brings adds told = record {
+    class = so_far.class;
+    class_is = so_far.class_is;
+    frames = so_far.frames ++ more;
+    places = so_far.places ++ frame_places number out (length more);
+    before = brought;
+    is_run = added.goes so_far.class so_far.frames more so_far.places so_far.before brought
+        so_far.is_run (is-brought ss bs number so_far.class input of brought brings) adds;
+    sound = added.sound;
+    needs =
+        added.needs ∙ ap₂ (λ (a b : List Need). a ++ b) so_far.needs (sym adds)
+        ∙ sym (map-append (λ (f : RunFrame). f.need) so_far.frames more);
+    at =
+        All-append (IsFramePlace ss) so_far.places (frame_places number out (length more)) so_far.at
+        (places-at ss number of.survey out
+        (length more) of.found (omega (arith, many-more more adds)));
+    many = omega
+        (arith, ap length added.joints, length-append old.joints.items (joint ∷ []), so_far.many);
+    within = subst (AreCountsWithin (take (number + 1) ss)) (sym outs-next)
+        (subst (λ (l : List SurveyFields). AreCountsWithin l
+        ((0 ∷ left_out_counts old.joints.items) ++ out ∷ []))
+        (sym ss-next)
+        (within-more (take number ss)
+        (0 ∷ left_out_counts old.joints.items) of.survey out outs-long so_far.within out-within));
+    moved =
+        let behind =
+        needs_of_parts (rest_rows (take number ss) (0 ∷ left_out_counts old.joints.items)) in
+        let same : needs_of_parts
+        (rest_rows (take (number + 1) ss) (0 ∷ left_out_counts new.joints.items))
+        ≡ behind ++ drop out input.needs.now =
+        ap₂ (λ (l : List SurveyFields) (m : List ℕ). needs_of_parts (rest_rows l m)) ss-next
+        outs-next
+        ∙ rows-more (take number ss) (0 ∷ left_out_counts old.joints.items) of.survey out outs-long
+        ∙ ap (λ (l : List Need). behind ++ l)
+        (range-behind of.survey out ∙ ap (drop out) (sym of.needs)) in
+        subst (λ (l : List Need). AreMovedNeeds l
+        (needs_of_parts (rest_rows (take (number + 1) ss) (0 ∷ left_out_counts new.joints.items))))
+        (sym added.needs)
+        (subst (AreMovedNeeds (old.needs.items ++ left)) (sym same)
+        (moved-append old.needs.items behind left (drop out input.needs.now)
+        so_far.moved (moved-joined joint.slot (drop out input.needs.now))));
+    same = subst (AreNeedsOfClass so_far.class) (sym added.needs)
+        (class-append so_far.class old.needs.items left so_far.same
+        (class-moved so_far.class joint.slot (drop out input.needs.now)
+        (class-drop so_far.class input.needs.now out of.same)));
+    begins = λ s is.
+        let first = so_far.begins s is in
+        let n : length s.frames ≤ length old.needs.items =
+        omega (
+          arith,
+          length-take (length s.frames) old.needs.items,
+          ap length first,
+          length-map s.frames need_of,
+        ) in
+        ap (take (length s.frames)) added.needs
+        ∙ take-append-le (length s.frames) old.needs.items left n ∙ first;
+    told = told;
+  }
+
+-- what is decided of the inputs that are told
+module _ (f : Contents) (names : List (List ℕ)) (ss : List SurveyFields) (bs : List Beginning)
+    (number : ℕ) (input : Input) (alike : Option Overlap) (joint : CodeJoint)
+    (old new : Deciding) (so_far : IsDecidingTo (Told f) names ss bs number old) (of : IsInputOf ss
+    bs number so_far.class input) (added : IsAdded number input alike joint old new)
+    (name : List ℕ) (named : slice_get names number ≡ Some name)
+    (is : IsSharedOverlap (Told f) names ss number old.run input alike) where
+  abbrev file : List ℕ
+  file = unwrap_or (f name) []
+
+  abbrev next : Brought
+  next = brought_of file of.survey of.beginning
+
+  abbrev lists : List (List RunFrame)
+  lists = all_run_frames f names ss
+
+  abbrev decided : JointFrames
+  decided = joint_of so_far.class so_far.frames so_far.before next
+
+  brings : IsBroughtInput input next
+  brings =
+      is-brought ss bs number so_far.class input of next (brings-told file of.survey of.beginning)
+
+  has : slice_get lists number ≡ Some next.frames
+  has = frames-get f names ss number name of.survey named of.found
+
+  same : alike ≡ alike_overlap so_far.class so_far.frames so_far.before next
+  same = is so_far.class so_far.frames so_far.places so_far.before next so_far.is_run brings
+      so_far.told.sounds has
+
+  joined : IsJoint decided joint
+  joined = (added.joins so_far.class so_far.frames so_far.places so_far.before next
+      so_far.is_run brings same).joint
+
+  adds : needs_of decided.frames
+      ≡ joined_needs joint.slot (drop (left_out_count joint.seam) input.needs.now)
+  adds =
+      joint-adds so_far.class so_far.frames so_far.before next joint joined
+      ∙ ap₂ (λ n (l : List Need). joined_needs joint.slot (drop n l))
+      (sym (ap left_out_count joined.seam))
+      (sym brings.needs)
+
+  all-sounds : map (sound_at lists)
+      (so_far.places ++ frame_places number (left_out_count joint.seam) (length decided.frames))
+      ≡ map-sounds (so_far.frames ++ decided.frames)
+  all-sounds =
+      map-append (sound_at lists)
+      so_far.places (frame_places number (left_out_count joint.seam) (length decided.frames))
+      ∙ ap₂ (λ (a b : List (List ℕ)). a ++ b) so_far.told.sounds
+      (places-sound lists number (left_out_count joint.seam) (length decided.frames) next.frames has
+      (many-more (Told f) names ss bs number input alike joint old new so_far of added
+      decided.frames adds ∙ sym next-length)
+      ∙ ap (λ n. map-sounds (drop n next.frames)) (ap left_out_count joined.seam)
+      ∙ sym (joint-keeps so_far.class so_far.frames so_far.before next))
+      ∙ sym (map-append (λ (x : RunFrame). x.sound) so_far.frames decided.frames)
+    where
+      next-length : length next.frames ≡ length of.survey.frames
+      next-length = sym (length-map next.frames (λ (x : RunFrame). x.need))
+          ∙ ap length (brought-needs file of.survey) ∙ length-map of.survey.frames need_of
+
+  told-next : IsDecidedTo so_far.class (take (number + 1) (broughts_in f names ss bs)) lists
+      (so_far.frames ++ decided.frames)
+      (so_far.places ++ frame_places number (left_out_count joint.seam) (length decided.frames))
+      next
+      new.joints.items
+  told-next =
+      let told = so_far.told in
+      let first = told.first in
+      let others = told.others in
+      let here : joint_of so_far.class (run_with first (joints_of so_far.class first others))
+      (last_brought first others) next ≡ decided =
+      ap₂ (λ (r : List RunFrame) (b : Brought). joint_of so_far.class r b next) (sym told.run)
+      (sym told.last) in
+      record {
+        first = first;
+        others = others ++ next ∷ [];
+        are =
+            take-more (broughts_in f names ss bs) number next
+            (broughts-get f names ss bs number name of.survey of.beginning named of.found of.begun)
+            ∙ ap (λ (l : List Brought). l ++ next ∷ []) told.are;
+        last = sym (last-next first others next);
+        run =
+            ap₂ (λ (a : List RunFrame) (j : JointFrames). a ++ j.frames) told.run (sym here)
+            ∙ sym (run-next so_far.class first others next);
+        joints_are =
+            subst (AllZip IsJoint (joints_of so_far.class first (others ++ next ∷ [])))
+            (sym added.joints)
+            (subst (λ (l : List JointFrames). AllZip IsJoint l (old.joints.items ++ joint ∷ []))
+            (sym (joints-next so_far.class first others next
+            ∙ ap (λ (j : JointFrames). joints_of so_far.class first others ++ j ∷ []) here))
+            (zip-more (joints_of so_far.class first others) old.joints.items decided joint
+            told.joints_are joined));
+        sounds = all-sounds;
+      }
+
+  -- where the files are told, it is so with one input more
+  pub told-step : IsDecidingTo (Told f) names ss bs (number + 1) new
+  told-step = build (Told f) names ss bs number input alike joint old new so_far of added next
+      decided.frames (brings-told file of.survey of.beginning) adds told-next
+
+-- so it is with one input more
+pub decided-step : (files : Files) (names : List (List ℕ)) (ss : List SurveyFields)
+    (bs : List Beginning) (number : ℕ) (input : Input) (alike : Option Overlap) (joint : CodeJoint)
+    (old new : Deciding) (so_far : IsDecidingTo files names ss bs number old)
+    (of : IsInputOf ss bs number so_far.class input) → IsAdded number input alike joint old new
+    → (name : List ℕ) → slice_get names number ≡ Some name
+    → IsSharedOverlap files names ss number old.run input alike
+    → IsDecidingTo files names ss bs (number + 1) new
+decided-step (Told f) names ss bs number input alike joint old new so_far of added name named is =
+    told-step f names ss bs number input alike joint old new so_far of added name named is
+decided-step (Untold touched) names ss bs number input alike joint old new so_far of added name
+    named is =
+    let left = joined_needs joint.slot (drop (left_out_count joint.seam) input.needs.now) in
+    build (Untold touched) names ss bs number input alike joint old new so_far of added
+    (silent_brought of.survey of.beginning) (map silent_frame left)
+    (brings-silent of.survey of.beginning) (silent-needs left) tt

@@ -1,0 +1,379 @@
+-- Frames of inputs by their places: what they sound like, and their main data.
+use Rattle.std.proofs.Common.{ap, ap₂, arith, bytes_eq, drop, false, get_or, length, List, map}
+use Rattle.std.proofs.Common.{Option, option_and_then, refl, slice_get, slice_range, Some, subst}
+use Rattle.std.proofs.Common.{suc, sym, take, true, zero, zip, ℕ, [], ◌&&◌, ◌+◌, ◌-◌, ◌<◌, ◌∙◌, ◌∷◌}
+use Rattle.std.{proofs.{Common.◌≡◌, lemmas.List.length-map}, specs.List.enumerate_from}
+use Rattle.std.specs.Prelude.{All, slice_index_or, unwrap_or}
+use Rattle.frame_header.specs.{Fields.{ClassFields, HeaderFields}, HeaderBits.header_bits}
+use Rattle.frame_header.specs.Tables.{class_of}
+use Rattle.frame_writer.specs.Frames.{Frame}
+use Rattle.join_edits.{proofs.SoundLemmas.sounds-tested, specs.Join.whole_part}
+use Rattle.join_edits.specs.Reading.{AreHeld, IsHeld, IsMainDataOf}
+use Rattle.join_edits.specs.Seamless.{run_frame, run_frames, sound_of}
+use Rattle.join_edits.specs.Sounds.{all_run_frames, AreSurveysOfClass, compared_side, frame_row}
+use Rattle.join_edits.specs.Sounds.{IsFramePlace, named_payload, payload_at_place, row_at}
+use Rattle.join_edits.specs.Sounds.{row_payload, same_front, same_sounds, sound_at, sound_of_frame}
+use Rattle.join_edits.specs.Sounds.{without_slot}
+use Rattle.laying.proofs.{RelayLemmas.found-at, SurveyFrameLemmas.{own-entry, own-stream}}
+use Rattle.laying.specs.{LaidFiles.{IsStreamEntry, stream_entry}, Relaid.survey_frame}
+use Rattle.laying.specs.Surveys.{AreWholeRows, CanBeRelaid, IsWholeRow}
+use Rattle.outside.proofs.FilesLemmas.{there_holds}
+use Rattle.outside.specs.Files.{Contents, Files, IfTold, Told, Untold}
+use Rattle.seam_plan.specs.{Frames.RunFrame, declared.run.FramePlace.FramePlace}
+use Rattle.side_info.specs.{Side.side_bits, declared.side.Side.Side}
+use Rattle.sync_survey.specs.Faults.{stream_of_survey, SurveyFields}
+use Rattle.sync_survey.specs.MainData.{main_bytes, row_side, stream_frame, stream_frames}
+use Rattle.sync_survey.specs.{MainData.StreamFrame, Row.Row}
+
+-- ---- lists by their places
+
+-- what a list is mapped to has the item's image at the same place
+pub map-get : {X Y : Type 0} (f : X → Y) (xs : List X) (i : ℕ) (x : X) → slice_get xs i ≡ Some x
+    → slice_get (map f xs) i ≡ Some (f x)
+map-get f [] i x is = absurd cc
+map-get f (y ∷ xs) zero x is = let same : y ≡ x = cc in ap (λ z. Some (f z)) same
+map-get f (y ∷ xs) (suc i) x is = map-get f xs i x is
+
+zip-get : {X Y : Type 0} (xs : List X) (ys : List Y) (i : ℕ) (x : X) (y : Y)
+    → slice_get xs i ≡ Some x → slice_get ys i ≡ Some y → slice_get (zip xs ys) i ≡ Some (x, y)
+zip-get [] ys i x y first second = absurd cc
+zip-get (v ∷ xs) [] i x y first second = absurd cc
+zip-get (v ∷ xs) (w ∷ ys) zero x y first second =
+    let one : v ≡ x = cc in
+    let other : w ≡ y = cc in
+    ap₂ (λ a b. Some (a, b)) one other
+zip-get (v ∷ xs) (w ∷ ys) (suc i) x y first second = zip-get xs ys i x y first second
+
+take-get : {X : Type 0} (n : ℕ) (xs : List X) (i : ℕ) (x : X) → i < n → slice_get xs i ≡ Some x
+    → slice_get (take n xs) i ≡ Some x
+take-get zero xs i x within is = absurd (omega (arith, within))
+take-get (suc n) [] i x within is = absurd cc
+take-get (suc n) (y ∷ xs) zero x within is = is
+take-get (suc n) (y ∷ xs) (suc i) x within is = take-get n xs i x (omega (arith, within)) is
+
+-- those of a list up to a place
+front-get : {X : Type 0} (n : ℕ) (xs : List X) (i : ℕ) (x : X) → i < n → slice_get xs i ≡ Some x
+    → slice_get (slice_range xs 0 n) i ≡ Some x
+front-get n xs i x within is = take-get (n - 0) xs i x (omega (arith, within)) is
+
+-- the place of an item is less than the length of the list
+pub get-within : {X : Type 0} (xs : List X) (i : ℕ) (x : X) → slice_get xs i ≡ Some x
+    → i < length xs
+get-within [] i x is = absurd cc
+get-within (y ∷ xs) zero x is = omega arith
+get-within (y ∷ xs) (suc i) x is = omega (arith, get-within xs i x is)
+
+-- there is an item at each place less than the length
+pub get-some : {X : Type 0} (xs : List X) (i : ℕ) → i < length xs
+    → (x : X) × (slice_get xs i ≡ Some x)
+get-some [] i within = absurd (omega (arith, within))
+get-some (y ∷ xs) zero within = (y, refl)
+get-some (y ∷ xs) (suc i) within = get-some xs i (omega (arith, within))
+
+-- there is one item at a place
+pub get-one : {X : Type 0} (xs : List X) (i : ℕ) (x y : X) → slice_get xs i ≡ Some x
+    → slice_get xs i ≡ Some y → x ≡ y
+get-one xs i x y first second = one (sym first ∙ second)
+  where
+    one : Some x ≡ Some y → x ≡ y
+    one e = cc
+
+-- the first of the items from a place on is the one there
+pub drop-get : {X : Type 0} (xs rest : List X) (i : ℕ) (x : X) → drop i xs ≡ x ∷ rest
+    → slice_get xs i ≡ Some x
+drop-get [] rest zero x is = absurd cc
+drop-get [] rest (suc i) x is = absurd cc
+drop-get (y ∷ xs) rest zero x is = let same : y ≡ x = cc in ap Some same
+drop-get (y ∷ xs) rest (suc i) x is = drop-get xs rest i x is
+
+-- or a given one where there is none
+pub get-index : {X : Type 0} (xs : List X) (i : ℕ) (x other : X) → slice_get xs i ≡ Some x
+    → x ≡ slice_index_or xs i other
+get-index [] i x other is = absurd cc
+get-index (y ∷ xs) zero x other is = cc
+get-index (y ∷ xs) (suc i) x other is = get-index xs i x other is
+
+all-get : {X : Type 0} (P : X → Type 0) (xs : List X) (i : ℕ) (x : X) → All P xs
+    → slice_get xs i ≡ Some x → P x
+all-get P xs i x are is = subst P (sym (get-index xs i x x is)) (are i x (get-within xs i x is))
+
+enumerated-get : {X : Type 0} (f : ℕ → Row → X) (n : ℕ) (rows : List Row) (i : ℕ) (r : Row)
+    → slice_get rows i ≡ Some r
+    → slice_get (map (λ (p : ℕ × Row). f p.0 p.1) (enumerate_from n rows)) i ≡ Some (f (n + i) r)
+enumerated-get f n [] i r is = absurd cc
+enumerated-get f n (q ∷ rows) zero r is =
+    let same : q ≡ r = cc in
+    let at : n ≡ n + 0 = omega arith in
+    ap₂ (λ m x. Some (f m x)) at same
+enumerated-get f n (q ∷ rows) (suc i) r is =
+    let at : n + 1 + i ≡ n + suc i = omega arith in
+    enumerated-get f (n + 1) rows i r is ∙ ap (λ m. Some (f m r)) at
+
+-- ---- a frame of an input
+
+whole-at : (file : List ℕ) (rows : List Row) (i : ℕ) (r : Row) → AreWholeRows file rows
+    → slice_get rows i ≡ Some r → IsWholeRow file r
+whole-at file [] i r are is = absurd cc
+whole-at file (q ∷ rows) zero r are is = let same : q ≡ r = cc in subst (IsWholeRow file) same are.0
+whole-at file (q ∷ rows) (suc i) r are is = whole-at file rows i r are.1 is
+
+module _ (file : List ℕ) (s : SurveyFields) (i : ℕ) (r : Row)
+    (found : slice_get s.frames i ≡ Some r) where
+  abbrev in_stream : StreamFrame
+  in_stream = stream_frame (main_bytes file s.head s.frames) s.head s.frames i r
+
+  stream-get : slice_get (stream_of_survey file s) i ≡ Some in_stream
+  unfolding stream_of_survey stream_frames
+  stream-get =
+      let at : 0 + i ≡ i = omega arith in
+      let frame = stream_frame (main_bytes file s.head s.frames) s.head s.frames in
+      enumerated-get frame 0 s.frames i r found ∙ ap (λ n. Some (frame n r)) at
+
+  run-get : slice_get (run_frames (whole_part file s)) i ≡ Some (run_frame s.class (r, in_stream))
+  run-get =
+      let within = get-within s.frames i r found in
+      let rows = front-get (length s.frames) s.frames i r within found in
+      let stream = front-get (length s.frames) (stream_of_survey file s) i in_stream within
+      stream-get in
+      map-get (run_frame s.class) (zip (slice_range s.frames 0 (length s.frames))
+      (slice_range (stream_of_survey file s) 0 (length s.frames))) i (r, in_stream)
+      (zip-get (slice_range s.frames 0 (length s.frames))
+      (slice_range (stream_of_survey file s) 0 (length s.frames)) i r in_stream rows stream)
+
+  module _ (has : CanBeRelaid file s) where
+    -- the frame of this row is one of the class, and has its main data
+    pub entry-here : IsStreamEntry s.class (survey_frame file s i r)
+    entry-here = own-entry file s.head s.class s.frames has.head has.rows has.placed i r found
+        (whole-at file s.frames i r has.rows found)
+
+    entry-in : stream_entry (survey_frame file s i r) ≡ in_stream
+    entry-in = own-stream file s.head s.class s.frames has.head has.rows has.placed i r found
+        (whole-at file s.frames i r has.rows found)
+
+    sound-in : (option_and_then (λ (frames : List RunFrame). slice_get frames i)
+        (Some (run_frames (whole_part file s))))
+        ≡ Some (run_frame s.class (r, stream_entry (survey_frame file s i r)))
+    sound-in = run-get ∙ ap (λ (f : StreamFrame). Some (run_frame s.class (r, f))) (sym entry-in)
+
+-- ---- a frame of inputs
+
+-- an input of these has a name, and so much is known of it
+pub known-at : (files : Files) (names : List (List ℕ)) (ss : List SurveyFields) (i : ℕ)
+    (s : SurveyFields) → AreHeld files names ss → slice_get ss i ≡ Some s
+    → (name : List ℕ) × (slice_get names i ≡ Some name) × IsHeld files name s
+known-at files [] [] i s known is = absurd cc
+known-at files [] (t ∷ ss) i s known is = absurd known
+known-at files (n ∷ names) [] i s known is = absurd cc
+known-at files (n ∷ names) (t ∷ ss) zero s known is =
+    let same : t ≡ s = cc in (n, refl, subst (IsHeld files n) same known.0)
+known-at files (n ∷ names) (t ∷ ss) (suc i) s known is = known-at files names ss i s known.1 is
+
+-- so it is with the name that is at its place
+pub held-at : (files : Files) (names : List (List ℕ)) (ss : List SurveyFields) (i : ℕ)
+    (name : List ℕ) (s : SurveyFields) → AreHeld files names ss
+    → slice_get names i ≡ Some name → slice_get ss i ≡ Some s → IsHeld files name s
+held-at files names ss i name s known named given =
+    let held = known-at files names ss i s known given in
+    subst (λ (n : List ℕ). IsHeld files n s) (get-one names i held.0 name held.1 named) held.2
+
+-- the input is one of these
+pub input-within : (files : Files) (names : List (List ℕ)) (ss : List SurveyFields)
+    (place : FramePlace) → AreHeld files names ss → IsFramePlace ss place
+    → place.input < length names
+input-within files names ss place known at =
+    get-within names place.input (known-at files names ss place.input at.survey known at.input).0
+    (known-at files names ss place.input at.survey known at.input).1
+
+-- its frame is one of these
+pub frame-within : (ss : List SurveyFields) (place : FramePlace) (s : SurveyFields)
+    → IsFramePlace ss place → slice_get ss place.input ≡ Some s → place.frame < length s.frames
+frame-within ss place s at given =
+    subst (λ (x : SurveyFields). place.frame < length x.frames)
+    (get-one ss place.input at.survey s at.input given) at.frame
+
+-- main data of a frame are those at its place
+pub payload-told : (files : Files) (names : List (List ℕ)) (ss : List SurveyFields)
+    (place : FramePlace) (name : List ℕ) (s : SurveyFields) (bytes : List ℕ)
+    → AreHeld files names ss → IsFramePlace ss place → slice_get names place.input ≡ Some name
+    → slice_get ss place.input ≡ Some s → IsMainDataOf name files s place.frame bytes
+    → IfTold files (λ f. bytes ≡ payload_at_place f names ss place)
+payload-told (Untold touched) names ss place name s bytes known at named given is = tt
+payload-told (Told f) names ss place name s bytes known at named given is =
+    let i = place.frame in
+    let told = there_holds f name (held-at (Told f) names ss place.input name s known named
+    given).there in
+    let row = get-some s.frames i (frame-within ss place s at given) in
+    let file : told.0 ≡ unwrap_or (f name) [] = ap (λ (o : Option (List ℕ)). unwrap_or o [])
+    (sym told.1) in
+    is told.0 told.1 row.0 row.1
+    ∙ ap (row_payload told.0 i s) (sym row.1)
+    ∙ ap (λ (b : List ℕ). row_payload b i s (slice_get s.frames i)) file
+    ∙ sym (ap₂ (named_payload f i) named given)
+
+lists-get : (f : Contents) (names : List (List ℕ)) (ss : List SurveyFields) (i : ℕ) (name : List ℕ)
+    (s : SurveyFields) → slice_get names i ≡ Some name → slice_get ss i ≡ Some s
+    → slice_get (all_run_frames f names ss) i
+    ≡ Some (run_frames (whole_part (unwrap_or (f name) []) s))
+unfolding all_run_frames
+lists-get f [] ss i name s named given = absurd cc
+lists-get f (n ∷ names) [] i name s named given = absurd cc
+lists-get f (n ∷ names) (t ∷ ss) zero name s named given =
+    let one : n ≡ name = cc in
+    let other : t ≡ s = cc in
+    ap₂ (λ a b. Some (run_frames (whole_part (unwrap_or (f a) []) b))) one other
+lists-get f (n ∷ names) (t ∷ ss) (suc i) name s named given =
+    lists-get f names ss i name s named given
+
+-- where the files are told, what is at a place
+pub record IsFrameAt (f : Contents) (names : List (List ℕ)) (ss : List SurveyFields)
+    (place : FramePlace) (class : ClassFields) : Type 0 where
+  pub frame : Frame
+  pub row : Row
+  pub found : row_at ss place ≡ Some row
+  pub header : frame.kept.header ≡ row.header
+  pub side : frame.kept.side ≡ row_side row
+  pub entry : IsStreamEntry class frame
+  pub sound : sound_at (all_run_frames f names ss) place ≡ sound_of class (stream_entry frame)
+  pub payload : payload_at_place f names ss place ≡ frame.payload
+
+-- there is such a frame at each place of inputs of one class that are known
+pub frame-at : (f : Contents) (names : List (List ℕ)) (ss : List SurveyFields) (place : FramePlace)
+    (class : ClassFields) → AreHeld (Told f) names ss → AreSurveysOfClass class ss
+    → IsFramePlace ss place → IsFrameAt f names ss place class
+frame-at f names ss place class known one at =
+    let s = at.survey in
+    let i = place.frame in
+    let held = known-at (Told f) names ss place.input s known at.input in
+    let name = held.0 in
+    let told = there_holds f name held.2.there in
+    let file = told.0 in
+    let is : unwrap_or (f name) [] ≡ file = ap (λ (o : Option (List ℕ)). unwrap_or o []) told.1 in
+    let row = get-some s.frames i at.frame in
+    let r = row.0 in
+    let has = held.2.exact file told.1 in
+    let same : s.class ≡ class = all-get (λ (t : SurveyFields). t.class ≡ class) ss place.input s
+    one at.input in
+    record {
+      frame = survey_frame file s i r;
+      row = r;
+      found = ap (frame_row i) at.input ∙ row.1;
+      header = refl;
+      side = refl;
+      entry = subst (λ c. IsStreamEntry c (survey_frame file s i r)) same
+          (entry-here file s i r row.1 has);
+      sound =
+          ap (λ (o : Option (List RunFrame)). sound_of_frame
+          (option_and_then (λ (frames : List RunFrame). slice_get frames i) o))
+          (lists-get f names ss place.input name s held.1 at.input
+          ∙ ap (λ (b : List ℕ). Some (run_frames (whole_part b s))) is)
+          ∙ ap sound_of_frame (sound-in file s i r row.1 has)
+          ∙ ap (λ c. sound_of c (stream_entry (survey_frame file s i r))) same;
+      payload =
+          ap₂ (named_payload f i) held.1 at.input
+          ∙ ap (λ (b : List ℕ). row_payload b i s (slice_get s.frames i)) is
+          ∙ ap (row_payload file i s) row.1;
+    }
+
+-- ---- two frames of inputs
+
+module _ (f : Contents) (names : List (List ℕ)) (ss : List SurveyFields) (p q : FramePlace)
+    (class : ClassFields) (one : IsFrameAt f names ss p class)
+    (other : IsFrameAt f names ss q class) where
+  fronts-are : same_front class one.row other.row
+      ≡ bytes_eq (header_bits (without_slot one.frame.kept.header))
+      (header_bits (without_slot other.frame.kept.header))
+      && bytes_eq (side_bits class (compared_side one.frame.kept.side))
+      (side_bits class (compared_side other.frame.kept.side))
+  fronts-are =
+      ap₂ (λ a b. a && b)
+      (ap₂ (λ (g h : HeaderFields). bytes_eq (header_bits (without_slot g))
+      (header_bits (without_slot h))) (sym one.header) (sym other.header))
+      (ap₂ (λ (s t : Side). bytes_eq (side_bits class (compared_side s))
+      (side_bits class (compared_side t)))
+      (sym one.side) (sym other.side))
+
+  places-tested : same_front class one.row other.row && bytes_eq one.frame.payload
+      other.frame.payload ≡ same_sounds (all_run_frames f names ss) p q
+  places-tested =
+      ap (λ b. b && bytes_eq one.frame.payload other.frame.payload) fronts-are
+      ∙ sounds-tested class one.frame other.frame one.entry other.entry
+      ∙ ap₂ bytes_eq (sym one.sound) (sym other.sound)
+
+  -- where header or side information differ, the frames don't sound the same
+  pub fronts-differ : same_front class one.row other.row ≡ false
+      → false ≡ same_sounds (all_run_frames f names ss) p q
+  fronts-differ differ =
+      ap (λ b. b && bytes_eq one.frame.payload other.frame.payload) (sym differ) ∙ places-tested
+
+  -- where both are the same, the main data decide whether the frames do
+  pub payloads-tested : same_front class one.row other.row ≡ true
+      → bytes_eq (payload_at_place f names ss p)
+      (payload_at_place f names ss q) ≡ same_sounds (all_run_frames f names ss) p q
+  payloads-tested same =
+      ap₂ bytes_eq one.payload other.payload
+      ∙ ap (λ b. b && bytes_eq one.frame.payload other.frame.payload) (sym same) ∙ places-tested
+
+-- ---- by what the folder tells
+
+module _ (names : List (List ℕ)) (ss : List SurveyFields) (p q : FramePlace) (class : ClassFields)
+    (r t : Row)
+    (one : AreSurveysOfClass class ss) (first : IsFramePlace ss p) (second : IsFramePlace ss q)
+    (here : row_at ss p ≡ Some r)
+    (there : row_at ss q ≡ Some t) where
+  rows-here : (f : Contents) (a : IsFrameAt f names ss p class) (b : IsFrameAt f names ss q class)
+      → same_front class a.row b.row ≡ same_front class r t
+  rows-here f a b =
+      ap₂ (same_front class) (same-row (sym a.found ∙ here)) (same-row (sym b.found ∙ there))
+    where
+      same-row : {x y : Row} → Some x ≡ Some y → x ≡ y
+      same-row e = cc
+
+  -- other headers or side information: they don't sound alike
+  pub places-differ : (files : Files) → AreHeld files names ss → same_front class r t ≡ false
+      → IfTold files (λ f. false ≡ same_sounds (all_run_frames f names ss) p q)
+  places-differ (Untold touched) known differ = tt
+  places-differ (Told f) known differ =
+      let a = frame-at f names ss p class known one first in
+      let b = frame-at f names ss q class known one second in
+      fronts-differ f names ss p q class a b (rows-here f a b ∙ differ)
+
+  -- the same: they do if their main data are the same
+  pub places-compared : (files : Files) → AreHeld files names ss → same_front class r t ≡ true
+      → (xs ys : List ℕ)
+      → IfTold files (λ f. xs ≡ payload_at_place f names ss p)
+      → IfTold files (λ f. ys ≡ payload_at_place f names ss q)
+      → IfTold files (λ f. bytes_eq xs ys ≡ same_sounds (all_run_frames f names ss) p q)
+  places-compared (Untold touched) known same xs ys left right = tt
+  places-compared (Told f) known same xs ys left right =
+      let a = frame-at f names ss p class known one first in
+      let b = frame-at f names ss q class known one second in
+      ap₂ bytes_eq left right ∙ payloads-tested f names ss p q class a b (rows-here f a b ∙ same)
+
+-- a frame of inputs of one class is of it
+pub class-here : (files : Files) (names : List (List ℕ)) (ss : List SurveyFields)
+    (place : FramePlace) (class : ClassFields) (r : Row) → AreHeld files names ss
+    → AreSurveysOfClass class ss → IsFramePlace ss place → row_at ss place ≡ Some r
+    → class_of r.header ≡ class
+class-here files names ss place class r known one at found =
+    let s = at.survey in
+    let held = known-at files names ss place.input s known at.input in
+    let here : slice_get s.frames place.frame ≡ Some r = sym (ap (frame_row place.frame) at.input)
+    ∙ found in
+    (held.2.laid.placed place.frame r here).class_is ∙ all-get
+    (λ (x : SurveyFields). x.class ≡ class) ss place.input s one at.input
+
+-- the class of one of them is that of all
+pub class-of-all : (ss : List SurveyFields) (place : ℕ) (class : ClassFields) (s : SurveyFields)
+    → AreSurveysOfClass class ss → slice_get ss place ≡ Some s → s.class ≡ class
+class-of-all ss place class s one found =
+    all-get (λ (x : SurveyFields). x.class ≡ class) ss place s one found
+
+-- so it is with the input of a place, where the surveys are made from other items
+pub class-first : {X : Type 0} (f : X → SurveyFields) (xs : List X) (place : FramePlace)
+    (class : ClassFields) (x : X) → AreSurveysOfClass class (map f xs)
+    → IsFramePlace (map f xs) place → x ≡ get_or xs place.input x → (f x).class ≡ class
+class-first f xs place class x one at is =
+    let within : place.input < length xs =
+    omega (arith, get-within (map f xs) place.input at.survey at.input, length-map xs f) in
+    class-of-all (map f xs) place.input class (f x) one
+    (map-get f xs place.input x (found-at xs place.input x within is))

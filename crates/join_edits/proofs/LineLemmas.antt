@@ -1,0 +1,71 @@
+-- The line of one input after the other.
+use Rattle.std.proofs.Common.{ap, append_assoc, ap₂, arith, drop, length, List, refl, subst, sym, ℕ}
+use Rattle.std.proofs.Common.{[], ◌++◌, ◌+◌, ◌∙◌, ◌∷◌, ◌≡◌, ◌≤◌}
+use Rattle.std.{proofs.lemmas.List.{drop-drop, drop_all}, specs.List.zip}
+use Rattle.std.specs.Prelude.{codes, decimal}
+use Rattle.join_edits.specs.Seamless.{seam_line, seam_text}
+use Rattle.outside.proofs.SentLemmas.{sent_more_on, sent_more_prefix}
+use Rattle.outside.specs.{BufferOutput.{SendsWaiting, SentPrefix}, Files.Sent}
+use Rattle.seam_plan.specs.declared.{run.Joint.Joint, seam.Seam.TheVariants.Follows}
+
+abbrev pub Told : Type 0
+Told = List ℕ × Joint
+
+abbrev pub line_of : Told → List ℕ
+line_of j = seam_line j.0 j.1.seam
+
+-- those whose lines are left
+abbrev pub left-from : List (List ℕ) → List Joint → ℕ → List Told
+left-from inputs joints i = zip (drop i (drop 1 inputs)) (drop i joints)
+
+after-first : (inputs : List (List ℕ)) (i : ℕ) → drop i (drop 1 inputs) ≡ drop (i + 1) inputs
+after-first inputs i =
+    let one : 1 + i ≡ i + 1 = omega arith in
+    drop-drop i 1 inputs ∙ ap (λ n. drop n inputs) one
+
+-- what is left from a joint on is the joint with its name, and then the rest
+pub left-next : (inputs : List (List ℕ)) (joints : List Joint) (i : ℕ) (name : List ℕ) (j : Joint)
+    → drop (i + 1) inputs ≡ name ∷ drop (i + 1 + 1) inputs
+    → drop i joints ≡ j ∷ drop (i + 1) joints
+    → left-from inputs joints i ≡ (name, j) ∷ left-from inputs joints (i + 1)
+left-next inputs joints i name j named joint =
+    let next = after-first inputs (i + 1) in
+    ap₂ zip (after-first inputs i ∙ named ∙ ap (λ (l : List (List ℕ)). name ∷ l) (sym next)) joint
+
+zip-none : (names : List (List ℕ)) (joints : List Joint) → joints ≡ [] → zip names joints ≡ []
+zip-none [] joints none = refl
+zip-none (name ∷ names) joints none = ap (zip (name ∷ names)) none
+
+-- nothing is left past the last joint
+pub left-none : (inputs : List (List ℕ)) (joints : List Joint) (i : ℕ) → length joints ≤ i
+    → left-from inputs joints i ≡ []
+left-none inputs joints i past =
+    zip-none (drop i (drop 1 inputs)) (drop i joints) (drop_all i joints past)
+
+-- ---- one line
+
+-- the line of an input that follows, behind its name
+pub follows-line : (n : ℕ)
+    → codes ": follows, " ++ (decimal n ++ (codes " frames left out\n" ++ []))
+    ≡ codes ": " ++ (seam_text (Follows n) ++ codes "\n")
+follows-line n =
+    ap (λ (l : List ℕ). codes ": follows, " ++ l)
+    (sym (append_assoc (decimal n) (codes " frames left out") (codes "\n")))
+
+-- the name, and the rest of the line behind it
+module _ (waits name piece rest line mid : List ℕ) (s t u : Sent) (named : piece ≡ name)
+    (is : line ≡ rest) where
+  line-whole : (waits ++ piece) ++ line ≡ waits ++ (name ++ rest)
+  line-whole = append_assoc waits piece line ∙ ap₂ (λ (a b : List ℕ). waits ++ (a ++ b)) named is
+
+  -- where the name was passed on, and then the rest, the whole line was
+  pub line-on : (after : List ℕ) → SendsWaiting (waits ++ piece) mid s t
+      → SendsWaiting (mid ++ line) after t u → SendsWaiting (waits ++ (name ++ rest)) after s u
+  line-on after first more =
+      subst (λ text. SendsWaiting text after s u) line-whole (sent_more_on line first more)
+
+  -- and where only part of the rest was, so was part of the line
+  pub line-part : SendsWaiting (waits ++ piece) mid s t → SentPrefix (mid ++ line) t u
+      → SentPrefix (waits ++ (name ++ rest)) s u
+  line-part first part =
+      subst (λ text. SentPrefix text s u) line-whole (sent_more_prefix line first part)

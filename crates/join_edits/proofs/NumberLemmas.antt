@@ -1,0 +1,52 @@
+-- What the Info frame keeps of the heads.
+use Rattle.std.proofs.Common.{ap, arith, get_or, length, List, None, Option, option_map, refl, Some}
+use Rattle.std.proofs.Common.{suc, sym, zero, ℕ, [], ◌+◌, ◌<◌, ◌∷◌, ◌≡◌}
+use Rattle.exact_span.specs.Extensions.{counts_of}
+use Rattle.exact_span.specs.PlayedPositions.{counted_played, counted_positions, played_of}
+use Rattle.exact_span.specs.PlayedPositions.{played_or_all, rest_of, samples_in}
+use Rattle.exact_span.specs.declared.{extensions.HeadCounts.HeadCounts, played.Played.Played}
+use Rattle.frame_header.specs.Fields.{ClassFields}
+use Rattle.info_header.specs.declared.fields.Info.{Info}
+use Rattle.join_edits.specs.Numbers.{first_head, last_head}
+use Rattle.join_edits.specs.declared.beginnings.Beginning.{Beginning}
+
+-- a head that counts says what is after the last played position
+pub rest-counted : (head : Option Info) (class : ClassFields) (frames : ℕ) (p : Played)
+    → Some p ≡ counted_positions head class frames
+    → rest_of class frames (played_of head class frames) ≡ rest_of class frames p
+unfolding counted_positions played_of
+rest-counted head class frames p is = at (counts_of head) is
+  where
+    at : (o : Option HeadCounts) → Some p ≡ option_map (counted_played (samples_in class) frames) o
+        → rest_of class frames (played_or_all (samples_in class) frames o) ≡ rest_of class frames p
+    at None e = absurd cc
+    at (Some counts) e = let same : p ≡ counted_played (samples_in class) frames counts = cc in
+        ap (rest_of class frames) (sym same)
+
+-- nothing is after it where none counts
+pub rest-none : (head : Option Info) (class : ClassFields) (frames : ℕ) → None
+    ≡ counted_positions head class frames → rest_of class frames (played_of head class frames) ≡ 0
+unfolding counted_positions played_of
+rest-none head class frames is = at (counts_of head) is
+  where
+    at : (o : Option HeadCounts) → None ≡ option_map (counted_played (samples_in class) frames) o
+        → rest_of class frames (played_or_all (samples_in class) frames o) ≡ 0
+    at None e = omega arith
+    at (Some counts) e = absurd cc
+
+-- ---- the first and the last head
+
+-- the head of the beginning at 0 is that of the first input
+pub first-head : (bs : List Beginning) (d : Beginning) → 0 < length bs
+    → (get_or bs 0 d).head ≡ first_head bs
+first-head [] d some = absurd (omega (arith, some))
+first-head (b ∷ bs) d some = refl
+
+-- the head of the beginning at the last place is that of the last input
+pub last-head : (bs : List Beginning) (n : ℕ) (d : Beginning) → n + 1 ≡ length bs
+    → (get_or bs n d).head ≡ last_head bs
+last-head [] n d some = absurd (omega (arith, some))
+last-head (b ∷ []) zero d some = refl
+last-head (b ∷ []) (suc n) d some = absurd (omega (arith, some))
+last-head (b ∷ c ∷ bs) zero d some = absurd (omega (arith, some))
+last-head (b ∷ c ∷ bs) (suc n) d some = last-head (c ∷ bs) n d (omega (arith, some))

@@ -1,0 +1,146 @@
+-- The plan of all frames of several surveys.
+use Rattle.std.proofs.Common.{All, ap, ap₂, arith, length, length-append, List, map, refl, subst}
+use Rattle.std.proofs.Common.{suc, sym, take, zero, ℕ, [], ◌+◌, ◌<◌, ◌∙◌, ◌∷◌, ◌≡◌, ◌≤◌}
+use Rattle.std.proofs.lemmas.List.{length-map, take-map, Elements.{All-cons, All-nil}}
+use Rattle.std.specs.Prelude.{◌↔◌}
+use Rattle.commands.specs.SingleOutput.{most_frames}
+use Rattle.frame_header.specs.{Fields.ClassFields, Limits.most_output_frames}
+use Rattle.join_edits.specs.Inputs.{AreInputsOfClass, CanInputsBeJoined, class_of_first}
+use Rattle.join_edits.specs.Inputs.{frames_together, survey_rows}
+use Rattle.join_edits.specs.Laying.{IsPlanOf, least_plan_of, window_for}
+use Rattle.laying.proofs.FitLemmas.{asked-plans, needs-flat, plans-fit}
+use Rattle.laying.proofs.PartsLemmas.{parts-fit, parts-plan}
+use Rattle.laying.proofs.PlacesLemmas.{plan-length, range-whole}
+use Rattle.laying.specs.Needs.{need_of, needs_of_parts, part_places, plan_input, PlanInput}
+use Rattle.laying.specs.NeedsFit.{IsFitPlanInput, IsPartOf, own_choice}
+use Rattle.slot_plan.specs.{LeastPlan.least_plan, Parts.{needs_in_parts, window_in}, Plans.IsPlan}
+use Rattle.slot_plan.specs.declared.needs.{Need.Need, Placed.Placed}
+use Rattle.sync_survey.specs.{Faults.SurveyFields, Row.Row}
+
+-- ---- how many frames and places
+
+needs-length : (ss : List SurveyFields)
+    → length (needs_of_parts (survey_rows ss)) ≡ frames_together ss
+unfolding needs_of_parts frames_together
+needs-length [] = refl
+needs-length (s ∷ ss) = length-append (map need_of s.frames) (needs_of_parts (survey_rows ss))
+    ∙ ap₂ (λ m n. m + n) (length-map s.frames need_of) (needs-length ss)
+
+places-length : (at : ℕ) (parts : List (List Row)) → length (part_places at parts) ≡ length parts
+unfolding part_places
+places-length at [] = refl
+places-length at (rows ∷ parts) = ap suc (places-length (at + length rows) parts)
+
+taken : (k : ℕ) (ss : List SurveyFields) → frames_together (take k ss) ≤ frames_together ss
+unfolding frames_together
+taken zero ss = omega arith
+taken (suc k) [] = omega arith
+taken (suc k) (s ∷ ss) = omega (arith, taken k ss)
+
+-- some of them have no more frames than all
+pub parts-few : {X : Type 0} (f : X → SurveyFields) (k : ℕ) (xs : List X)
+    → CanInputsBeJoined (map f xs)
+    → length (needs_of_parts (survey_rows (map f (take k xs)))) ≤ most_frames
+parts-few f k xs can = omega (
+  arith,
+  needs-length (map f (take k xs)),
+  ap frames_together (sym (take-map f k xs)),
+  taken k (map f xs),
+  can.frames,
+)
+
+-- what can be joined are some surveys
+pub can-some : (ss : List SurveyFields) → CanInputsBeJoined ss → 0 < length ss
+can-some [] can = let first = can.first in absurd cc
+can-some (s ∷ ss) can = omega arith
+
+-- all are of the first one's class
+pub alike-first : (s : SurveyFields) (ss : List SurveyFields) → CanInputsBeJoined (s ∷ ss)
+    → AreInputsOfClass s.class (s ∷ ss)
+alike-first s ss can = let first = can.first in let same : can.class ≡ s.class = cc in
+    subst (λ (c : ClassFields). AreInputsOfClass c (s ∷ ss)) same can.alike
+
+-- ---- their plan
+
+alike-parts : (class : ClassFields) (ss : List SurveyFields) → AreInputsOfClass class ss
+    → All (IsPartOf class) (survey_rows ss)
+alike-parts class [] are = All-nil (IsPartOf class)
+alike-parts class (s ∷ ss) are =
+    All-cons (IsPartOf class) s.frames (survey_rows ss)
+    (record {
+      survey = s;
+      from = 0;
+      to = length s.frames;
+      placed = are.1.placed;
+      same = are.2;
+      some = are.0;
+      within = omega arith;
+      are = sym (range-whole s.frames);
+    })
+    (alike-parts class ss are.3)
+
+module _ (ss : List SurveyFields) (can : CanInputsBeJoined ss) where
+  abbrev parts : List (List Need)
+  parts = map (map need_of) (survey_rows ss)
+
+  abbrev window : ℕ
+  window = window_for (class_of_first ss)
+
+  abbrev asked : PlanInput
+  asked = plan_input (survey_rows ss)
+
+  some : 1 ≤ length (survey_rows ss)
+  some = omega (arith, length-map ss (λ (s : SurveyFields). s.frames), can-some ss can)
+
+  -- the parts can be planned
+  pub all-fit : IsFitPlanInput can.class asked
+  all-fit = parts-fit can.class (survey_rows ss) some (alike-parts can.class ss can.alike)
+
+  one-plan : (placed : List Placed)
+      → IsPlan window own_choice parts placed ↔ (placed ≡ least_plan window own_choice parts)
+  one-plan placed =
+      rw can.first (parts-plan can.class own_choice (survey_rows ss) placed all-fit all-fit.kept)
+
+  -- their plan is the first of all lists with a layout
+  pub the-plan : IsPlan window own_choice parts (least_plan window own_choice parts)
+  the-plan = (one-plan _).1 refl
+
+  -- what the planner answers is their plan
+  pub plan-is : (placed : List Placed)
+      → IsPlan (window_in asked.needs) own_choice (needs_in_parts asked.needs asked.places) placed
+      → IsPlanOf ss placed
+  unfolding least_plan_of
+  plan-is placed is =
+      let ours : IsPlan window own_choice parts placed =
+      rw can.first (asked-plans can.class own_choice (survey_rows ss) placed all-fit is) in
+      record {
+        plan = (one-plan placed).0 ours;
+        fits = plans-fit window own_choice (survey_rows ss) placed ours;
+      }
+
+  -- they have no more frames than are allowed
+  pub needs-few : length asked.needs ≤ most_frames
+  needs-few = omega (arith, needs-length ss, can.frames)
+
+  -- there are at most 64 parts
+  pub places-few : length asked.places ≤ 64
+  places-few = omega (
+    arith,
+    places-length 0 (survey_rows ss),
+    length-map ss (λ (s : SurveyFields). s.frames),
+    can.few,
+  )
+
+  -- the plan has at most one place more for each
+  pub plan-few : length (least_plan_of ss) ≤ most_output_frames
+  unfolding least_plan_of
+  plan-few = omega (
+    arith,
+    plan-length window own_choice parts,
+    ap length (needs-flat (survey_rows ss)),
+    length-map (survey_rows ss) (map need_of),
+    length-map ss (λ (s : SurveyFields). s.frames),
+    needs-length ss,
+    can.few,
+    can.frames,
+  )

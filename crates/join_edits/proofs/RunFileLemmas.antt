@@ -1,0 +1,225 @@
+-- The file of inputs that are joined without seams: it is well-formed, it holds its stream, and no
+-- frame of it is lost.
+use Rattle.std.proofs.Common.{ap, arith, Bool, cond, drop, Err, false, length, length-append}
+use Rattle.std.proofs.Common.{length-drop, List, None, Ok, Option, refl, Result, Some, subst, sym}
+use Rattle.std.proofs.Common.{take, true, ℕ, [], ◌++◌, ◌+◌, ◌-◌, ◌∙◌, ◌∷◌, ◌≡◌, ◌≤◌}
+use Rattle.std.proofs.lemmas.List.{length-map, length-take-le, FromFn.length-range_with_len}
+use Rattle.std.specs.{List.{list_all, range_with_len}, Prelude.{flat_map, replicate, slice_get}}
+use Rattle.commands.proofs.{MadeLemmas.some-frames, RefusingLemmas.then_ok}
+use Rattle.commands.specs.{Refusing.then_made, SingleOutput.most_frames}
+use Rattle.commands.specs.declared.fault.EditFault.{EditFault}
+use Rattle.cut_edits.proofs.{PieceLemmas.head_long, SealedLemmas.for-whole}
+use Rattle.cut_edits.specs.Exact.{quality_of}
+use Rattle.exact_span.proofs.{ExtensionLemmas.extension-length, SealLemmas.sealed-whole}
+use Rattle.exact_span.specs.Extensions.{extension_of}
+use Rattle.frame_header.specs.Fields.{ClassFields}
+use Rattle.frame_writer.specs.Frames.{Frame}
+use Rattle.info_header.specs.declared.fields.Info.{Info}
+use Rattle.join_edits.proofs.PartLemmas.{part-is}
+use Rattle.join_edits.proofs.RunPartLemmas.{AreWholeFiles, front-within, IsWholeFile, run-laid}
+use Rattle.join_edits.specs.Join.{join_part, join_parts, join_parts_from}
+use Rattle.join_edits.specs.Seamless.{delay_of_run, join_of_parts, part_head, part_says_gain}
+use Rattle.join_edits.specs.Seamless.{replay_gain, run_extension, run_parts, run_plan}
+use Rattle.join_edits.specs.Seamless.{seamless_file, seamless_frames, seamless_info}
+use Rattle.join_edits.specs.Seamless.{seamless_padding, seamless_row_file, seamless_stream}
+use Rattle.laying.proofs.{HoldLemmas.blocks-kept, LaidFileLemmas.{laid-frames-stay, laid-stream}}
+use Rattle.laying.proofs.{LaidLemmas.first-there, SurveyFrameLemmas.survey-had}
+use Rattle.laying.specs.{LaidFiles.{HasInfoSizes, IsLaidFile, laid_file}, LaidLaws.LosesNoFrame}
+use Rattle.laying.specs.Laws.{AreFramesOfStream}
+use Rattle.laying.specs.Relaid.{FilePart, part_stream, stream_with_lead_ins}
+use Rattle.laying.specs.Written.{front_blocks, table_entry}
+use Rattle.outside.specs.Files.{Contents}
+use Rattle.sync_survey.specs.{Faults.HoldsStream, MainData.StreamFrame, Row.Row}
+
+-- ---- the Info frame
+
+-- an extension without peak and gains is as long
+without-gain : (extension : List ℕ) → length extension ≡ 36
+    → length (take 11 extension ++ (replicate 8 0 ++ drop 19 extension)) ≡ 36
+without-gain extension long =
+    omega (
+      arith,
+      length-append (take 11 extension) (replicate 8 0 ++ drop 19 extension),
+      length-append (replicate 8 0) (drop 19 extension),
+      length-take-le 11 extension (omega (arith, long)),
+      length-drop 19 extension,
+      long,
+    )
+
+extension-by : (b : Bool) (extension : List ℕ) → length extension ≡ 36
+    → length (cond b extension (take 11 extension ++ (replicate 8 0 ++ drop 19 extension))) ≡ 36
+extension-by true extension long = long
+extension-by false extension long = without-gain extension long
+
+module _ (first : FilePart) (parts : List FilePart) where
+  abbrev class : ClassFields
+  class = first.survey.class
+
+  abbrev frames : List Frame
+  frames = seamless_frames first parts
+
+  run-long : (delay : ℕ) → length (run_extension delay first parts) ≡ 36
+  run-long delay =
+      let extension = extension_of (part_head first) delay (seamless_padding first parts) in
+      let long = extension-length (part_head first) delay (seamless_padding first parts)
+      (head_long first.file first.survey.head) in
+      extension-by (list_all (part_says_gain (replay_gain extension)) parts) extension long
+
+  info-sizes : (row : Row) (delay : Option ℕ) → HasInfoSizes (seamless_info delay row first parts)
+  info-sizes row None = record {
+    table = length-map (range_with_len 0 100) (table_entry class frames)
+        ∙ length-range_with_len 0 100;
+    extension = refl;
+  }
+  info-sizes row (Some delay) =
+      let extension = run_extension delay first parts in
+      let whole =
+      for-whole class frames (quality_of (part_head first)) extension (run-long delay) in
+      let sealed = sealed-whole row.header _ whole in
+      record { table = sealed.table; extension = sealed.extension }
+
+  -- ---- the file
+
+  module _ (is : IsWholeFile first.survey.class first)
+      (are : AreWholeFiles first.survey.class parts) where
+    abbrev front : ℕ
+    front = (join_of_parts first parts).front
+
+    abbrev blocks : List (List ℕ)
+    blocks = front_blocks first.file first.survey
+
+    abbrev stream : List StreamFrame
+    stream =
+        stream_with_lead_ins (run_plan first parts) (flat_map part_stream (run_parts first parts))
+
+    found : (row : Row) × (slice_get first.survey.frames front ≡ Some row)
+    found = first-there first.survey.frames front (front-within first parts is are)
+
+    abbrev info : Info
+    info = seamless_info (delay_of_run first parts) found.0 first parts
+
+    laid : AreFramesOfStream class frames stream
+    laid = run-laid first parts is are
+
+    file-is : IsLaidFile class blocks found.0.header info frames []
+    file-is =
+        let row = is.had.placed front found.0 found.1 in
+        record {
+          blocks_before = (blocks-kept first.file first.survey is.had).0;
+          header = row.known;
+          class = row.class_is;
+          sizes = info-sizes found.0 (delay_of_run first parts);
+          some = laid.some;
+          entries = laid.entries;
+          laid = laid.fit;
+          blocks_behind = tt;
+        }
+
+    abbrev file : List ℕ
+    file = laid_file blocks found.0.header info frames []
+
+    seamless-is : seamless_file (first ∷ parts) ≡ file
+    unfolding seamless_file
+    seamless-is = ap (λ (o : Option Row). seamless_row_file o first parts) found.1
+
+    -- the seamless join holds its stream
+    pub seamless-holds : HoldsStream (seamless_file (first ∷ parts))
+        (seamless_stream (first ∷ parts))
+    unfolding seamless_stream
+    seamless-holds =
+        subst (λ (f : List ℕ). HoldsStream f stream) (sym seamless-is)
+        (subst (HoldsStream file) laid.stream_is
+        (laid-stream class blocks found.0.header info frames [] file-is))
+
+    -- it loses no frame
+    pub seamless-loses-none : LosesNoFrame (seamless_file (first ∷ parts))
+    seamless-loses-none =
+        subst LosesNoFrame (sym seamless-is)
+        (laid-frames-stay class blocks found.0.header info frames [] file-is)
+
+-- ---- of inputs that aren't refused
+
+part-whole : (files : Contents) (c : ClassFields) (place : ℕ) (first : Option ClassFields)
+    (allowed : ℕ) (name : List ℕ) (part : FilePart) → join_part place first allowed (files name)
+    ≡ Ok part → part.survey.class ≡ c → IsWholeFile c part
+part-whole files c place first allowed name part e same =
+    let is = part-is place first allowed (files name) part e in
+    subst (IsWholeFile c) is.whole
+    (record {
+      had = survey-had is.file allowed is.survey is.surveyed;
+      same = ap (λ (p : FilePart). p.survey.class) is.whole ∙ same;
+      from = refl;
+      to = refl;
+      some = some-frames is.file allowed is.survey is.surveyed;
+    })
+
+then-parts : (part : FilePart) (r : Result (List FilePart) EditFault) (parts : List FilePart)
+    → then_made r (λ later. Ok (part ∷ later)) ≡ Ok parts
+    → (later : List FilePart) × (r ≡ Ok later) × (part ∷ later ≡ parts)
+then-parts part (Ok later) parts e = (later, refl, cc)
+then-parts part (Err fault) parts e = absurd cc
+
+-- those after the first, which are of its class
+later-whole : (files : Contents) (c : ClassFields) (place allowed : ℕ) (names : List (List ℕ))
+    (parts : List FilePart) → join_parts_from place (Some c) allowed files names ≡ Ok parts
+    → AreWholeFiles c parts
+unfolding join_parts_from
+later-whole files c place allowed [] parts e =
+    let none : [] ≡ parts = cc in
+    subst (AreWholeFiles c) none tt
+later-whole files c place allowed (name ∷ names) parts e =
+    let one = then_ok (join_part place (Some c) allowed (files name)) _ parts e in
+    let part : FilePart = one.0 in
+    let left : ℕ = allowed - length part.survey.frames in
+    let more =
+    then-parts part (join_parts_from (place + 1) (Some c) left files names) parts one.2 in
+    let is = part-is place (Some c) allowed (files name) part one.1 in
+    let same = ap (λ (p : FilePart). p.survey.class) (sym is.whole) ∙ is.follows in
+    subst (AreWholeFiles c) more.2 (
+      part-whole files c place (Some c) allowed name part one.1 same,
+      later-whole files c (place + 1) left names more.0 more.1,
+    )
+
+-- all inputs
+pub record AreInputFiles (parts : List FilePart) : Type 0 where
+  pub first : FilePart
+  pub more : List FilePart
+  pub is : first ∷ more ≡ parts
+  pub whole : IsWholeFile first.survey.class first
+  pub all : AreWholeFiles first.survey.class more
+
+-- the parts that files are read as are whole files
+pub parts-whole : (files : Contents) (names : List (List ℕ)) (parts : List FilePart)
+    → 1 ≤ length names → join_parts files names ≡ Ok parts → AreInputFiles parts
+unfolding join_parts_from
+parts-whole files [] parts some e = absurd (omega (arith, some))
+parts-whole files (name ∷ names) parts some e =
+    let one = then_ok (join_part 0 None most_frames (files name)) _ parts e in
+    let part : FilePart = one.0 in
+    let left : ℕ = most_frames - length part.survey.frames in
+    let later = join_parts_from (0 + 1) (Some part.survey.class) left files names in
+    let more = then-parts part later parts one.2 in
+    record {
+      first = part;
+      more = more.0;
+      is = more.2;
+      whole = part-whole files part.survey.class 0 None most_frames name part one.1 refl;
+      all = later-whole files part.survey.class (0 + 1) left names more.0 more.1;
+    }
+
+-- what is made of them holds its stream, and loses no frame
+pub files-hold : (files : Contents) (names : List (List ℕ)) (parts : List FilePart)
+    → 1 ≤ length names → join_parts files names ≡ Ok parts
+    → HoldsStream (seamless_file parts) (seamless_stream parts)
+files-hold files names parts some e =
+    let is = parts-whole files names parts some e in
+    subst (λ (l : List FilePart). HoldsStream (seamless_file l) (seamless_stream l)) is.is
+    (seamless-holds is.first is.more is.whole is.all)
+
+-- so no frame is lost
+pub files-lose-none : (files : Contents) (names : List (List ℕ)) (parts : List FilePart)
+    → 1 ≤ length names → join_parts files names ≡ Ok parts → LosesNoFrame (seamless_file parts)
+files-lose-none files names parts some e =
+    let is = parts-whole files names parts some e in
+    subst (λ (l : List FilePart). LosesNoFrame (seamless_file l)) is.is
+    (seamless-loses-none is.first is.more is.whole is.all)

@@ -1,0 +1,157 @@
+-- The plan of a run, which is one part.
+use Rattle.std.proofs.Common.{All, ap, append-nil, ap₂, arith, Bool, cond, false, length, List, min}
+use Rattle.std.proofs.Common.{refl, subst, sym, true, ℕ, [], ◌+◌, ◌-◌, ◌<◌, ◌∙◌, ◌∷◌, ◌≡◌}
+use Rattle.std.proofs.lemmas.List.Elements.{All-cons, All-nil}
+use Rattle.frame_header.specs.Fields.{ClassFields, HeaderFields, IsClass}
+use Rattle.frame_header.specs.Tables.{area_of, class_of, window_of}
+use Rattle.join_edits.specs.{Deciding.AreMovedNeeds, RunReady.plan_of_run_needs}
+use Rattle.laying.proofs.{FitLemmas.parts-fit, PlacesLemmas.range-whole}
+use Rattle.laying.specs.Fits.{FitsFromReach, placed_area, placed_bytes, reach_behind}
+use Rattle.laying.specs.{NeedsFit.own_choice, Relaid.rest_behind}
+use Rattle.slot_plan.specs.FreeBytes.{FitBehindWindow, FitsBehind}
+use Rattle.slot_plan.specs.Laws.{ChoosesInOrder, IsPlanAnswer, PartsChooseInOrder}
+use Rattle.slot_plan.specs.LeastPlan.{least_plan}
+use Rattle.slot_plan.specs.Parts.{AreNeedsOfClass, AreNeedsOfOneClass, ArePartsFeasible}
+use Rattle.slot_plan.specs.{Parts.{CanBePlanned, needs_in_parts, window_in}, Plans.IsPlan}
+use Rattle.slot_plan.specs.declared.needs.{Need.Need, Placed.Placed}
+
+-- ---- one part
+
+class-at-first : (class : ClassFields) (n : Need) (needs : List Need)
+    → AreNeedsOfClass class (n ∷ needs) → class_of n.header ≡ class
+unfolding AreNeedsOfClass
+class-at-first class n needs same = same.0
+
+one-class : (class : ClassFields) (needs : List Need) → AreNeedsOfClass class needs
+    → AreNeedsOfOneClass needs
+unfolding AreNeedsOfClass
+one-class class [] same = tt
+one-class class (n ∷ needs) same =
+    subst (λ (c : ClassFields). AreNeedsOfClass c needs) (sym same.0) same.1
+
+window-is : (class : ClassFields) (needs : List Need) → 0 < length needs
+    → AreNeedsOfClass class needs → window_in needs ≡ window_of class.version
+window-is class [] some same = absurd (omega (arith, some))
+window-is class (n ∷ needs) some same =
+    ap (λ (c : ClassFields). window_of c.version) (class-at-first class n needs same)
+
+needs-choose : (class : ClassFields) (needs : List Need) → IsClass class
+    → AreNeedsOfClass class needs → All (ChoosesInOrder own_choice) needs
+unfolding AreNeedsOfClass
+needs-choose class [] known same = All-nil (ChoosesInOrder own_choice)
+needs-choose class (n ∷ needs) known same =
+    All-cons (ChoosesInOrder own_choice) n needs
+    (record {
+      class = subst IsClass (sym same.0) known;
+      ascending = λ i j d before lt. absurd (omega (arith, before, lt));
+      own = (0, omega arith, refl);
+    })
+    (needs-choose class needs known same.1)
+
+-- the class of frames is one
+pub fits-in : (class : ClassFields) (needs : List Need) → 0 < length needs
+    → AreNeedsOfClass class needs → FitBehindWindow needs
+    → FitsBehind (window_of class.version) (window_of class.version) needs
+fits-in class [] some same fit = absurd (omega (arith, some))
+fits-in class (n ∷ needs) some same fit =
+    let is = sym (class-at-first fit.class n needs fit.same) ∙ class-at-first class n needs same in
+    subst (λ (k : ClassFields). FitsBehind (window_of k.version) (window_of k.version) (n ∷ needs))
+    is fit.fits
+
+module _ (class : ClassFields) (needs : List Need) (known : IsClass class)
+    (same : AreNeedsOfClass class needs) (some : 0 < length needs)
+    (fits : FitsBehind (window_of class.version) (window_of class.version) needs) where
+  abbrev window : ℕ
+  window = window_of class.version
+
+  parts-one : needs_in_parts needs (0 ∷ []) ≡ needs ∷ []
+  unfolding needs_in_parts
+  parts-one = ap (λ (l : List Need). l ∷ []) (range-whole needs)
+
+  feasible : ArePartsFeasible window (needs ∷ [])
+  unfolding ArePartsFeasible
+  feasible = (fits, tt)
+
+  -- a run that fits can be planned as one part
+  pub can-plan : CanBePlanned needs (0 ∷ [])
+  can-plan = record {
+    class = one-class class needs same;
+    some = omega arith;
+    first = refl;
+    ascending = λ i j d before lt. absurd (omega (arith, before, lt));
+    within = All-cons (λ place. place < length needs) 0 [] some
+        (All-nil (λ place. place < length needs));
+    feasible = subst (λ w. ArePartsFeasible w (needs_in_parts needs (0 ∷ [])))
+        (sym (window-is class needs some same))
+        (subst (ArePartsFeasible window) (sym parts-one) feasible);
+  }
+
+  in-order : PartsChooseInOrder own_choice (needs_in_parts needs (0 ∷ []))
+  in-order =
+      subst (PartsChooseInOrder own_choice) (sym parts-one)
+      (All-cons (λ part. All (ChoosesInOrder own_choice) part) needs [] (needs-choose class needs
+      known same) (All-nil (λ part. All (ChoosesInOrder own_choice) part)))
+
+  -- what the planner answers is the plan
+  pub plan-is : (placed : List Placed) → IsPlanAnswer own_choice needs (0 ∷ []) placed
+      → placed ≡ plan_of_run_needs window needs
+  plan-is placed is =
+      is.least in-order ∙ ap₂ (λ w (parts : List (List Need)). least_plan w own_choice parts)
+      (window-is class needs some same) parts-one
+
+  -- and it can be written frame by frame
+  pub plan-fits : (placed : List Placed) → IsPlanAnswer own_choice needs (0 ∷ []) placed
+      → FitsFromReach window 0 needs placed
+  plan-fits placed is =
+      subst (λ (l : List Need). FitsFromReach window 0 l placed) (append-nil needs)
+      (parts-fit window own_choice (needs ∷ []) placed
+      (subst (λ w. IsPlan w own_choice (needs ∷ []) placed) (window-is class needs some same)
+      (subst (λ (parts : List (List Need)). IsPlan (window_in needs) own_choice parts placed)
+      parts-one is.plan)))
+
+-- ---- frames in other slots
+
+abbrev InSlot : Need → Need → Type 0
+InSlot n m = (n.bytes ≡ m.bytes) × (n.header ≡ record m.header { slot = n.header.slot })
+
+bytes-same : (b : Bool) (n m : Need) → InSlot n m → placed_bytes b n ≡ placed_bytes b m
+bytes-same true n m is = refl
+bytes-same false n m is = is.0
+
+area-by : (b : Bool) (p : Placed) (n m : Need) → InSlot n m
+    → area_of (class_of n.header) p.slot (cond b false n.header.protected)
+    ≡ area_of (class_of m.header) p.slot (cond b false m.header.protected)
+area-by b p n m is =
+    ap (λ (h : HeaderFields). area_of (class_of h) p.slot (cond b false h.protected)) is.1
+
+area-same : (p : Placed) (n m : Need) → InSlot n m → placed_area p n ≡ placed_area p m
+area-same p n m is = area-by p.lead_in p n m is
+
+reach-same : (window : ℕ) (p : Placed) (n m : Need) → InSlot n m
+    → reach_behind window p n ≡ reach_behind window p m
+reach-same window p n m is =
+    ap₂ (λ a b. min window (p.begin + a - b)) (area-same p n m is) (bytes-same p.lead_in n m is)
+
+behind-same : (b : Bool) (n m : Need) (needs others : List Need) → InSlot n m
+    → AreMovedNeeds needs others → AreMovedNeeds (rest_behind b n needs) (rest_behind b m others)
+behind-same true n m needs others is are = (is, are)
+behind-same false n m needs others is are = are
+
+-- a plan doesn't look at the slots in which they are
+pub fits-moved : (window reach : ℕ) (needs others : List Need) (placed : List Placed)
+    → AreMovedNeeds needs others → FitsFromReach window reach needs placed
+    → FitsFromReach window reach others placed
+unfolding FitsFromReach
+fits-moved window reach [] [] [] are fits = tt
+fits-moved window reach [] [] (p ∷ placed) are fits = absurd fits
+fits-moved window reach [] (m ∷ others) placed are fits = absurd are
+fits-moved window reach (n ∷ needs) [] placed are fits = absurd are
+fits-moved window reach (n ∷ needs) (m ∷ others) [] are fits = absurd fits
+fits-moved window reach (n ∷ needs) (m ∷ others) (p ∷ placed) are fits = (
+  fits.0,
+  omega (arith, fits.1, bytes-same p.lead_in n m are.0, area-same p n m are.0),
+  subst (λ r. FitsFromReach window r (rest_behind p.lead_in m others) placed)
+      (reach-same window p n m are.0)
+      (fits-moved window (reach_behind window p n) (rest_behind p.lead_in n needs) (rest_behind
+      p.lead_in m others) placed (behind-same p.lead_in n m needs others are.0 are.1) fits.2),
+)

@@ -1,0 +1,414 @@
+-- What is made of inputs that are told is the file and the text of a seamless join.
+use Rattle.std.proofs.Common.{ap, append-nil, append_assoc, ap₂, arith, Bool, bytes_eq, cond, drop}
+use Rattle.std.proofs.Common.{false, flat_map, if◌then◌else◌, is_some, length, length-append, List}
+use Rattle.std.proofs.Common.{map, min, None, Option, option_and_then, option_map, refl, replicate}
+use Rattle.std.proofs.Common.{slice_get, slice_range, Some, subst, suc, sym, take, true, unwrap_or}
+use Rattle.std.proofs.Common.{zero, ℕ, [], ◌&&◌, ◌*◌, ◌++◌, ◌+◌, ◌-◌, ◌<◌, ◌∙◌, ◌∷◌, ◌≡◌, ◌≤◌}
+use Rattle.std.proofs.lemmas.List.{drop-map, length-drop, length-map, length-take}
+use Rattle.std.proofs.lemmas.List.FromFn.{length-enumerate_from}
+use Rattle.std.specs.List.{AllZip, concat, enumerate_from, list_all}
+use Rattle.cut_edits.{proofs.HeadLemmas.apart-length, specs.Exact.{quality_of, survey_without_head}}
+use Rattle.exact_span.specs.Extensions.{counts_of, extension_of}
+use Rattle.exact_span.specs.PlayedPositions.{counted_played, counted_positions, decoder_delay}
+use Rattle.exact_span.specs.{PlayedPositions.samples_in, TagWord.sealed_info}
+use Rattle.exact_span.specs.declared.{extensions.HeadCounts.HeadCounts, played.Played.Played}
+use Rattle.frame_header.specs.{Fields.{ClassFields, HeaderFields}, Tables.window_of}
+use Rattle.frame_writer.specs.Frames.{bytes_of_frames, Frame}
+use Rattle.info_header.specs.{InfoFrame.info_frame, declared.fields.Info.Info}
+use Rattle.join_edits.specs.Deciding.{brought_of, broughts_in, IsJoined, IsJoinedOf}
+use Rattle.join_edits.specs.{Deciding.{left_out_counts, left_out_of, run_needs}, Inputs.parts_in}
+use Rattle.join_edits.specs.{Join.whole_part, Lines.joint_lines}
+use Rattle.join_edits.specs.Numbers.{all_say, counted_delay, delay_after, ends_padding, first_head}
+use Rattle.join_edits.specs.Numbers.{gains_kept, head_says_gain, info_kept, kept_with_delay}
+use Rattle.join_edits.specs.Numbers.{last_head, run_kept, short_delay}
+use Rattle.join_edits.specs.RestOfInputs.{rest_part, rest_parts, rest_rows}
+use Rattle.join_edits.specs.RunReady.{IsRunInfo, last_length, moved_of, plan_of_run_needs}
+use Rattle.join_edits.specs.Seamless.{begins_blank, delay_of_run, gain_of, join_of_parts}
+use Rattle.join_edits.specs.Seamless.{later_parts, part_brought, part_from, part_head}
+use Rattle.join_edits.specs.Seamless.{part_says_gain, part_without_head, replay_gain, run_extension}
+use Rattle.join_edits.specs.Seamless.{run_frames, run_lead_ins, run_parts, run_plan, seam_line}
+use Rattle.join_edits.specs.Seamless.{seam_lines, seamless_file, seamless_frames, seamless_info}
+use Rattle.join_edits.specs.Seamless.{seamless_padding, seamless_row_file, seamless_text}
+use Rattle.join_edits.specs.declared.{beginnings.Beginning.Beginning, decided.Decided.Decided}
+use Rattle.join_edits.specs.declared.numbers.{Ends.Ends, Moved.Moved}
+use Rattle.laying.specs.{Fits.{FitsFromReach, reach_behind}, KeptFields.fields_of_head}
+use Rattle.laying.specs.{LaidFiles.laid_file, Needs.{need_of, needs_of_parts}, NeedsFit.own_choice}
+use Rattle.laying.specs.Relaid.{all_frames, FilePart, frame_with_place, lead_in_with_place}
+use Rattle.laying.specs.Relaid.{part_frames, relaid_frames, rest_behind}
+use Rattle.laying.specs.Written.{front_blocks, info_for, slot_in}
+use Rattle.outside.specs.Files.{Contents}
+use Rattle.seam_plan.specs.{Decisions.IsJoint, Frames.{Brought, needs_of, RunFrame}}
+use Rattle.seam_plan.specs.Seams.{JointFrames, left_out_count, run_of, run_with, SeamlessJoin}
+use Rattle.seam_plan.specs.declared.{run.Joint.Joint as CodeJoint, seam.Seam.Seam}
+use Rattle.side_info.specs.Side.{no_side}
+use Rattle.slot_plan.specs.{LeastPlan.least_plan, declared.needs.{Need.Need, Placed.Placed}}
+use Rattle.sync_survey.specs.Faults.{SurveyFields}
+use Rattle.sync_survey.specs.HeadApart.{apart_row, apart_rows, emptied_row, rows_set_apart}
+use Rattle.sync_survey.specs.{Row.Row, declared.places.Head.Head}
+
+-- ---- what the inputs bring
+
+apart-part : (file : List ℕ) (s : SurveyFields)
+    → part_without_head (whole_part file s) ≡ whole_part file (survey_without_head s)
+apart-part file s =
+    ap (λ n. record { file = file; survey = survey_without_head s; from = 0; to = n })
+    (sym (apart-length s))
+
+brought-same : (file : List ℕ) (s : SurveyFields) (b : Beginning)
+    → b.head ≡ fields_of_head file s.head → b.blank ≡ begins_blank s.frames
+    → brought_of file (survey_without_head s) b ≡ part_brought (whole_part file s)
+brought-same file s b head blank =
+    ap₂ (λ (frames : List RunFrame) (played : Option Played).
+    record { frames = frames; blank = b.blank; played = played })
+    (sym (ap run_frames (apart-part file s)))
+    (ap₂ (λ (h : Option Info) n. counted_positions h s.class n) head (apart-length s))
+    ∙ ap (λ blank. record (part_brought (whole_part file s)) { blank = blank }) blank
+
+-- where the files are told
+abbrev pub AreHeads : Contents → List (List ℕ) → List SurveyFields → List Beginning → Type 0
+AreHeads f [] [] [] = Unit {0}
+AreHeads f (name ∷ names) (s ∷ ss) (b ∷ bs) =
+    ((b.head ≡ fields_of_head (unwrap_or (f name) []) s.head) × (b.blank ≡ begins_blank s.frames))
+    × AreHeads f names ss bs
+AreHeads f _ _ _ = ⊥
+
+-- what inputs bring with their heads set apart is what they bring as parts
+pub broughts-same : (f : Contents) (names : List (List ℕ)) (ss : List SurveyFields)
+    (bs : List Beginning) → AreHeads f names ss bs
+    → broughts_in f names (map survey_without_head ss) bs ≡ map part_brought (parts_in f names ss)
+unfolding broughts_in parts_in
+broughts-same f [] [] [] are = refl
+broughts-same f (name ∷ names) (s ∷ ss) (b ∷ bs) are =
+    ap₂ (λ (x : Brought) (l : List Brought). x ∷ l)
+    (brought-same (unwrap_or (f name) []) s b are.0.0 are.0.1) (broughts-same f names ss bs are.1)
+broughts-same f _ _ _ are = absurd are
+
+-- ---- the frames that are written
+
+part-same : (from : ℕ) (file : List ℕ) (s : SurveyFields)
+    → part_from from (whole_part file s) ≡ rest_part from file (survey_without_head s)
+part-same from file s =
+    ap (λ n. record { file = file; survey = survey_without_head s; from = from; to = n })
+    (sym (apart-length s))
+
+parts-same : (f : Contents) (names : List (List ℕ)) (ss : List SurveyFields)
+    (joints : List JointFrames)
+    (results : List CodeJoint) → AllZip IsJoint joints results
+    → later_parts joints (parts_in f names ss)
+    ≡ rest_parts f names (map survey_without_head ss) (left_out_counts results)
+unfolding parts_in rest_parts
+parts-same f [] ss [] [] are = refl
+parts-same f (name ∷ names) [] [] [] are = refl
+parts-same f (name ∷ names) (s ∷ ss) [] [] are = refl
+parts-same f [] ss (j ∷ joints) (r ∷ results) are = refl
+parts-same f (name ∷ names) [] (j ∷ joints) (r ∷ results) are = refl
+parts-same f (name ∷ names) (s ∷ ss) (j ∷ joints) (r ∷ results) are =
+    ap₂ (λ (p : FilePart) (l : List FilePart). p ∷ l)
+    (part-same (left_out_count j.seam) (unwrap_or (f name) []) s ∙ ap
+    (λ (m : Seam). rest_part (left_out_count m) (unwrap_or (f name) []) (survey_without_head s))
+    (sym are.0.seam))
+    (parts-same f names ss joints results are.1)
+parts-same f names ss _ _ are = absurd are
+
+-- ---- the slots of the frames
+
+slot-placed : (b : Bool) (p : Placed) (f : Frame)
+    → slot_in (if b then lead_in_with_place p f else frame_with_place p f) ≡ p.slot
+slot-placed true p f = refl
+slot-placed false p f = refl
+
+behind-length : {X Y : Type 0} (b : Bool) (x : X) (y : Y) (xs : List X) (ys : List Y)
+    → length xs ≡ length ys → length (rest_behind b x xs) ≡ length (rest_behind b y ys)
+behind-length true x y xs ys same = omega (arith, same)
+behind-length false x y xs ys same = same
+
+-- they are those of the plan
+pub relaid-slots : (window reach : ℕ) (needs : List Need) (fs : List Frame) (placed : List Placed)
+    → length fs ≡ length needs → FitsFromReach window reach needs placed
+    → map slot_in (relaid_frames fs placed) ≡ map (λ (p : Placed). p.slot) placed
+unfolding relaid_frames FitsFromReach
+relaid-slots window reach [] [] [] same fits = refl
+relaid-slots window reach [] [] (p ∷ placed) same fits = absurd fits
+relaid-slots window reach [] (f ∷ fs) placed same fits = absurd (omega (arith, same))
+relaid-slots window reach (n ∷ needs) [] placed same fits = absurd (omega (arith, same))
+relaid-slots window reach (n ∷ needs) (f ∷ fs) [] same fits = absurd fits
+relaid-slots window reach (n ∷ needs) (f ∷ fs) (p ∷ placed) same fits =
+    ap₂ (λ s l. s ∷ l) (slot-placed p.lead_in p f)
+    (relaid-slots window (reach_behind window p n) (rest_behind p.lead_in n needs)
+    (rest_behind p.lead_in f fs) placed
+    (behind-length p.lead_in f n fs needs (omega (arith, same))) fits.2)
+
+-- there are as many as the plan was made for
+frames-long : (file : List ℕ) (s : SurveyFields) → length (all_frames file s) ≡ length s.frames
+unfolding all_frames
+frames-long file s = length-map (enumerate_from 0 s.frames) _ ∙ length-enumerate_from 0 s.frames
+
+range-long : {X Y : Type 0} (xs : List X) (ys : List Y) (from to : ℕ) → length xs ≡ length ys
+    → length (slice_range xs from to) ≡ length (slice_range ys from to)
+range-long xs ys from to same =
+    length-take (to - from) (drop from xs) ∙ ap (min (to - from))
+    (length-drop from xs ∙ ap (λ n. n - from) same ∙ sym (length-drop from ys))
+    ∙ sym (length-take (to - from) (drop from ys))
+
+-- the parts have as many frames as their rows have needs
+pub behind-long : (f : Contents) (names : List (List ℕ)) (ss : List SurveyFields) (froms : List ℕ)
+    → length ss ≤ length names → length (flat_map part_frames (rest_parts f names ss froms))
+    ≡ length (needs_of_parts (rest_rows ss froms))
+unfolding rest_parts rest_rows needs_of_parts
+behind-long f [] [] froms many = refl
+behind-long f [] (s ∷ ss) froms many = absurd (omega (arith, many))
+behind-long f (name ∷ names) [] froms many = refl
+behind-long f (name ∷ names) (s ∷ ss) [] many = refl
+behind-long f (name ∷ names) (s ∷ ss) (from ∷ froms) many =
+    let file = unwrap_or (f name) [] in
+    let own = slice_range (all_frames file s) from (length s.frames) in
+    let rows = slice_range s.frames from (length s.frames) in
+    length-append own (flat_map part_frames (rest_parts f names ss froms))
+    ∙ ap₂ (λ m n. m + n) (range-long (all_frames file s) s.frames from (length s.frames)
+    (frames-long file s) ∙ sym (length-map rows need_of))
+    (behind-long f names ss froms (omega (arith, many)))
+    ∙ sym (length-append (map need_of rows) (needs_of_parts (rest_rows ss froms)))
+
+-- ---- the header of the first of them
+
+row-apart : (r : Row) (b : Bool)
+    → (cond b (record r { side = no_side; lost = false }) r).header ≡ r.header
+row-apart r true = refl
+row-apart r false = refl
+
+rows-header : (rows : List Row) (n : ℕ) (more : List Row) (i : ℕ) (r : Row)
+    → slice_get more i ≡ Some r → (q : Row) × (slice_get (map emptied_row (map (λ (p : ℕ × Row).
+    apart_row rows p.0 p.1) (enumerate_from n more))) i ≡ Some q) × (q.header ≡ r.header)
+rows-header rows n [] i r is = absurd cc
+rows-header rows n (x ∷ more) zero r is =
+    let same : x ≡ r = cc in
+    let y : Row = apart_row rows n x in
+    (emptied_row y, refl, row-apart y y.lost ∙ ap (λ (z : Row). z.header) same)
+rows-header rows n (x ∷ more) (suc i) r is = rows-header rows (n + 1) more i r is
+
+map-header : (more : List Row) (i : ℕ) (r : Row) → slice_get more i ≡ Some r
+    → (q : Row) × (slice_get (map emptied_row more) i ≡ Some q) × (q.header ≡ r.header)
+map-header [] i r is = absurd cc
+map-header (x ∷ more) zero r is = let same : x ≡ r = cc in
+    (emptied_row x, refl, row-apart x x.lost ∙ ap (λ (z : Row). z.header) same)
+map-header (x ∷ more) (suc i) r is = map-header more i r is
+
+set-header : (head : Option Head) (rows : List Row) (i : ℕ) (r : Row) → slice_get rows i ≡ Some r
+    → (q : Row) × (slice_get (map emptied_row (rows_set_apart head rows)) i ≡ Some q)
+    × (q.header ≡ r.header)
+unfolding apart_rows
+set-header None rows i r is = map-header rows i r is
+set-header (Some head) rows i r is = rows-header rows 0 rows i r is
+
+-- a frame keeps its header where the head is set apart
+pub apart-header : (s : SurveyFields) (i : ℕ) (r : Row) → slice_get s.frames i ≡ Some r
+    → (q : Row) × (slice_get (survey_without_head s).frames i ≡ Some q) × (q.header ≡ r.header)
+apart-header s i r is = set-header s.head s.frames i r is
+
+-- ---- the numbers
+
+counts-same : (head : Option Info) (class : ClassFields) (frames : ℕ)
+    → is_some (counted_positions head class frames) ≡ is_some (counts_of head)
+unfolding counted_positions
+counts-same head class frames = at (counts_of head)
+  where
+    at : (o : Option HeadCounts)
+        → is_some (option_map (counted_played (samples_in class) frames) o) ≡ is_some o
+    at None = refl
+    at (Some counts) = refl
+
+all-say-same : (gain : List ℕ) (f : Contents) (names : List (List ℕ)) (ss : List SurveyFields)
+    (bs : List Beginning) → AreHeads f names ss bs
+    → list_all (part_says_gain gain) (parts_in f names ss) ≡ all_say gain bs
+unfolding parts_in
+all-say-same gain f [] [] [] are = refl
+all-say-same gain f (name ∷ names) (s ∷ ss) (b ∷ bs) are =
+    let head : Option Info = fields_of_head (unwrap_or (f name) []) s.head in
+    ap₂ (λ x y. (x && bytes_eq (gain_of head) gain) && y)
+    (counts-same head s.class (length s.frames)) (all-say-same gain f names ss bs are.1)
+    ∙ ap (λ (h : Option Info). head_says_gain gain h && all_say gain bs) (sym are.0.0)
+all-say-same gain f _ _ _ are = absurd are
+
+-- the padding is that of the last
+abbrev pub AllOf : ClassFields → List SurveyFields → Type 0
+AllOf class [] = Unit {0}
+AllOf class (s ∷ ss) = (s.class ≡ class) × AllOf class ss
+
+padding-same : (class : ClassFields) (f : Contents) (name : List ℕ) (names : List (List ℕ))
+    (s : SurveyFields) (ss : List SurveyFields) (b : Beginning) (bs : List Beginning)
+    → AllOf class (s ∷ ss) → AreHeads f (name ∷ names) (s ∷ ss) (b ∷ bs)
+    → seamless_padding (whole_part (unwrap_or (f name) []) s) (parts_in f names ss)
+    ≡ ends_padding class (last_head (b ∷ bs))
+    (last_length (survey_without_head s) (map survey_without_head ss))
+unfolding parts_in
+padding-same class f name [] s [] b [] of are =
+    ap (λ (k : ClassFields). ends_padding k (fields_of_head (unwrap_or (f name) []) s.head)
+    (length s.frames)) of.0
+    ∙ ap₂ (λ (h : Option Info) n. ends_padding class h n) (sym are.0.0) (sym (apart-length s))
+padding-same class f name (other ∷ names) s (t ∷ ss) b (c ∷ bs) of are =
+    padding-same class f other names t ss c bs of.1 are.1
+padding-same class f name _ s _ b _ of are = absurd are.1
+
+-- ---- all of it
+
+module _ (f : Contents) (name : List ℕ) (names : List (List ℕ)) (s : SurveyFields) (ss : List
+    SurveyFields) (b : Beginning) (bs : List Beginning) (d : Decided) (placed : List Placed)
+    (heads : AreHeads f (name ∷ names) (s ∷ ss) (b ∷ bs)) (of : AllOf s.class (s ∷ ss))
+    (decided : IsJoinedOf
+    s.class (broughts_in f (name ∷ names) (map survey_without_head (s ∷ ss)) (b ∷ bs)) d)
+    (plan : placed ≡ plan_of_run_needs (window_of s.class.version) (run_needs d)) where
+  abbrev file : List ℕ
+  file = unwrap_or (f name) []
+
+  abbrev first : FilePart
+  first = whole_part file s
+
+  abbrev parts : List FilePart
+  parts = parts_in f names ss
+
+  abbrev joined : SeamlessJoin
+  joined = join_of_parts first parts
+
+  is : IsJoined (part_brought first) joined d
+  unfolding broughts_in parts_in
+  is = subst (λ (l : List Brought). IsJoinedOf s.class l d)
+      (broughts-same f (name ∷ names) (s ∷ ss) (b ∷ bs) heads) decided
+
+  needs-same : run_needs d ≡ needs_of (run_of (part_brought first) joined)
+  needs-same =
+      ap₂ (λ n (l : List Need). drop n l) is.front is.needs
+      ∙ drop-map (λ (x : RunFrame). x.need)
+      joined.front (run_with (part_brought first) joined.joints)
+
+  plan-same : placed ≡ run_plan first parts
+  plan-same = plan ∙ ap (λ (l : List Need). least_plan (window_of s.class.version) own_choice
+      (l ∷ [])) needs-same
+
+  parts-are : run_parts first parts
+      ≡ rest_parts f (name ∷ names) (map survey_without_head (s ∷ ss)) (left_out_of d)
+  unfolding rest_parts
+  parts-are =
+      ap₂ (λ (p : FilePart) (l : List FilePart). p ∷ l)
+      (part-same joined.front file s
+      ∙ ap (λ n. rest_part n file (survey_without_head s)) (sym is.front))
+      (parts-same f names ss joined.joints d.joints.items is.joints)
+
+  -- the frames that are written are those of the join
+  pub frames-same : relaid_frames
+      (flat_map part_frames (rest_parts f (name ∷ names) (map survey_without_head (s ∷ ss))
+      (left_out_of d))) placed ≡ seamless_frames first parts
+  frames-same =
+      ap₂ (λ (l : List FilePart) (p : List Placed). relaid_frames (flat_map part_frames l) p)
+      (sym parts-are) plan-same
+
+  -- ---- the Info frame
+
+  abbrev moved : Moved
+  moved = moved_of d placed
+
+  abbrev ends : Ends
+  ends = record {
+    class = (survey_without_head s).class;
+    first = length (survey_without_head s).frames;
+    last =
+        last_length (survey_without_head s) (map survey_without_head ss);
+  }
+
+  leads-same : moved.lead_ins ≡ run_lead_ins first parts
+  leads-same =
+      ap₂ (λ (p : List Placed) (l : List Need). length p - length l) plan-same needs-same
+      ∙ ap (λ n. length (run_plan first parts) - n)
+      (length-map (run_of (part_brought first) joined) (λ (x : RunFrame). x.need))
+
+  delay-same : counted_delay ends.class (first_head (b ∷ bs)) ends.first moved
+      ≡ delay_of_run first parts
+  delay-same =
+      ap₂ (λ (h : Option Info) n. option_and_then (λ (p : Played).
+      short_delay (delay_after s.class moved p))
+      (counted_positions h s.class n)) heads.0.0 (apart-length s)
+      ∙ ap₂ (λ l o. option_and_then (λ (p : Played). short_delay (p.start + l * samples_in s.class
+      - o * samples_in s.class - decoder_delay)) (part_brought first).played) leads-same is.front
+
+  kept-same : (row : Row) (delay : Option ℕ) → info_kept (option_map (kept_with_delay (b ∷ bs) ends)
+      delay) row.header s.class (seamless_frames first parts) ≡ seamless_info delay row first parts
+  kept-same row None = refl
+  kept-same row (Some delay) =
+      let extension = extension_of (part_head first) delay (seamless_padding first parts) in
+      let same : extension_of b.head delay (ends_padding s.class (last_head (b ∷ bs)) ends.last)
+      ≡ extension =
+      ap₂ (λ (h : Option Info) n. extension_of h delay n)
+      heads.0.0 (sym (padding-same s.class f name names s ss b bs of heads)) in
+      let kept : gains_kept extension bs ≡ run_extension delay first parts =
+      ap (λ t. cond t extension (take 11 extension ++ (replicate 8 0 ++ drop 19 extension)))
+      (sym (all-say-same (replay_gain extension) f names ss bs heads.1)) in
+      ap₂ (λ (q : Option ℕ) (e : List ℕ).
+      sealed_info row.header (info_for s.class (seamless_frames first parts) q e))
+      (ap quality_of heads.0.0) (ap (λ e. gains_kept e bs) same ∙ kept)
+
+  -- the fields of the Info frame are those of the join
+  pub info-same : (row : Row)
+      → info_kept (run_kept (b ∷ bs) ends moved) row.header s.class (seamless_frames first parts)
+      ≡ seamless_info (delay_of_run first parts) row first parts
+  info-same row =
+      ap (λ o. info_kept (option_map (kept_with_delay (b ∷ bs) ends) o)
+      row.header s.class (seamless_frames first parts)) delay-same
+      ∙ kept-same row (delay_of_run first parts)
+
+  -- ---- the file
+
+  -- it is what was made ready
+  pub seamless-written : (info : List ℕ) → length ss ≤ length names
+      → FitsFromReach (window_of s.class.version) 0
+      (needs_of_parts (rest_rows (map survey_without_head (s ∷ ss)) (left_out_of d))) placed
+      → IsRunInfo (map survey_without_head (s ∷ ss)) (b ∷ bs) d placed info
+      → d.front < length s.frames → (concat (front_blocks file s) ++ info)
+      ++ bytes_of_frames (relaid_frames (flat_map part_frames
+      (rest_parts f (name ∷ names) (map survey_without_head (s ∷ ss)) (left_out_of d))) placed)
+      ≡ seamless_file (parts_in f (name ∷ names) (s ∷ ss))
+  unfolding seamless_file parts_in laid_file
+  seamless-written info many fits is_info within =
+      let frames = seamless_frames first parts in
+      let row = get-there s.frames d.front within in
+      let other = apart-header s d.front row.0 row.1 in
+      let laid = rest_parts f (name ∷ names) (map survey_without_head (s ∷ ss)) (left_out_of d) in
+      let slots : map slot_in frames ≡ map (λ (p : Placed). p.slot) placed =
+      ap (map slot_in) (sym frames-same)
+      ∙ relaid-slots (window_of s.class.version) 0
+      (needs_of_parts (rest_rows (map survey_without_head (s ∷ ss))
+      (left_out_of d))) (flat_map part_frames laid) placed
+      (behind-long f (name ∷ names) (map survey_without_head (s ∷ ss)) (left_out_of d)
+      (omega (arith, many, length-map ss survey_without_head))) fits in
+      let head : info
+      ≡ info_frame row.0.header (seamless_info (delay_of_run first parts) row.0 first parts) =
+      is_info frames slots (survey_without_head s) refl other.0 other.1 ends refl
+      ∙ ap (λ (h : HeaderFields). info_frame h
+      (info_kept (run_kept (b ∷ bs) ends moved) h s.class frames)) other.2
+      ∙ ap (info_frame row.0.header) (info-same row.0) in
+      let front = concat (front_blocks file s) in
+      append_assoc front info (bytes_of_frames (relaid_frames (flat_map part_frames laid) placed))
+      ∙ ap₂ (λ (i b : List ℕ). front ++ (i ++ b)) head
+      (ap bytes_of_frames frames-same ∙ sym (append-nil (bytes_of_frames frames)))
+      ∙ sym (ap (λ (o : Option Row). seamless_row_file o first parts)
+      (ap (slice_get s.frames) (sym is.front) ∙ row.1))
+    where
+      get-there : (rows : List Row) (n : ℕ) → n < length rows
+          → (r : Row) × (slice_get rows n ≡ Some r)
+      get-there [] n lt = absurd (omega (arith, lt))
+      get-there (r ∷ rows) zero lt = (r, refl)
+      get-there (r ∷ rows) (suc n) lt = get-there rows n (omega (arith, lt))
+
+  -- ---- the text
+
+  lines-same : (others : List (List ℕ)) (joints : List JointFrames) (results : List CodeJoint)
+      → AllZip IsJoint joints results → joint_lines others results ≡ seam_lines others joints
+  lines-same [] joints results are = refl
+  lines-same (n ∷ others) [] [] are = refl
+  lines-same (n ∷ others) (j ∷ joints) (r ∷ results) are = ap₂ (λ (m : Seam) (l : List ℕ).
+      seam_line n m ++ l) are.0.seam (lines-same others joints results are.1)
+  lines-same (n ∷ others) _ _ are = absurd are
+
+  -- the lines are the text of the join
+  pub text-same : joint_lines names d.joints.items
+      ≡ seamless_text (name ∷ names) (parts_in f (name ∷ names) (s ∷ ss))
+  unfolding seamless_text parts_in
+  text-same = lines-same names joined.joints d.joints.items is.joints

@@ -1,0 +1,384 @@
+-- What is compared of two frames: whether they sound alike.
+use Rattle.std.proofs.Common.{ap, ap₂, arith, Bool, bytes_eq, drop, false, length, length-append}
+use Rattle.std.proofs.Common.{List, map, refl, subst, suc, sum, sym, take, take-append-drop, true}
+use Rattle.std.proofs.Common.{zero, ℕ, [], ◌&&◌, ◌*◌, ◌++◌, ◌+◌, ◌-◌, ◌/◌, ◌∙◌, ◌∷◌, ◌≡◌}
+use Rattle.std.proofs.{Math.Seq.take-add, lemmas.Bool.Decides.same_from_decides}
+use Rattle.std.proofs.lemmas.List.{drop_at, length-map, take_all, take_at}
+use Rattle.std.proofs.lemmas.{List.Sums.{sum_by-cons, sum_by_from}, Slice.Eq.bytes_eq-Decides}
+use Rattle.std.specs.{Bool.Decides, List.concat, Prelude.{MatchBool, slice_index_or, sum_by}}
+use Rattle.bit_fields.proofs.BitsLemmas.{bits-injective, length-bits}
+use Rattle.bit_fields.specs.Bits.{AreBytes, bits, bits_of}
+use Rattle.frame_header.proofs.HeaderLemmas.{IsClass-class_of, length-header_bits}
+use Rattle.frame_header.specs.Fields.{ClassFields, HeaderFields, IsClass, SlotFields}
+use Rattle.frame_header.specs.HeaderBits.{flag_of, header_bits}
+use Rattle.frame_header.specs.declared.version.Version.TheVariants.{One, Two, TwoFive}
+use Rattle.frame_writer.{proofs.LaidLemmas.length-zeros, specs.{Frames.Frame, Laid.zeros}}
+use Rattle.join_edits.specs.{Seamless.sound_of, Sounds.{compared_side, without_gain, without_slot}}
+use Rattle.laying.specs.LaidFiles.{HasPairs, IsStreamEntry, stream_entry}
+use Rattle.side_info.proofs.FrontLemmas.{slot_put}
+use Rattle.side_info.proofs.SideLemmas.{bits_least, each_side, IsShaped, length-side_bits}
+use Rattle.side_info.proofs.SideLemmas.{side_at-side_bits, side_with}
+use Rattle.side_info.specs.{Granule.{GranuleFits, no_granule}, Parts.class_with}
+use Rattle.side_info.specs.Side.{granule_in, granules_in, has_granule, payload_bits, payload_bytes}
+use Rattle.side_info.specs.{Side.{side_at, side_bits, SideFits}, declared.granule.Granule.Granule}
+use Rattle.side_info.specs.declared.side.Side.{Side}
+use Rattle.sync_survey.specs.MainData.{granule_lengths, no_slot, split_bits}
+
+-- ---- tests
+
+-- two tests of bytes say the same where each follows from the other
+pub same-tests : (a b c d : List ℕ) → (a ≡ b → c ≡ d) → (c ≡ d → a ≡ b)
+    → bytes_eq a b ≡ bytes_eq c d
+same-tests a b c d to from =
+    same_from_decides (bytes_eq a b) (bytes_eq c d) (bytes_eq-Decides a b) (
+      λ test. from ((bytes_eq-Decides c d).0 test),
+      λ same. (bytes_eq-Decides c d).1 (to same),
+    )
+
+-- bytes are the same where their bits are
+pub bits-tested : (a b xs ys : List ℕ) → bits a ≡ xs → bits b ≡ ys → AreBytes a → AreBytes b
+    → bytes_eq a b ≡ bytes_eq xs ys
+bits-tested a b xs ys first second octets others =
+    same-tests a b xs ys (λ same. sym first ∙ ap bits same ∙ second)
+    (λ same. bits-injective a b octets others (first ∙ same ∙ sym second))
+
+-- two lists are the same where their parts are
+module _ {X : Type 0} where
+  -- the parts in front are the same, if they are of the same length
+  pub front-same : (us vs xs ys : List X) → length us ≡ length vs → us ++ xs ≡ vs ++ ys → us ≡ vs
+  front-same us vs xs ys long is =
+      sym (take_at us xs (length us) refl) ∙ ap (take (length us)) is ∙ take_at vs ys (length us)
+      (sym long)
+
+  -- and so are the parts behind them
+  pub back-same : (us vs xs ys : List X) → length us ≡ length vs → us ++ xs ≡ vs ++ ys → xs ≡ ys
+  back-same us vs xs ys long is =
+      sym (drop_at us xs (length us) refl) ∙ ap (drop (length us)) is ∙ drop_at vs ys (length us)
+      (sym long)
+
+-- ---- headers
+
+put-slot : SlotFields → List ℕ → List ℕ
+put-slot slot bs =
+    let middle = take 16 bs ++ bits_of 4 slot.rate_index ++ drop 20 bs in
+    take 22 middle ++ bits_of 1 (flag_of slot.padding) ++ drop 23 middle
+
+-- the bits in another slot are the same but for the slot's
+slot-bits : (h : HeaderFields) (slot : SlotFields)
+    → put-slot slot (header_bits h) ≡ header_bits (record h { slot = slot })
+unfolding put-slot
+slot-bits h slot = slot_put h slot (header_bits h) _ _ refl refl refl
+
+-- so headers that are the same in one slot are in every slot
+slot-same : (g h : HeaderFields) (s t : SlotFields)
+    → header_bits (record g { slot = s }) ≡ header_bits (record h { slot = s })
+    → header_bits (record g { slot = t }) ≡ header_bits (record h { slot = t })
+slot-same g h s t is =
+    sym (slot-bits (record g { slot = s }) t) ∙ ap (put-slot t) is ∙ slot-bits
+    (record h { slot = s }) t
+
+-- whether headers in one slot are the same is whether they are without their slots
+pub header-alike : (g h : HeaderFields) (a b : List ℕ) (r : Bool)
+    → bits a ≡ header_bits (record g { slot = h.slot }) → bits b ≡ header_bits h
+    → AreBytes a → AreBytes b → r ≡ bytes_eq a b
+    → r ≡ bytes_eq (header_bits (without_slot g)) (header_bits (without_slot h))
+header-alike g h a b r first second octets others is =
+    is
+    ∙ same-tests a b (header_bits (without_slot g)) (header_bits (without_slot h))
+    (λ same. slot-same g h h.slot no_slot (sym first ∙ ap bits same ∙ second))
+    (λ same. bits-injective a b octets others
+    (first ∙ slot-same g h no_slot h.slot same ∙ sym second))
+
+-- ---- side information without gains
+
+index-map : {X Y : Type 0} (f : X → Y) (xs : List X) (i : ℕ) (d : X)
+    → slice_index_or (map f xs) i (f d) ≡ f (slice_index_or xs i d)
+index-map f [] i d = refl
+index-map f (x ∷ xs) zero d = refl
+index-map f (x ∷ xs) (suc i) d = index-map f xs i d
+
+bare-granule : (s : Side) (granule channel : ℕ)
+    → granule_in (compared_side s) granule channel ≡ without_gain (granule_in s granule channel)
+bare-granule s granule channel =
+    ap (λ (gs : List Granule). slice_index_or gs channel no_granule)
+    (index-map (map without_gain) s.granules granule [])
+    ∙ index-map without_gain (slice_index_or s.granules granule []) channel no_granule
+
+fits-bare : (c : ClassFields) (b : Bool) (g : Granule)
+    → MatchBool b (GranuleFits c.version g) (g ≡ no_granule)
+    → MatchBool b (GranuleFits c.version (without_gain g)) (without_gain g ≡ no_granule)
+fits-bare c true g fits = record {
+  part2_3_length = fits.part2_3_length;
+  big_values = fits.big_values;
+  global_gain = omega arith;
+  scalefac_compress = fits.scalefac_compress;
+  detail = fits.detail;
+  preflag = fits.preflag;
+}
+fits-bare c false g none = ap without_gain none
+
+-- side information fits, too, without gains and main_data_begin
+pub bare-fits : (c : ClassFields) (s : Side) → SideFits c s → SideFits c (compared_side s)
+bare-fits c s fits = record {
+  main_data_begin = omega (arith, fits.main_data_begin);
+  private_bits = fits.private_bits;
+  scfsi = fits.scfsi;
+  granules = λ granule channel.
+      subst (λ (g : Granule). MatchBool (has_granule c granule channel) (GranuleFits c.version g)
+      (g ≡ no_granule))
+      (sym (bare-granule s granule channel)) (fits-bare c (has_granule c granule channel)
+      (granule_in s granule channel) (fits.granules granule channel));
+}
+
+pairs-shaped : (s : Side) → HasPairs s → IsShaped s
+pairs-shaped s pairs =
+    record {
+      scfsi = pairs.scfsi;
+      granules = pairs.granules;
+      first = pairs.first;
+      second = pairs.second;
+    }
+
+bare-shaped : (s : Side) → HasPairs s → IsShaped (compared_side s)
+bare-shaped s pairs = record {
+  scfsi = pairs.scfsi;
+  granules = length-map s.granules (map without_gain) ∙ pairs.granules;
+  first = ap length (index-map (map without_gain) s.granules 0 []) ∙ length-map
+      (slice_index_or s.granules 0 []) without_gain ∙ pairs.first;
+  second = ap length (index-map (map without_gain) s.granules 1 []) ∙ length-map
+      (slice_index_or s.granules 1 []) without_gain ∙ pairs.second;
+}
+
+-- ---- how many bits of main data
+
+abbrev length_of : Granule → ℕ
+length_of g = g.part2_3_length
+
+sum-bare : (gs : List Granule) → sum_by length_of (map without_gain gs) ≡ sum_by length_of gs
+sum-bare [] = refl
+sum-bare (g ∷ gs) =
+    sum_by-cons length_of (without_gain g) (map without_gain gs) ∙ ap (λ n. g.part2_3_length + n)
+    (sum-bare gs) ∙ sym (sum_by-cons length_of g gs)
+
+sums-bare : (gs : List (List Granule))
+    → sum_by (sum_by length_of) (map (map without_gain) gs) ≡ sum_by (sum_by length_of) gs
+sums-bare [] = refl
+sums-bare (hs ∷ gs) =
+    sum_by-cons (sum_by length_of) (map without_gain hs) (map (map without_gain) gs)
+    ∙ ap₂ (λ m n. m + n) (sum-bare hs) (sums-bare gs)
+    ∙ sym (sum_by-cons (sum_by length_of) hs gs)
+
+payload-bare : (s : Side) → payload_bits (compared_side s) ≡ payload_bits s
+unfolding payload_bits
+payload-bare s = sums-bare s.granules
+
+-- those of the granules that the class has
+abbrev LengthsAre : ClassFields → Side → Type 0
+LengthsAre c s = SideFits c s → sum (map length_of (granules_in c s)) ≡ payload_bits s
+
+lengths-one-mono : (f m p a b : ℕ) (g h k l : Granule)
+    → LengthsAre (class_with One f 1) (side_with m p a b g h k l)
+unfolding payload_bits granules_in
+lengths-one-mono f m p a b g h k l fits =
+    omega (arith, ap length_of (fits.granules 0 1), ap length_of (fits.granules 1 1))
+
+lengths-one-stereo : (f m p a b : ℕ) (g h k l : Granule)
+    → LengthsAre (class_with One f 2) (side_with m p a b g h k l)
+unfolding payload_bits granules_in
+lengths-one-stereo f m p a b g h k l fits = omega arith
+
+lengths-two-mono : (f m p a b : ℕ) (g h k l : Granule)
+    → LengthsAre (class_with Two f 1) (side_with m p a b g h k l)
+unfolding payload_bits granules_in
+lengths-two-mono f m p a b g h k l fits =
+    omega (
+      arith,
+      ap length_of (fits.granules 0 1),
+      ap length_of (fits.granules 1 0),
+      ap length_of
+          (fits.granules 1 1),
+    )
+
+lengths-two-stereo : (f m p a b : ℕ) (g h k l : Granule)
+    → LengthsAre (class_with Two f 2) (side_with m p a b g h k l)
+unfolding payload_bits granules_in
+lengths-two-stereo f m p a b g h k l fits =
+    omega (arith, ap length_of (fits.granules 1 0), ap length_of (fits.granules 1 1))
+
+lengths-as-two : (f channels : ℕ) (s : Side) → LengthsAre (class_with Two f channels) s
+    → LengthsAre (class_with TwoFive f channels) s
+unfolding granules_in
+lengths-as-two f channels s two fits =
+    two (record {
+      main_data_begin = fits.main_data_begin;
+      private_bits = fits.private_bits;
+      scfsi = fits.scfsi;
+      granules = fits.granules;
+    })
+
+lengths-are : (c : ClassFields) → IsClass c → (s : Side) → IsShaped s → LengthsAre c s
+lengths-are =
+    each_side LengthsAre lengths-one-mono lengths-one-stereo lengths-two-mono lengths-two-stereo
+    lengths-as-two
+
+sum-next : (n : ℕ) (ns : List ℕ) → sum (n ∷ ns) ≡ n + sum ns
+sum-next n ns =
+    let one : sum (n ∷ ns) ≡ 0 + n + sum_by (λ x. x) ns = sum_by_from (λ x. x) (0 + n) ns in
+    let others : sum ns ≡ 0 + sum_by (λ x. x) ns = sum_by_from (λ x. x) 0 ns in
+    omega (arith, one, others)
+
+-- parts of a list are the list again
+concat-parts : (ns bs : List ℕ) → concat (split_bits ns bs) ≡ take (sum ns) bs
+unfolding split_bits
+concat-parts [] bs = refl
+concat-parts (n ∷ ns) bs =
+    ap (λ (l : List ℕ). take n bs ++ l) (concat-parts ns (drop n bs)) ∙ sym (take-add n (sum ns) bs)
+    ∙ ap (λ k. take k bs) (sym (sum-next n ns))
+
+-- ---- two frames
+
+module _ (c : ClassFields) (f : Frame) (is : IsStreamEntry c f) where
+  abbrev side : Side
+  side = f.kept.side
+
+  known : IsClass c
+  known = subst IsClass is.class (IsClass-class_of f.kept.header is.header)
+
+  abbrev data_bits : List ℕ
+  data_bits = take (payload_bits side) (bits f.payload)
+
+  data-many : length data_bits ≡ payload_bits side
+  data-many =
+      let split = take-append-drop (payload_bits side) (bits f.payload) in
+      omega (
+        arith,
+        ap length split,
+        length-append data_bits
+            (drop (payload_bits side) (bits f.payload)),
+        ap length is.filled,
+        length-bits f.payload,
+        is.size,
+        length-zeros (8 * payload_bytes side - payload_bits side),
+        bits_least side,
+      )
+
+  all-bits : bits f.payload ≡ data_bits ++ zeros (8 * payload_bytes side - payload_bits side)
+  all-bits = sym (take-append-drop (payload_bits side) (bits f.payload))
+      ∙ ap (λ (l : List ℕ). data_bits ++ l) is.filled
+
+  parts-are : concat (stream_entry f).payload ≡ data_bits
+  parts-are =
+      concat-parts (granule_lengths f.kept.header side) data_bits
+      ∙ ap (λ n. take n data_bits) (ap (λ k. sum (map length_of (granules_in k side))) is.class
+      ∙ lengths-are c known side (pairs-shaped side is.pairs) is.fits)
+      ∙ take_all (payload_bits side) data_bits (omega (arith, data-many))
+
+  -- the sound is the header without its slot, the bare side information and the main data
+  pub sound-is : sound_of c (stream_entry f) ≡ header_bits
+      (without_slot f.kept.header) ++ (side_bits c (compared_side side) ++ data_bits)
+  sound-is = ap (λ (l : List ℕ). header_bits (without_slot f.kept.header) ++ (side_bits c
+      (compared_side side) ++ l)) parts-are
+
+module _ (c : ClassFields) (f g : Frame) (first : IsStreamEntry c f)
+    (second : IsStreamEntry c g) where
+  abbrev same_header : Bool
+  same_header = bytes_eq (header_bits (without_slot f.kept.header))
+      (header_bits (without_slot g.kept.header))
+
+  abbrev same_side : Bool
+  same_side =
+      bytes_eq (side_bits c (compared_side f.kept.side)) (side_bits c (compared_side g.kept.side))
+
+  side-long : length (side_bits c (compared_side f.kept.side))
+      ≡ length (side_bits c (compared_side g.kept.side))
+  side-long =
+      length-side_bits c (known c f first) (compared_side f.kept.side)
+      (bare-shaped f.kept.side first.pairs)
+      ∙ sym (length-side_bits c (known c f first) (compared_side g.kept.side)
+      (bare-shaped g.kept.side second.pairs))
+
+  header-long : length (header_bits (without_slot f.kept.header)) ≡ length
+      (header_bits (without_slot g.kept.header))
+  header-long = length-header_bits (without_slot f.kept.header) ∙ sym
+      (length-header_bits (without_slot g.kept.header))
+
+  -- the same side information has main data as long
+  sides-many : side_bits c (compared_side f.kept.side) ≡ side_bits c (compared_side g.kept.side)
+      → payload_bits f.kept.side ≡ payload_bits g.kept.side
+  sides-many same =
+      let back = side_at-side_bits c (known c f first) in
+      let sides : compared_side f.kept.side ≡ compared_side g.kept.side =
+      sym (back (compared_side f.kept.side) (bare-shaped f.kept.side first.pairs)
+      (bare-fits c f.kept.side first.fits))
+      ∙ ap (side_at c) same
+      ∙ back (compared_side g.kept.side) (bare-shaped g.kept.side second.pairs)
+      (bare-fits c g.kept.side second.fits) in
+      sym (payload-bare f.kept.side) ∙ ap payload_bits sides ∙ payload-bare g.kept.side
+
+  abbrev Sounds : Type 0
+  Sounds = sound_of c (stream_entry f) ≡ sound_of c (stream_entry g)
+
+  sounds-parts : Sounds → (header_bits (without_slot f.kept.header) ++ (side_bits c
+      (compared_side f.kept.side) ++ data_bits c f first))
+      ≡ header_bits (without_slot g.kept.header) ++ (side_bits c
+      (compared_side g.kept.side) ++ data_bits c g second)
+  sounds-parts same = sym (sound-is c f first) ∙ same ∙ sound-is c g second
+
+  sound-headers : Sounds
+      → header_bits (without_slot f.kept.header) ≡ header_bits (without_slot g.kept.header)
+  sound-headers same = front-same _ _ _ _ header-long (sounds-parts same)
+
+  sound-rest : Sounds → side_bits c (compared_side f.kept.side) ++ data_bits c f first ≡ side_bits c
+      (compared_side g.kept.side) ++ data_bits c g second
+  sound-rest same = back-same _ _ _ _ header-long (sounds-parts same)
+
+  sound-sides : Sounds
+      → side_bits c (compared_side f.kept.side) ≡ side_bits c (compared_side g.kept.side)
+  sound-sides same = front-same _ _ _ _ side-long (sound-rest same)
+
+  zeros-same : payload_bits f.kept.side ≡ payload_bits g.kept.side
+      → zeros (8 * payload_bytes f.kept.side - payload_bits f.kept.side) ≡ zeros
+      (8 * payload_bytes g.kept.side - payload_bits g.kept.side)
+  unfolding payload_bytes
+  zeros-same many = ap (λ n. zeros (8 * ((n + 7) / 8) - n)) many
+
+  sound-payloads : Sounds → f.payload ≡ g.payload
+  sound-payloads same =
+      let datas = back-same _ _ _ _ side-long (sound-rest same) in
+      let many : payload_bits f.kept.side ≡ payload_bits g.kept.side = sym (data-many c f first)
+      ∙ ap length datas ∙ data-many c g second in
+      bits-injective f.payload g.payload first.octets second.octets
+      (all-bits c f first ∙ ap₂ (λ (a b : List ℕ). a ++ b) datas (zeros-same many) ∙ sym
+      (all-bits c g second))
+
+  sounds-made : header_bits (without_slot f.kept.header) ≡ header_bits (without_slot g.kept.header)
+      → side_bits c (compared_side f.kept.side) ≡ side_bits c (compared_side g.kept.side)
+      → f.payload ≡ g.payload → Sounds
+  sounds-made headers sides payloads =
+      let datas : data_bits c f first ≡ data_bits c g second =
+      ap₂ (λ n (l : List ℕ). take n (bits l)) (sides-many sides) payloads in
+      sound-is c f first ∙ ap₂ (λ (a b : List ℕ). a ++ b) headers
+      (ap₂ (λ (a b : List ℕ). a ++ b) sides datas) ∙ sym (sound-is c g second)
+
+  -- they sound alike where all three are the same
+  pub sounds-tested : (same_header && same_side) && bytes_eq f.payload g.payload
+      ≡ bytes_eq (sound_of c (stream_entry f)) (sound_of c (stream_entry g))
+  sounds-tested =
+      same_from_decides _ _ (by same_header same_side (bytes_eq f.payload g.payload)
+      (bytes_eq-Decides _ _) (bytes_eq-Decides _ _) (bytes_eq-Decides _ _))
+      (bytes_eq-Decides (sound_of c (stream_entry f)) (sound_of c (stream_entry g)))
+    where
+      false-not : false ≡ true → ⊥
+      false-not e = cc
+
+      by : (x y z : Bool) → Decides x (header_bits (without_slot f.kept.header) ≡ header_bits
+          (without_slot g.kept.header)) → Decides y
+          (side_bits c (compared_side f.kept.side) ≡ side_bits c (compared_side g.kept.side))
+          → Decides z (f.payload ≡ g.payload) → Decides ((x && y) && z) Sounds
+      by true true true hs ss ps =
+          (λ t. sounds-made (hs.0 refl) (ss.0 refl) (ps.0 refl), λ same. refl)
+      by true true false hs ss ps = (λ t. absurd cc, λ same. ps.1 (sound-payloads same))
+      by true false z hs ss ps =
+          (λ t. absurd cc, λ same. absurd (false-not (ss.1 (sound-sides same))))
+      by false y z hs ss ps =
+          (λ t. absurd cc, λ same. absurd (false-not (hs.1 (sound-headers same))))

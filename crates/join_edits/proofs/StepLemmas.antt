@@ -1,0 +1,340 @@
+-- The inputs given to the writer, one more at a time.
+use Rattle.std.proofs.Common.{ap, append_assoc, arith, drop, get_or, length, List, map, refl}
+use Rattle.std.proofs.Common.{slice_index_or, subst, sym, ℕ, [], ◌++◌, ◌+◌, ◌-◌, ◌<◌, ◌∙◌, ◌∷◌, ◌≡◌}
+use Rattle.std.proofs.{Common.{◌≢◌, ◌≤◌}, lemmas.List.{drop-map, get_or-drop}}
+use Rattle.std.specs.Prelude.{flat_map, slice_range, unwrap_or}
+use Rattle.frame_header.specs.{Fields.ClassFields, Tables.window_of}
+use Rattle.frame_writer.specs.Frames.{Frame, IsNextSettled, reach_of}
+use Rattle.frame_writer.specs.Writing.{IsNewQueue, Writing}
+use Rattle.join_edits.proofs.SourceLemmas.{source-holds, sources-beside}
+use Rattle.join_edits.specs.{Inputs.told_contents, Laying.{AreSources, IsSource}}
+use Rattle.join_edits.specs.RestOfInputs.{AreCountsWithin, rest_part, rest_parts, rest_rows}
+use Rattle.join_edits.specs.RestOfInputs.{told_rest_parts}
+use Rattle.laying.proofs.{FramesFromLemmas.{from-length, needs-length}, HoldLemmas.needs-range}
+use Rattle.laying.proofs.PassLemmas.{lays_none, lays_then, part_then}
+use Rattle.laying.proofs.{PlacesLemmas.{fits-append, relaid-append}, PlannedFrameLemmas.AreNeedsOf}
+use Rattle.laying.proofs.RelayLemmas.{begins-left, item-next, lays-all, LaysUpTo, part_more}
+use Rattle.laying.{proofs.RelayLemmas.relaid-none, specs.Fits.{FitsFromReach, last_reach}}
+use Rattle.laying.specs.Needs.{needs_of_parts}
+use Rattle.laying.specs.Passing.{IsRelayReady, LaysFrames, LaysPart, needs_from}
+use Rattle.laying.specs.Places.{own_places, places_for}
+use Rattle.laying.specs.Relaid.{all_frames, part_frames, relaid_frames}
+use Rattle.laying.specs.declared.relay.Relay.{Relay}
+use Rattle.outside.proofs.FilesLemmas.{appended_touches}
+use Rattle.outside.{proofs.PassLemmas.{input_held, input_holds, still_there}, specs.Counts.Counts}
+use Rattle.outside.specs.Feed.{Fed, IsFedFrom}
+use Rattle.outside.specs.Files.{Contents, Files, Holds, IsFileThere, OnlyTouches}
+use Rattle.outside.specs.{Pass.{HasPassCause, route}, declared.pass.PassFault.PassFault}
+use Rattle.slot_plan.specs.declared.needs.{Need.Need, Placed.Placed}
+use Rattle.sync_survey.specs.Faults.{survey_view, SurveyFields}
+
+-- ---- one of them
+
+-- from a place on what is made of a list is what is made of the next, and of those behind it
+pub map-next : {X Y : Type 0} (f : X → Y) (xs : List X) (i : ℕ) (x : X) → i < length xs
+    → x ≡ get_or xs i x → drop i (map f xs) ≡ f x ∷ drop (i + 1) (map f xs)
+map-next f xs i x within is = drop-map f i xs ∙ ap (map f) (item-next xs i x within is)
+    ∙ ap (λ l. f x ∷ l) (sym (drop-map f (i + 1) xs))
+
+-- an input is ready to be read beside the output
+pub source-ready : (relay : Relay) (files : Files) (fed : Fed)
+    → IsSource relay.pass.output.now files relay.pass.input.now (survey_view relay.survey.now)
+    → IsFileThere files relay.pass.output.now
+    → relay.pass.length ≡ (survey_view relay.survey.now).length
+    → IsFedFrom fed files relay.pass.input.now → IsRelayReady relay files fed
+source-ready relay files fed source target long fed_from = record {
+  pass = record {
+    apart = source.apart;
+    source = source.there;
+    target = target;
+    length_is = λ file holds. (source.exact file holds).long ∙ sym long;
+    few = omega (arith, long, source.laid.few);
+    fed_from = fed_from;
+  };
+  length_is = long;
+  exact = source.exact;
+  laid = source.laid;
+}
+
+-- ---- their frames
+
+-- the frames from one on as they were planned
+abbrev frames_behind : ℕ → SurveyFields → List Placed → List ℕ → List Frame
+frames_behind from s placed file =
+    relaid_frames (slice_range (all_frames file s) from (length s.frames)) placed
+
+-- how many bytes before the next area main data may begin after them
+abbrev reach_behind : ℕ → ℕ → SurveyFields → List Placed → ℕ
+reach_behind reach from s placed =
+    last_reach (window_of s.class.version) reach (needs_from s from (length s.frames)) placed
+
+needs-append : (needs more : List Need) (fs gs : List Frame) → AreNeedsOf needs fs
+    → AreNeedsOf more gs → AreNeedsOf (needs ++ more) (fs ++ gs)
+needs-append [] more [] gs are behind = behind
+needs-append (need ∷ needs) more (f ∷ fs) gs are behind =
+    (are.0, are.1, needs-append needs more fs gs are.2 behind)
+needs-append _ more _ gs are behind = absurd are
+
+abbrev pub told_frames : Files → List (List ℕ) → List SurveyFields → List ℕ → List Frame
+told_frames files names ss froms = flat_map part_frames (told_rest_parts files names ss froms)
+
+-- where they are told, their frames are those that the plan was made for
+sources-needs : (class : ClassFields) (output : List ℕ) (files : Files) (key file : List ℕ)
+    (names : List (List ℕ)) (ss : List SurveyFields) (froms : List ℕ) → Holds files key file
+    → AreSources class output files names ss
+    → AreNeedsOf (needs_of_parts (rest_rows ss froms)) (told_frames files names ss froms)
+unfolding needs_of_parts rest_rows rest_parts
+sources-needs class output files key file [] [] froms holds are = tt
+sources-needs class output files key file (name ∷ names) (s ∷ ss) [] holds are = tt
+sources-needs class output files key file (name ∷ names) (s ∷ ss) (from ∷ froms) holds are =
+    let bytes = unwrap_or (told_contents files name) [] in
+    let has = are.0.0.exact bytes (source-holds files key file name s holds are.0.0) in
+    needs-append (needs_from s from (length s.frames)) (needs_of_parts (rest_rows ss froms))
+    (part_frames (rest_part from bytes s)) (told_frames files names ss froms)
+    (needs-range bytes s from (length s.frames) has)
+    (sources-needs class output files key file names ss froms holds are.1)
+sources-needs class output files key file _ _ _ holds are = absurd are
+
+-- an input's frames are before those of the inputs after it
+own-split : (f : Contents) (name : List ℕ) (s : SurveyFields) (from : ℕ) (names : List (List ℕ))
+    (ss : List SurveyFields) (froms : List ℕ) (placed : List Placed) → relaid_frames
+    (flat_map part_frames (rest_parts f (name ∷ names) (s ∷ ss) (from ∷ froms))) placed
+    ≡ frames_behind from s placed (unwrap_or (f name) [])
+    ++ relaid_frames (flat_map part_frames (rest_parts f names ss froms))
+    (drop (places_for (length s.frames - from) placed) placed)
+unfolding rest_parts
+own-split f name s from names ss froms placed =
+    let file = unwrap_or (f name) [] in
+    let own = frames_behind from s placed file in
+    let rest = flat_map part_frames (rest_parts f names ss froms) in
+    relaid-append (slice_range (all_frames file s) from (length s.frames)) rest placed
+    ∙ ap (λ n. own ++ relaid_frames rest (drop (places_for n placed) placed))
+    (from-length file from s)
+
+told-none : (f : Contents) (ss : List SurveyFields) (froms : List ℕ) (placed : List Placed)
+    → relaid_frames (flat_map part_frames (rest_parts f [] ss froms)) placed ≡ []
+unfolding rest_parts
+told-none f [] froms placed = relaid-none placed
+told-none f (s ∷ ss) froms placed = relaid-none placed
+
+-- the plan fits the input, and after it those that follow
+fits-input : (class : ClassFields) (reach : ℕ) (s : SurveyFields) (from : ℕ)
+    (ss : List SurveyFields) (froms : List ℕ) (placed : List Placed) → s.class ≡ class
+    → FitsFromReach (window_of class.version) reach
+    (needs_of_parts (rest_rows (s ∷ ss) (from ∷ froms)))
+    placed
+    → FitsFromReach (window_of s.class.version) reach (needs_from s from (length s.frames))
+    (own_places (length s.frames - from) placed)
+    × FitsFromReach (window_of class.version) (reach_behind reach from s placed)
+    (needs_of_parts (rest_rows ss froms)) (drop (places_for (length s.frames - from) placed) placed)
+unfolding needs_of_parts rest_rows
+fits-input class reach s from ss froms placed same fits =
+    let window = window_of class.version in
+    let own = needs_from s from (length s.frames) in
+    let rest = needs_of_parts (rest_rows ss froms) in
+    rw same
+    (subst (λ n. FitsFromReach window reach own (own_places n placed)
+    × FitsFromReach window (last_reach window reach own placed) rest
+    (drop (places_for n placed) placed))
+    (needs-length from s) (fits-append window reach own rest placed fits))
+
+-- ---- one after another
+
+-- The inputs before were given to the writer as they were planned. These are left, with these
+-- surveys, their frames from these on, and these places of the plan.
+pub record IsLaidTo (class : ClassFields) (key output : List ℕ) (whole : List ℕ → List Frame)
+    (begun now : Writing) (first files : Files) (names : List (List ℕ)) (ss : List SurveyFields)
+    (froms : List ℕ) (placed : List Placed) : Type 0 where
+  pub sources : AreSources class output first names ss
+  pub within : AreCountsWithin ss froms
+  pub target : IsFileThere files output
+  pub class_is : now.held.class ≡ class
+  pub fits : FitsFromReach (window_of class.version) (reach_of now.held)
+      (needs_of_parts (rest_rows ss froms)) placed
+  pub unsettled : IsNextSettled now.held → ⊥
+  pub lays : LaysUpTo key output whole
+      (λ _. relaid_frames (told_frames first names ss froms) placed)
+      begun now first files
+
+-- before the first input nothing was laid
+pub laid-none : {class : ClassFields} (key : List ℕ) {output : List ℕ} (w : Writing)
+    {files : Files} {names : List (List ℕ)} {ss : List SurveyFields} {froms : List ℕ}
+    {placed : List Placed} → AreSources class output files names ss → AreCountsWithin ss froms
+    → IsFileThere files output → IsNewQueue class w.held → FitsFromReach (window_of class.version)
+    (reach_of w.held) (needs_of_parts (rest_rows ss froms)) placed → IsLaidTo class key output
+    (λ _. relaid_frames (told_frames files names ss froms) placed) w w files
+    files names ss froms placed
+laid-none key {output} w {files} sources within target new fits = record {
+  sources = sources;
+  within = within;
+  target = target;
+  class_is = new.class_is;
+  fits = fits;
+  unsettled = new.unsettled;
+  lays = record {
+    made = λ file. [];
+    lays = lays_none key output (λ file. []) w files target (λ file holds. refl);
+    left = λ file holds. refl;
+  };
+}
+
+-- behind the last all were laid
+pub laid-all : {class : ClassFields} {key output : List ℕ} {whole : List ℕ → List Frame}
+    {begun now : Writing} {first files : Files} {names : List (List ℕ)} {ss : List SurveyFields}
+    {froms : List ℕ} {placed : List Placed} → names ≡ []
+    → IsLaidTo class key output whole begun now first files names ss froms placed
+    → LaysFrames key output whole begun now first files
+laid-all {class} {key} {output} {whole} {begun} {now} {first} {files} {names} {ss} {froms} {placed}
+    none laid =
+    lays-all key output whole
+    (λ _. relaid_frames (told_frames first names ss froms) placed) begun now
+    first files laid.lays (λ file holds. rw none (told-none (told_contents first) ss froms placed))
+
+-- there is a number for each
+pub within-long : (ss : List SurveyFields) (froms : List ℕ) → AreCountsWithin ss froms
+    → length ss ≤ length froms
+within-long [] froms within = omega arith
+within-long (s ∷ ss) [] within = absurd within
+within-long (s ∷ ss) (from ∷ froms) within = omega (arith, within-long ss froms within.1)
+
+-- the next one, in the first of the places that are left
+module _ {class : ClassFields} {key output : List ℕ} {whole : List ℕ → List Frame}
+    {begun now : Writing} {first files : Files} {names later : List (List ℕ)}
+    {ss behind : List SurveyFields} {froms others : List ℕ} {placed left : List Placed}
+    {name : List ℕ} {s : SurveyFields} {from : ℕ}
+    (names-are : names ≡ name ∷ later) (ss-are : ss ≡ s ∷ behind)
+    (froms-are : froms ≡ from ∷ others) (left-is : placed ≡ left)
+    (laid : IsLaidTo class key output whole begun now first files names ss froms placed) where
+  here : IsLaidTo class key output whole begun now first files (name ∷ later) (s ∷ behind)
+      (from ∷ others) left
+  here = rw (names-are, ss-are, froms-are, left-is) at laid
+
+  -- it is there, and has its survey
+  pub next-source : IsSource output files name s
+  next-source =
+      let sofar = here.lays.lays in
+      let touches : OnlyTouches (output ∷ []) first files =
+      rw sofar.files (appended_touches first output sofar.passed) in
+      let names = name ∷ later in
+      (sources-beside class output first files names (s ∷ behind) touches here.sources).0.0
+
+  -- it has the class of those before it
+  pub next-class : now.held.class ≡ s.class
+  next-class = here.class_is ∙ sym here.sources.0.1
+
+  -- it fits in its places, and the others in those behind them
+  pub next-within : from ≤ length s.frames
+  next-within = here.within.0
+
+  abbrev count : ℕ
+  count = places_for (length s.frames - from) left
+
+  pub both-fit :
+      FitsFromReach (window_of s.class.version) (reach_of now.held)
+      (needs_from s from (length s.frames))
+      (own_places (length s.frames - from) left)
+      × FitsFromReach (window_of class.version) (reach_behind (reach_of now.held) from s left)
+      (needs_of_parts (rest_rows behind others)) (drop count left)
+  both-fit =
+      fits-input class (reach_of now.held) s from behind others left here.sources.0.1 here.fits
+
+  abbrev bytes : List ℕ
+  bytes = unwrap_or (told_contents first name) []
+
+  abbrev own : List ℕ → List Frame
+  own _ = frames_behind from s left bytes
+
+  abbrev rest : List ℕ → List Frame
+  rest _ = relaid_frames (told_frames first later behind others) (drop count left)
+
+  split : (file : List ℕ) → Holds first key file
+      → (here.lays.made file ++ own file) ++ rest file ≡ whole file
+  split file holds =
+      append_assoc (here.lays.made file) (own file) (rest file)
+      ∙ ap (λ (l : List Frame). here.lays.made file ++ l)
+      (sym (own-split (told_contents first) name s from later behind others left))
+      ∙ sym (here.lays.left file holds)
+
+  module _ (apart : key ≢ output) (after : Files) where
+    -- where the files are told, the input is
+    told : (file : List ℕ) → Holds files key file → Holds files name bytes
+    told file holds =
+        let sofar = here.lays.lays in
+        let source = here.sources.0.0 in
+        let begun = input_held first files key output sofar.passed file apart sofar.files holds in
+        input_holds first files name output sofar.passed bytes source.apart sofar.files
+        (source-holds first key file name s begun source)
+
+    -- laid in its places it is one input more
+    pub next-laid : (new : Writing) (more : List Placed) → drop count left ≡ more
+        → LaysFrames name output (frames_behind from s left) now new files after
+        → new.held.class ≡ s.class
+        → reach_of new.held ≡ reach_behind (reach_of now.held) from s left
+        → (IsNextSettled new.held → ⊥)
+        → IsLaidTo class key output whole begun new first after later behind others more
+    next-laid new more is lays same reach unsettled =
+        subst (IsLaidTo class key output whole begun new first after later behind others) is
+        (record {
+          sources = here.sources.1;
+          within = here.within.1;
+          target = still_there files after output lays.passed output lays.files laid.target;
+          class_is = same ∙ here.sources.0.1;
+          fits = rw reach both-fit.1;
+          unsettled = unsettled;
+          lays = record {
+            made = λ file. here.lays.made file ++ own file;
+            lays = lays_then key output here.lays.made own begun now first files apart
+                here.lays.lays new after (record {
+                  frames = lays.frames;
+                  is = λ file holds. lays.is bytes (told file holds);
+                  passed = lays.passed;
+                  files = lays.files;
+                  writer = lays.writer;
+                });
+            left = λ file holds. sym (split file holds);
+          };
+        })
+
+    -- a part of it is a part of all
+    pub next-part : {fault : PassFault}
+        → LaysPart name output (frames_behind from s left)
+        (reach_behind (reach_of now.held) from s left) now files after fault
+        → (last : ℕ) × LaysPart key output whole last begun first after fault
+    next-part part =
+        let reach = reach_behind (reach_of now.held) from s left in
+        let needs = needs_of_parts (rest_rows behind others) in
+        let window = window_of class.version in
+        let places = drop count left in
+        let last = last_reach window reach needs places in
+        let frames = told_frames first later behind others in (
+          last,
+          part_more key output (λ file. here.lays.made file ++ own file) rest whole reach last begun
+              first after
+              (λ file holds more begins.
+              begins-left window reach needs frames places more
+              (sources-needs class output first key file later behind others holds here.sources.1)
+              both-fit.1 begins)
+              split
+              (part_then key output here.lays.made own begun now first files apart here.lays.lays
+              reach after (record {
+                settled = part.settled;
+                prefix = part.prefix;
+                done = part.done;
+                held = part.held;
+                writer = part.writer;
+                is = λ file holds. part.is bytes (told file holds);
+              })),
+        )
+
+-- ---- why it ends early
+
+-- an input is named by its place
+pub cause-named : (names : List (List ℕ)) (place : ℕ) (name output : List ℕ) (rest : List (List ℕ))
+    (size : ℕ) (files : Files) (before after : Counts) (fault : PassFault) → drop place names
+    ≡ name ∷ rest → HasPassCause (route name output size) files before after fault
+    → HasPassCause (route (slice_index_or names place []) output size) files before after fault
+cause-named names place name output rest size files before after fault is cause =
+    let here : place ≡ place + 0 = omega arith in
+    let named : slice_index_or names place [] ≡ name = ap (λ n. slice_index_or names n []) here
+    ∙ sym (get_or-drop place names 0 []) ∙ ap (λ (l : List (List ℕ)). slice_index_or l 0 []) is in
+    subst (λ n. HasPassCause (route n output size) files before after fault) (sym named) cause

@@ -1,0 +1,77 @@
+-- Blocks that are copied, one after the other.
+use Rattle.std.proofs.Common.{ap, append-nil, arith, Bool, cond, drop, false, filter, length, List}
+use Rattle.std.proofs.Common.{map, not, refl, slice_index_or, subst, suc, sym, true, zero, ℕ, []}
+use Rattle.std.{proofs.Common.{◌++◌, ◌+◌, ◌<◌, ◌∙◌, ◌∷◌, ◌≡◌, ◌≤◌}, specs.List.concat}
+use Rattle.laying.specs.{Copying.{chosen_bytes, is_chosen_block}, LaidFiles.block_bytes}
+use Rattle.laying.specs.Written.{goes_in_front}
+use Rattle.sync_survey.specs.{Faults.SurveyFields, Survey.BlocksAreLaid}
+use Rattle.sync_survey.specs.declared.places.Piece.{Piece}
+use mathlib.Core.Bool.{beq}
+
+-- ---- blocks that are chosen
+
+chosen-by : (b : Bool) (file : List ℕ) (p : Piece) (ps : List Piece)
+    → concat (map (block_bytes file) (cond b (p ∷ ps) ps))
+    ≡ concat (map (block_bytes file) (cond b (p ∷ []) [])) ++ concat (map (block_bytes file) ps)
+chosen-by true file p ps = ap (λ (l : List ℕ). l ++ concat (map (block_bytes file) ps))
+    (sym (append-nil (block_bytes file p)))
+chosen-by false file p ps = refl
+
+-- the bytes of chosen blocks are those of the first, and then of the others
+pub chosen-next : (in_front : Bool) (s : SurveyFields) (p : Piece) (ps : List Piece) (file : List ℕ)
+    → chosen_bytes in_front s (p ∷ ps) file
+    ≡ chosen_bytes in_front s (p ∷ []) file ++ chosen_bytes in_front s ps file
+chosen-next in_front s p ps file =
+    chosen-by (is_chosen_block in_front s p) file p (filter (is_chosen_block in_front s) ps)
+
+-- the blocks from a place on are the one there and those after it
+pub block-at : (ps : List Piece) (i : ℕ) (none : Piece) → i < length ps
+    → drop i ps ≡ slice_index_or ps i none ∷ drop (i + 1) ps
+block-at [] i none within = absurd (omega (arith, within))
+block-at (p ∷ ps) zero none within = refl
+block-at (p ∷ ps) (suc i) none within =
+    let more : suc i + 1 ≡ suc (i + 1) = omega arith in
+    block-at ps i none (omega (arith, within))
+    ∙ ap (λ n. slice_index_or ps i none ∷ drop n (p ∷ ps)) (sym more)
+
+none-by : (b : Bool) (file : List ℕ) (p : Piece) → b ≡ false
+    → concat (map (block_bytes file) (cond b (p ∷ []) [])) ≡ []
+none-by true file p is = absurd cc
+none-by false file p is = refl
+
+by-true : (b : Bool) → beq b true ≡ false → b ≡ false
+by-true true other = absurd cc
+by-true false other = refl
+
+by-false : (b : Bool) → beq b false ≡ false → not b ≡ false
+by-false true other = refl
+by-false false other = absurd cc
+
+not-chosen : (in_front : Bool) (s : SurveyFields) (p : Piece)
+    → beq (goes_in_front s p) in_front ≡ false → is_chosen_block in_front s p ≡ false
+not-chosen true s p other = by-true (goes_in_front s p) other
+not-chosen false s p other = by-false (goes_in_front s p) other
+
+-- a block that goes to the other end adds nothing
+pub chosen-none : (in_front : Bool) (s : SurveyFields) (p : Piece) (file : List ℕ)
+    → beq (goes_in_front s p) in_front ≡ false → chosen_bytes in_front s (p ∷ []) file ≡ []
+chosen-none in_front s p file other =
+    none-by (is_chosen_block in_front s p) file p (not-chosen in_front s p other)
+
+-- blocks end no earlier than they begin
+pub block-behind : (from to : ℕ) (ps : List Piece) → BlocksAreLaid from ps to → from ≤ to
+block-behind from to [] laid = laid
+block-behind from to (p ∷ ps) laid =
+    omega (arith, laid.0, block-behind (p.offset + p.block.length) to ps laid.1)
+
+-- each block ends before the offset where all end
+pub block-within : (from to : ℕ) (ps : List Piece) (i : ℕ) (p : Piece) (more : List Piece)
+    → drop i ps ≡ p ∷ more → BlocksAreLaid from ps to → p.offset + p.block.length ≤ to
+block-within from to [] zero p more is laid = absurd cc
+block-within from to [] (suc i) p more is laid = absurd cc
+block-within from to (q ∷ ps) zero p more is laid =
+    let same : q ≡ p = cc in
+    subst (λ (x : Piece). x.offset + x.block.length ≤ to) same
+    (block-behind (q.offset + q.block.length) to ps laid.1)
+block-within from to (q ∷ ps) (suc i) p more is laid =
+    block-within (q.offset + q.block.length) to ps i p more is laid.1

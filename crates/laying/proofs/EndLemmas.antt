@@ -1,0 +1,100 @@
+-- The bytes of frames that were given to the writer.
+use Rattle.std.proofs.Common.{ap, append-nil, append_assoc, arith, length, length-append, List, sym}
+use Rattle.std.proofs.Common.{take, ℕ, [], ◌++◌, ◌∙◌, ◌≡◌}
+use Rattle.std.proofs.lemmas.List.{length-take-le, take-append-le}
+use Rattle.frame_header.specs.Fields.{ClassFields}
+use Rattle.frame_writer.proofs.FrameLemmas.{laid-steps, later-frames}
+use Rattle.frame_writer.specs.Frames.{bytes_of_frames, Frame, held_bytes, WaitingFrames}
+use Rattle.frame_writer.specs.Writing.{IsNewQueue, IsWriterOf, waiting_bytes, Writing, writing_of}
+use Rattle.laying.specs.Passing.{LaysFrames, LaysPart}
+use Rattle.outside.proofs.BufferOutputLemmas.{passed_then, passed_then_prefix}
+use Rattle.outside.proofs.PassLemmas.{prefix_piece}
+use Rattle.outside.specs.{BufferOutput.{AppendedPrefix, AppendsWaiting}, Files.{Files, Holds}}
+use Rattle.outside.specs.{Pass.{WritesMadeBytes, WritesPrefix}, declared.pass.Pass.Pass}
+use Rattle.outside.specs.declared.pass.PassFault.{PassFault}
+
+-- after what waits no frame was given yet
+pub new-behind : {class : ClassFields} (held : WaitingFrames) (waiting : List ℕ)
+    → IsNewQueue class held → IsWriterOf waiting [] (writing_of held waiting) []
+new-behind held waiting new =
+    record { taken = []; is = sym (append-nil waiting); written = new.written }
+
+-- what was appended, and what waits, are what waited and the bytes of the frames
+lays-passed : (input output : List ℕ) (made : List ℕ → List Frame) (base : List ℕ)
+    (old new : Writing) (before now : Files) → IsWriterOf base [] old []
+    → (lays : LaysFrames input output made old new before now) →
+    AppendsWaiting output (base ++ bytes_of_frames lays.frames) (waiting_bytes new) before now
+lays-passed input output made base old new before now none lays =
+    let are = lays.writer base [] [] none in
+    record {
+      passed = lays.passed;
+      split =
+          ap (λ (xs : List ℕ). base ++ xs)
+          (sym (laid-steps are.taken new.held lays.frames are.written))
+          ∙ sym (append_assoc base are.taken (held_bytes new.held))
+          ∙ ap (λ (xs : List ℕ). xs ++ held_bytes new.held) (sym are.is)
+          ∙ append_assoc lays.passed new.unsent (held_bytes new.held);
+      files = lays.files;
+    }
+
+module _ (pass : Pass) (made : List ℕ → List Frame) (base : List ℕ) (old : Writing) (before : Files)
+    (none : IsWriterOf base [] old []) where
+  module _ (new : Writing) (now : Files)
+      (lays : LaysFrames pass.input.now pass.output.now made old new before now) where
+    -- all of them, and what waited of them went on
+    pub lays-written : (after : List ℕ) (end : Files)
+        → AppendsWaiting pass.output.now (waiting_bytes new) after now end
+        → WritesMadeBytes pass (λ file. bytes_of_frames (made file)) base after before end
+    lays-written after end passed = record {
+      piece = bytes_of_frames lays.frames;
+      is = λ file holds. ap bytes_of_frames (lays.is file holds);
+      passed = passed_then (lays-passed pass.input.now pass.output.now made base old new before now
+          none lays) passed;
+    }
+
+    -- if the end failed, a prefix of the frames went on
+    pub lays-prefix : (end : Files) {fault : PassFault}
+        → AppendedPrefix pass.output.now (waiting_bytes new) now end
+        → WritesPrefix pass (λ file. bytes_of_frames (made file)) base before end fault
+    lays-prefix end part =
+        prefix_piece pass (λ file. bytes_of_frames (made file))
+        (λ file holds. ap bytes_of_frames (lays.is file holds))
+        (passed_then_prefix
+        (lays-passed pass.input.now pass.output.now made base old new before now none lays) part)
+
+  -- if a part of the frames was laid, a prefix of their bytes went on
+  pub part-prefix : (reach : ℕ) (after : Files) {fault : PassFault}
+      → LaysPart pass.input.now pass.output.now made reach old before after fault
+      → WritesPrefix pass (λ file. bytes_of_frames (made file)) base before after fault
+  part-prefix reach after part =
+      let bytes = take part.prefix.count part.settled in
+      let long : length bytes ≡ part.prefix.count =
+      length-take-le part.prefix.count part.settled part.prefix.within in
+      let are = part.writer base [] [] none in
+      let later : (file : List ℕ) → Holds before pass.input.now file
+      → (more : List ℕ) × (base ++ bytes_of_frames (made file) ≡ part.settled ++ more) =
+      λ file holds.
+      let found = part.is file holds [] tt in
+      let later = later-frames are.taken part.held part.done found.0 are.written found.2 in (
+        later.0,
+        ap (λ (xs : List ℕ). base ++ xs)
+            (ap bytes_of_frames (sym (append-nil (made file)) ∙ sym found.1) ∙ later.1)
+            ∙ sym (append_assoc base are.taken later.0)
+            ∙ ap (λ (xs : List ℕ). xs ++ later.0) (sym are.is),
+      ) in
+      record {
+        bytes = bytes;
+        prefix = λ file holds.
+            let more = later file holds in
+            sym (ap (λ n. take n (base ++ bytes_of_frames (made file))) long
+            ∙ ap (take part.prefix.count) more.1
+            ∙ take-append-le part.prefix.count part.settled more.0 part.prefix.within);
+        short = λ failed file holds. let more = later file holds in omega (
+          arith,
+          long,
+          part.prefix.short failed,
+          ap length more.1,
+          length-append part.settled more.0,
+        );
+        files = part.prefix.files;
+      }

@@ -1,0 +1,140 @@
+-- One frame: its bytes are an item, and its side information and its check word are read back.
+use Rattle.std.proofs.Common.{ap, append_assoc, ap₂, arith, cond, Err, leb, length, length-append}
+use Rattle.std.proofs.{Common.{List, Ok, sym, take, true, ℕ, ◌++◌, ◌∙◌, ◌≡◌}, lemmas.Bool.le-leb}
+use Rattle.std.proofs.lemmas.List.{drop_at, take_at}
+use Rattle.bit_fields.{proofs.BitsLemmas.{bits-bytes, length-bytes}, specs.Bits.bytes}
+use Rattle.frame_header.proofs.HeaderLemmas.{AreBits-header_bits, header_at-bytes, IsClass-class_of}
+use Rattle.frame_header.proofs.{HeaderLemmas.length-header_bits, SlotLemmas.area-is}
+use Rattle.frame_header.specs.{Fields.{HeaderFields, IsHeader}, HeaderBits.header_bits}
+use Rattle.frame_header.specs.Reading.{header_at}
+use Rattle.frame_header.specs.Tables.{area_of, class_of, length_of, overhead_of, side_size_of}
+use Rattle.frame_header.specs.declared.header.NotHeader.TheVariants.{No}
+use Rattle.laying.specs.LaidFiles.{HasPairs}
+use Rattle.side_info.proofs.FrameLemmas.{HasRoom, length-word_part, overhead-is, side_in-frame_with}
+use Rattle.side_info.proofs.FrameLemmas.{word_said-frame_with}
+use Rattle.side_info.{proofs.SideLemmas.{IsShaped, length-side_bits}, specs.CheckWord.check_word_of}
+use Rattle.side_info.specs.Frame.{crc_part, frame_front_bytes, frame_with_side, side_in, stored_crc}
+use Rattle.side_info.specs.{Side.{side_bits, SideFits}, declared.side.Side.Side}
+use Rattle.sync_survey.proofs.ItemBytesLemmas.{frame-least, frame_item, IsItem}
+use Rattle.sync_survey.specs.Items.{header_front}
+use Rattle.sync_survey.specs.declared.items.Item.TheVariants.{Frame as FrameItem}
+
+-- side information with pairs has lists as long as the arrays
+pub shaped : (s : Side) → HasPairs s → IsShaped s
+shaped s pairs = record {
+  scfsi = pairs.scfsi;
+  granules = pairs.granules;
+  first = pairs.first;
+  second = pairs.second;
+}
+
+-- ---- a header
+
+-- a header has four bytes
+pub length-header : (h : HeaderFields) → length (bytes (header_bits h)) ≡ 4
+length-header h = length-bytes 4 (header_bits h) (length-header_bits h)
+
+-- a header is read from its bytes, whatever follows
+pub header_front-is : (h : HeaderFields) (rest : List ℕ) → IsHeader h
+    → header_front (bytes (header_bits h) ++ rest) ≡ Ok h
+unfolding header_front
+header_front-is h rest is =
+    let four = bytes (header_bits h) in
+    let long : leb 4 (length (four ++ rest)) ≡ true =
+    le-leb _ _ (omega (arith, length-header h, length-append four rest)) in
+    ap (λ b. cond b (header_at (take 4 (four ++ rest))) (Err No)) long
+    ∙ ap header_at (take_at four rest 4 (length-header h))
+    ∙ header_at-bytes four h is
+    (bits-bytes 4 (header_bits h) (AreBits-header_bits h) (length-header_bits h))
+
+-- ---- what is before the area
+
+-- the front of a frame has as many bytes as are before its area
+pub length-front : (h : HeaderFields) (s : Side) → IsHeader h → IsShaped s
+    → length (frame_front_bytes h s) ≡ overhead_of (class_of h) h.protected
+unfolding frame_front_bytes
+length-front h s is pairs =
+    let c = class_of h in
+    let side = bytes (side_bits c s) in
+    omega (
+      arith,
+      length-header h,
+      length-append (bytes (header_bits h)) (crc_part h s ++ side),
+      length-append (crc_part h s) side,
+      length-word_part h s h.protected,
+      length-bytes (side_size_of c) (side_bits c s)
+          (length-side_bits c (IsClass-class_of h is) s pairs),
+      overhead-is c h.protected,
+    )
+
+front-four : (h : HeaderFields) (s : Side) (rest : List ℕ)
+    → take 4 (frame_front_bytes h s ++ rest) ≡ bytes (header_bits h)
+unfolding frame_front_bytes
+front-four h s rest =
+    let side = bytes (side_bits (class_of h) s) in
+    ap (take 4) (append_assoc (bytes (header_bits h)) (crc_part h s ++ side) rest)
+    ∙ take_at (bytes (header_bits h)) ((crc_part h s ++ side) ++ rest) 4 (length-header h)
+
+-- it is that of a frame with this side information
+put_again : (h : HeaderFields) (s : Side) (rest : List ℕ) → IsHeader h → IsShaped s
+    → frame_with_side h s (frame_front_bytes h s ++ rest) ≡ frame_front_bytes h s ++ rest
+unfolding frame_with_side frame_front_bytes
+put_again h s rest is pairs =
+    let head = bytes (header_bits h) in
+    let side = bytes (side_bits (class_of h) s) in
+    let over = overhead_of (class_of h) h.protected in
+    ap₂ (λ (xs ys : List ℕ). xs ++ (crc_part h s ++ (side ++ ys))) (front-four h s rest)
+    (drop_at (frame_front_bytes h s) rest over (length-front h s is pairs))
+    ∙ ap (λ (xs : List ℕ). head ++ xs) (sym (append_assoc (crc_part h s) side rest))
+    ∙ sym (append_assoc head (crc_part h s ++ side) rest)
+
+room : (h : HeaderFields) (s : Side) (rest : List ℕ) → IsHeader h → IsShaped s
+    → HasRoom h (frame_front_bytes h s ++ rest)
+room h s rest is pairs =
+    omega (arith, length-front h s is pairs, length-append (frame_front_bytes h s) rest)
+
+-- its side information is read back
+pub front-side : (h : HeaderFields) (s : Side) (rest : List ℕ) → IsHeader h → IsShaped s
+    → SideFits (class_of h) s → side_in h (frame_front_bytes h s ++ rest) ≡ s
+front-side h s rest is pairs fits =
+    ap (side_in h) (sym (put_again h s rest is pairs)) ∙ side_in-frame_with h s
+    (frame_front_bytes h s ++ rest) (IsClass-class_of h is) pairs fits (room h s rest is pairs)
+
+-- and its check word is the right one
+pub front-word : (h : HeaderFields) (s : Side) (rest : List ℕ) → IsHeader h → IsShaped s
+    → h.protected ≡ true → stored_crc (frame_front_bytes h s ++ rest) ≡ check_word_of h s
+front-word h s rest is pairs protected =
+    ap stored_crc (sym (put_again h s rest is pairs))
+    ∙ word_said-frame_with h s (frame_front_bytes h s ++ rest) protected (room h s rest is pairs)
+
+front_header : (h : HeaderFields) (s : Side) (rest : List ℕ) → IsHeader h
+    → header_front (frame_front_bytes h s ++ rest) ≡ Ok h
+unfolding frame_front_bytes
+front_header h s rest is =
+    let side = bytes (side_bits (class_of h) s) in
+    ap header_front (append_assoc (bytes (header_bits h)) (crc_part h s ++ side) rest)
+    ∙ header_front-is h ((crc_part h s ++ side) ++ rest) is
+
+-- ---- the frame
+
+-- with its area it is as long as its header says
+pub length-entry : (h : HeaderFields) (s : Side) (area : List ℕ) → IsHeader h → IsShaped s
+    → length area ≡ area_of (class_of h) h.slot h.protected
+    → length (frame_front_bytes h s ++ area) ≡ length_of (class_of h) h.slot
+length-entry h s area is pairs many =
+    omega (
+      arith,
+      many,
+      length-append (frame_front_bytes h s) area,
+      length-front h s is pairs,
+      (area-is (class_of h) h.slot h.protected (IsClass-class_of h is) is.slot).0,
+    )
+
+-- so it is an item
+pub entry_item : (h : HeaderFields) (s : Side) (area : List ℕ) → IsHeader h → IsShaped s
+    → length area ≡ area_of (class_of h) h.slot h.protected
+    → IsItem (FrameItem h) (frame_front_bytes h s ++ area)
+entry_item h s area is pairs many =
+    let long = length-entry h s area is pairs many in
+    frame_item h (frame_front_bytes h s ++ area) (front_header h s area is) long
+    (omega (arith, long, frame-least h is))

@@ -1,0 +1,231 @@
+-- Frames in the slots and with the main_data_begin of any plan that can be written frame by
+-- frame: they can be laid, and are what they were. So are those of parts as they were planned.
+use Rattle.std.proofs.Common.{ap, ap₂, arith, Bool, cond, false, flat_map, length, List, map, refl}
+use Rattle.std.proofs.Common.{subst, sym, true, ℕ, [], ◌+◌, ◌-◌, ◌<◌, ◌∙◌, ◌∷◌, ◌≡◌, ◌≤◌}
+use Rattle.frame_header.specs.Fields.{ClassFields, HeaderFields, IsHeader, SlotFields}
+use Rattle.frame_header.specs.Tables.{area_of, class_of, window_of}
+use Rattle.frame_writer.specs.Frames.{Frame, frame_area}
+use Rattle.info_header.specs.declared.fields.Info.{Info}
+use Rattle.laying.proofs.FitLemmas.{parts-fit, parts-fitting}
+use Rattle.laying.proofs.HoldLemmas.{part-entries, part-needs, part-some, part-stream}
+use Rattle.laying.proofs.HoldLemmas.{parts-entries, parts-headers, parts-needs, parts-some}
+use Rattle.laying.proofs.{HoldLemmas.parts-stream, LaidFileLemmas.{laid-frames-stay, laid-stream}}
+use Rattle.laying.proofs.PlannedFrameLemmas.{AreLaidFrom, AreNeedsOf, laid_more, next-entries}
+use Rattle.laying.proofs.PlannedFrameLemmas.{next-map, none_laid, one, one-entry, one-stream}
+use Rattle.laying.proofs.PlannedFrameLemmas.{one_in_stream, relaid-cons, stream-cons}
+use Rattle.laying.specs.Fits.{AreInSlots, FitsFromReach, IsFittingPlan, placed_area, placed_bytes}
+use Rattle.laying.specs.{Fits.reach_behind, InfoLaws.SlotsArePlanned}
+use Rattle.laying.specs.LaidFiles.{AreBlocks, AreStreamEntries, HasInfoSizes, IsLaidFile, laid_file}
+use Rattle.laying.specs.{LaidFiles.stream_entry, LaidLaws.LosesNoFrame}
+use Rattle.laying.specs.Laws.{AreFramesOfStream, EntriesHold, FilesHold, FittingFilesHold}
+use Rattle.laying.specs.Laws.{FittingSlots, PlannedFramesStay}
+use Rattle.laying.specs.Relaid.{FilePart, IsPart, part_frames, part_needs, part_stream}
+use Rattle.laying.specs.{Relaid.{relaid_frames, rest_behind, stream_with_lead_ins}, Written.slot_in}
+use Rattle.slot_plan.specs.declared.needs.{Need.Need, Placed.Placed}
+use Rattle.sync_survey.specs.{Faults.HoldsStream, MainData.StreamFrame}
+
+-- ---- one frame
+
+piece-by : (b : Bool) (p : Placed) (need : Need) (f : Frame) → need.header ≡ f.kept.header
+    → need.bytes ≡ length f.payload → (length (one b p f).payload ≡ placed_bytes b need)
+    × ((one b p f).kept.side.main_data_begin ≡ p.begin) × (frame_area (one b p f).kept
+    ≡ area_of (class_of need.header) p.slot (cond b false need.header.protected))
+piece-by true p need f header bytes =
+    (refl, refl, ap (λ (h : HeaderFields). area_of (class_of h) p.slot false) (sym header))
+piece-by false p need f header bytes = (
+  sym bytes,
+  refl,
+  ap (λ (h : HeaderFields). area_of (class_of h) p.slot h.protected) (sym header),
+)
+
+next-needs : (b : Bool) (need : Need) (needs : List Need) (f : Frame) (fs : List Frame)
+    → AreNeedsOf (need ∷ needs) (f ∷ fs)
+    → AreNeedsOf (rest_behind b need needs) (rest_behind b f fs)
+next-needs true need needs f fs are = are
+next-needs false need needs f fs are = are.2
+
+-- ---- all of them
+
+-- from a place on after which there are so many free bytes within reach
+laid-fitting : (c : ClassFields) (needs : List Need) (fs : List Frame) (placed : List Placed)
+    (reach end before : ℕ) → AreStreamEntries c fs → AreNeedsOf needs fs → AreInSlots placed
+    → FitsFromReach (window_of c.version) reach needs placed → reach ≤ window_of c.version
+    → end + reach
+    ≤ before → AreLaidFrom c end before (relaid_frames fs placed)
+    (stream_with_lead_ins placed (map stream_entry fs))
+unfolding FitsFromReach
+laid-fitting c [] [] placed reach end before are needs_are slots fits near room =
+    none_laid c end before placed
+laid-fitting c (need ∷ needs) (f ∷ fs) [] reach end before are needs_are slots fits near room =
+    absurd fits
+laid-fitting c (need ∷ needs) (f ∷ fs)
+    (p ∷ placed) reach end before are needs_are slots fits near room =
+    let window = window_of c.version in
+    let g = one p.lead_in p f in
+    let bytes = placed_bytes p.lead_in need in
+    let area = placed_area p need in
+    let piece = piece-by p.lead_in p need f needs_are.0 needs_are.1 in
+    let begins : g.kept.side.main_data_begin ≡ p.begin = piece.1 in
+    let behind =
+    laid-fitting c (rest_behind p.lead_in need needs) (rest_behind p.lead_in f fs) placed
+    (reach_behind window p need) (before - g.kept.side.main_data_begin + bytes) (before + area)
+    (next-entries c p.lead_in f fs are.0 are.1) (next-needs p.lead_in need needs f fs needs_are)
+    slots.1 fits.2 (omega arith) (omega (arith, begins, fits.0, fits.1, room)) in
+    let there : AreLaidFrom c (before - g.kept.side.main_data_begin + bytes) (before + area)
+    (relaid_frames (rest_behind p.lead_in f fs) placed)
+    (stream_with_lead_ins placed (rest_behind p.lead_in (stream_entry f) (map stream_entry fs))) =
+    subst (λ (l : List StreamFrame). AreLaidFrom c (before - g.kept.side.main_data_begin + bytes)
+    (before + area) (relaid_frames (rest_behind p.lead_in f fs) placed)
+    (stream_with_lead_ins placed l))
+    (next-map stream_entry p.lead_in f fs) behind in
+    subst (λ (l : List Frame). AreLaidFrom c end before l
+    (stream_with_lead_ins (p ∷ placed) (map stream_entry (f ∷ fs))))
+    (sym (relaid-cons p placed f fs))
+    (subst (λ (l : List StreamFrame). AreLaidFrom c end before
+    (g ∷ relaid_frames (rest_behind p.lead_in f fs) placed) l)
+    (sym (stream-cons p placed (stream_entry f) (map stream_entry fs)))
+    (laid_more c end before bytes area g (relaid_frames (rest_behind p.lead_in f fs) placed)
+    (one_in_stream p.lead_in (stream_entry f))
+    (stream_with_lead_ins placed (rest_behind p.lead_in (stream_entry f) (map stream_entry fs)))
+    (one-entry c p f slots.0 (omega (arith, fits.0, near)) are.0 p.lead_in)
+    (one-stream p.lead_in p f) piece.0 piece.2 (omega (arith, begins, fits.0, room))
+    (omega (arith, begins, fits.0, fits.1, room)) there))
+laid-fitting c _ _ placed reach end before are needs_are slots fits near room = absurd needs_are
+
+one-slot : (b : Bool) (p : Placed) (f : Frame) → slot_in (one b p f) ≡ p.slot
+one-slot true p f = refl
+one-slot false p f = refl
+
+slots-by : (window reach : ℕ) (needs : List Need) (fs : List Frame) (placed : List Placed)
+    → AreNeedsOf needs fs → FitsFromReach window reach needs placed
+    → map slot_in (relaid_frames fs placed) ≡ map (λ (p : Placed). p.slot) placed
+unfolding FitsFromReach relaid_frames
+slots-by window reach [] [] [] are fits = refl
+slots-by window reach [] (f ∷ fs) placed are fits = absurd are
+slots-by window reach (need ∷ needs) [] placed are fits = absurd are
+slots-by window reach (need ∷ needs) (f ∷ fs) (p ∷ placed) are fits =
+    ap (map slot_in) (relaid-cons p placed f fs)
+    ∙ ap₂ (λ (s : SlotFields) (l : List SlotFields). s ∷ l) (one-slot p.lead_in p f)
+    (slots-by window (reach_behind window p need) (rest_behind p.lead_in need needs)
+    (rest_behind p.lead_in f fs) placed (next-needs p.lead_in need needs f fs are) fits.2)
+slots-by window reach _ _ _ are fits = absurd fits
+
+some-by : (window reach : ℕ) (needs : List Need) (fs : List Frame) (placed : List Placed)
+    → AreNeedsOf needs fs → FitsFromReach window reach needs placed → 0 < length fs
+    → 0 < length (relaid_frames fs placed)
+unfolding FitsFromReach
+some-by window reach needs [] placed are fits some = absurd (omega (arith, some))
+some-by window reach [] (f ∷ fs) placed are fits some = absurd are
+some-by window reach (need ∷ needs) (f ∷ fs) [] are fits some = absurd fits
+some-by window reach (need ∷ needs) (f ∷ fs) (p ∷ placed) are fits some =
+    omega (arith, ap length (relaid-cons p placed f fs))
+
+-- ---- of a part
+
+-- the frames have the slots of their places
+pub fitting-slots : FittingSlots
+fitting-slots c part placed is fitting = slots-by (window_of c.version) 0 (part_needs part)
+    (part_frames part) placed (part-needs c part is) fitting.fits
+
+-- so the frames can be laid, and are those that were given with the lead-ins of the plan
+pub fitting-laid : (c : ClassFields) (part : FilePart) (placed : List Placed) → IsPart c part
+    → IsFittingPlan (window_of c.version) (part_needs part) placed → AreLaidFrom c 0 0
+    (relaid_frames (part_frames part) placed)
+    (stream_with_lead_ins placed (map stream_entry (part_frames part)))
+fitting-laid c part placed is fitting =
+    laid-fitting c (part_needs part) (part_frames part) placed 0 0 0 (part-entries c part is)
+    (part-needs c part is) fitting.slots fitting.fits (omega arith) (omega arith)
+
+-- frames that can be laid, in a file
+module _ (c : ClassFields) (frames : List Frame) (stream : List StreamFrame)
+    (hold : AreFramesOfStream c frames stream) (front : List (List ℕ)) (first : HeaderFields)
+    (info : Info)
+    (back : List (List ℕ))
+    (before : AreBlocks front) (header : IsHeader first) (class : class_of first ≡ c)
+    (sizes : HasInfoSizes info) (behind : AreBlocks back) where
+  file_is : IsLaidFile c front first info frames back
+  file_is = record {
+    blocks_before = before;
+    header = header;
+    class = class;
+    sizes = sizes;
+    some = hold.some;
+    entries = hold.entries;
+    laid = hold.fit;
+    blocks_behind = behind;
+  }
+
+  file-holds : HoldsStream (laid_file front first info frames back) stream
+  file-holds = subst (HoldsStream (laid_file front first info frames back))
+      hold.stream_is (laid-stream c front first info frames back file_is)
+
+  file-loses-none : LosesNoFrame (laid_file front first info frames back)
+  file-loses-none = laid-frames-stay c front first info frames back file_is
+
+fitting_as : (c : ClassFields) (part : FilePart) (placed : List Placed) → IsPart c part
+    → IsFittingPlan (window_of c.version) (part_needs part) placed → AreFramesOfStream c
+    (relaid_frames (part_frames part) placed) (stream_with_lead_ins placed (part_stream part))
+fitting_as c part placed is fitting =
+    let laid = fitting-laid c part placed is fitting in
+    record {
+      some = some-by (window_of c.version) 0 (part_needs part) (part_frames part) placed
+          (part-needs c part is) fitting.fits (part-some c part is);
+      entries = laid.entries;
+      fit = laid.fit;
+      stream_is = laid.stream_is ∙ ap (stream_with_lead_ins placed) (part-stream c part is);
+    }
+
+-- the file of them holds their stream
+pub fitting-files-hold : FittingFilesHold
+fitting-files-hold c part placed is fitting = file-holds c (relaid_frames (part_frames part) placed)
+    (stream_with_lead_ins placed (part_stream part)) (fitting_as c part placed is fitting)
+
+-- and no frame of it is lost, whether or not its head is set apart
+pub fitting-loses-none : (c : ClassFields) (part : FilePart) (placed : List Placed) → IsPart c part
+    → IsFittingPlan (window_of c.version) (part_needs part) placed
+    → (front : List (List ℕ)) (first : HeaderFields) (info : Info) (back : List (List ℕ))
+    → AreBlocks front → IsHeader first → class_of first ≡ c → HasInfoSizes info → AreBlocks back
+    → LosesNoFrame (laid_file front first info (relaid_frames (part_frames part) placed) back)
+fitting-loses-none c part placed is fitting =
+    file-loses-none c (relaid_frames (part_frames part) placed)
+    (stream_with_lead_ins placed (part_stream part)) (fitting_as c part placed is fitting)
+
+-- ---- of parts, as they were planned
+
+-- frames in the places of their plan can be laid, and are those that were given
+pub entries-hold : EntriesHold
+entries-hold c choices parts placed some are slots plan =
+    let window = window_of c.version in
+    let needs = flat_map (λ (part : List Need). part) (map part_needs parts) in
+    let fitting = parts-fitting window choices slots (map part_needs parts) placed
+    (parts-headers c parts are) plan in
+    let laid = laid-fitting c needs (flat_map part_frames parts) placed 0 0 0 (parts-entries c parts
+    are) (parts-needs c parts are) fitting.slots fitting.fits (omega arith) (omega arith) in
+    record {
+      some = some-by window 0 needs (flat_map part_frames parts) placed
+          (parts-needs c parts are) fitting.fits (parts-some c parts some are);
+      entries = laid.entries;
+      fit = laid.fit;
+      stream_is = laid.stream_is ∙ ap (stream_with_lead_ins placed) (parts-stream c parts are);
+    }
+
+-- so the file of them holds their stream
+pub files-hold : FilesHold
+files-hold c choices parts placed some are slots plan = file-holds c
+    (relaid_frames (flat_map part_frames parts) placed)
+    (stream_with_lead_ins placed (flat_map part_stream parts))
+    (entries-hold c choices parts placed some are slots plan)
+
+-- and no frame of it is lost
+pub planned-frames-stay : PlannedFramesStay
+planned-frames-stay c choices parts placed some are slots plan =
+    file-loses-none c (relaid_frames (flat_map part_frames parts) placed)
+    (stream_with_lead_ins placed
+    (flat_map part_stream parts)) (entries-hold c choices parts placed some are slots plan)
+
+-- frames that were laid have the slots of their plan
+pub slots-planned : SlotsArePlanned
+slots-planned c choices parts placed are slots plan =
+    slots-by (window_of c.version) 0 (flat_map (λ (part : List Need). part) (map part_needs parts))
+    (flat_map part_frames parts) placed (parts-needs c parts are)
+    (parts-fit (window_of c.version) choices (map part_needs parts) placed plan)

@@ -1,0 +1,228 @@
+-- The runs of such a file, where its stream starts, and the head of it.
+use Rattle.std.proofs.Common.{ap, append-nil, ap₂, arith, drop, length, length-append, List, None}
+use Rattle.std.proofs.Common.{Ok, Option, option_map, refl, Some, sym, take, true, ℕ, [], ◌++◌, ◌+◌}
+use Rattle.std.proofs.{Common.{◌<◌, ◌∙◌, ◌∷◌, ◌≡◌, ◌≤◌}, lemmas.Bool.le-leb}
+use Rattle.std.{proofs.lemmas.List.{drop-drop, drop_all, drop_at, take_at}, specs.List.concat}
+use Rattle.frame_header.specs.{Fields.{ClassFields, HeaderFields}, Tables.{class_of, overhead_of}}
+use Rattle.frame_writer.specs.Frames.{all_frame_data, areas_length, bytes_of_frames}
+use Rattle.frame_writer.specs.{Frames.{fields_of_frames, Frame}, Laid.laid_data}
+use Rattle.info_header.specs.{HeadText.head_text_of, InfoFrame.{info_frame, info_header_of}}
+use Rattle.info_header.specs.declared.fields.Info.{Info}
+use Rattle.laying.proofs.InfoByteLemmas.{info_header, info_item, info_text, length-info_area}
+use Rattle.laying.proofs.{InfoByteLemmas.length-info_frame, LaidDataLemmas.length-laid}
+use Rattle.laying.proofs.LaidFrameLemmas.{areas-all, blocks-behind, frame_items, framed-stand}
+use Rattle.laying.proofs.LaidFrameLemmas.{framed-whole, frames-placed, frames_at, StandFrom}
+use Rattle.laying.proofs.WholeItemLemmas.{AreWhole, block_items, blocks-placed, blocks-whole}
+use Rattle.laying.proofs.WholeItemLemmas.{placed, whole-append, whole-run}
+use Rattle.laying.specs.LaidFiles.{blocks_from, frames_offset, head_at, IsLaidFile, laid_file}
+use Rattle.sync_survey.proofs.{ItemListLemmas.item_at-known, OneItemLemmas.stands-only_at}
+use Rattle.sync_survey.proofs.{RunsLemmas.item_of-past, SameHeadLemmas.area-frame}
+use Rattle.sync_survey.proofs.{StartLemmas.start_is, SurveyLemmas.overhead-within}
+use Rattle.sync_survey.proofs.SurveyPartsLemmas.{frames_from}
+use Rattle.sync_survey.specs.{Items.{item_at, item_fits, size_of}, MainData.{head_area, head_bytes}}
+use Rattle.sync_survey.specs.Runs.{blocks_of, frames_of, item_if_whole, item_run, ItemRun}
+use Rattle.sync_survey.specs.{Runs.whole_item_at, Start.{front_end_of, start_of}}
+use Rattle.sync_survey.specs.Walk.{all_blocks, end_fault, fault_at, frame_bytes, head_of}
+use Rattle.sync_survey.specs.{Walk.{numbered_frames, stream_run}, declared.items.Item.Item}
+use Rattle.sync_survey.specs.declared.items.Item.TheVariants.{End, Frame as FrameItem}
+use Rattle.sync_survey.specs.declared.places.{Head.Head, Piece.Piece, PlacedFrame.PlacedFrame}
+use Rattle.sync_survey.specs.declared.{places.Start.Start, runs.Region.TheVariants.{Front, Stream}}
+
+-- the front of a file ends where the run of it stops
+pub front_end-is : (file : List ℕ) → (item_run Front file 0).stop ≡ front_end_of file
+unfolding front_end_of
+front_end-is file = refl
+
+-- a whole frame after the blocks of the front is the first of the stream
+pub start_by : (file : List ℕ) (at : ℕ) (h : HeaderFields) → at ≡ front_end_of file
+    → item_at file at ≡ FrameItem h → at + size_of (FrameItem h) ≤ length file
+    → start_of file ≡ Ok (record { front_end = at; first = record { offset = at; header = h } })
+start_by file at h front is within =
+    let fit : item_fits file at (FrameItem h) ≡ true = le-leb _ _ (omega (arith, within)) in
+    start_is file at (FrameItem h) front is ∙ rw fit refl
+
+-- no frame is an item of the front
+pub not_in_front : (file : List ℕ) (at : ℕ) (h : HeaderFields) → item_at file at ≡ FrameItem h
+    → whole_item_at Front file at ≡ None
+unfolding whole_item_at
+not_in_front file at h is = ap (item_if_whole Front file at) is
+
+abbrev head_with : PlacedFrame → ℕ → Head
+head_with p at = record { offset = p.offset; header = p.header; text_at = at }
+
+head_by : (p : PlacedFrame) (at : ℕ) (o : Option ℕ) → o ≡ Some at
+    → option_map (λ n. head_with p n) o ≡ Some (head_with p at)
+head_by p at o is = ap (option_map (λ n. head_with p n)) is
+
+-- frames that are some are no fault at the end of the file
+pub some_frames : (file : List ℕ) (at : ℕ) (fs : List Frame) → 0 < length fs
+    → end_fault file (frames_at at fs) None ≡ None
+some_frames file at [] some = absurd (omega (arith, some))
+some_frames file at (f ∷ fs) some = refl
+
+module _ (c : ClassFields) (front : List (List ℕ)) (first : HeaderFields) (info : Info)
+    (frames : List Frame) (back : List (List ℕ))
+    (is : IsLaidFile c front first info frames back) where
+  abbrev pub file : List ℕ
+  file = laid_file front first info frames back
+
+  abbrev pub h : HeaderFields
+  h = info_header_of first
+
+  abbrev pub from : ℕ
+  from = length (concat front)
+
+  abbrev pub head_size : ℕ
+  head_size = size_of (FrameItem h)
+
+  abbrev own : List ℕ
+  own = info_frame first info
+
+  abbrev area_data : List ℕ
+  area_data = laid_data (all_frame_data frames)
+
+  abbrev after : List ℕ
+  after = bytes_of_frames frames ++ concat back
+
+  abbrev later_items : List Item
+  later_items = frame_items frames ++ block_items back is.blocks_behind
+
+  abbrev pub start : Start
+  start = record { front_end = from; first = record { offset = from; header = h } }
+
+  -- ---- the bytes
+
+  long_own : length own ≡ head_size
+  long_own = length-info_frame first info is.header is.sizes
+
+  -- the areas have as many bytes as were laid
+  pub many : areas_length (fields_of_frames frames) ≡ length area_data
+  many = omega
+      (arith, length-laid 0 0 (all_frame_data frames) (omega arith) is.laid, areas-all 0 frames)
+
+  file-is : file ≡ concat front ++ (own ++ after)
+  unfolding laid_file
+  file-is = refl
+
+  stands : drop from file ≡ own ++ after
+  stands = ap (drop from) file-is ∙ drop_at (concat front) (own ++ after) from refl
+
+  -- the frames begin after the Info frame
+  pub place-is : frames_offset front first info ≡ from + head_size
+  place-is = omega (arith, long_own)
+
+  frames_stand : drop (from + head_size) file ≡ after
+  frames_stand = sym (drop-drop head_size from file) ∙ ap (drop head_size) stands
+      ∙ drop_at own after head_size long_own
+
+  long_file : length file ≡ from + (head_size + length after)
+  long_file = omega (
+    arith,
+    ap length file-is,
+    length-append (concat front) (own ++ after),
+    length-append own after,
+    long_own,
+  )
+
+  -- each frame is there
+  pub frames-stand : StandFrom file (frames_offset front first info) frames area_data
+  frames-stand = framed-stand c file (frames_offset front first info) frames area_data
+      (concat back) is.entries many (ap (λ n. drop n file) place-is ∙ frames_stand)
+
+  -- ---- the runs
+
+  first_item : item_at file from ≡ FrameItem h
+  first_item = item_at-known file from from (own ++ after) (FrameItem h) refl stands
+      ((info_item first info is.header is.sizes).known after)
+
+  front_run : item_run Front file 0
+      ≡ record { items = placed 0 (block_items front is.blocks_before); stop = from }
+  front_run =
+      let none : 0 + from ≡ from = omega arith in
+      whole-run Front file 0 (block_items front is.blocks_before) (concat front) (own ++ after)
+      (blocks-whole Front front is.blocks_before) (omega arith) file-is
+      (ap (whole_item_at Front file) none ∙ not_in_front file from h first_item)
+      ∙ ap (λ n. record { items = placed 0 (block_items front is.blocks_before); stop = n }) none
+
+  -- the stream starts with the Info frame
+  pub start-is : start_of file ≡ Ok start
+  start-is = start_by file from h (sym (ap (λ (r : ItemRun). r.stop) front_run) ∙ front_end-is file)
+      first_item (omega (arith, long_file))
+
+  later_whole : AreWhole Stream later_items after
+  later_whole = whole-append Stream (frame_items frames) (block_items back is.blocks_behind)
+      (bytes_of_frames frames) (concat back) (framed-whole c frames area_data is.entries many)
+      (blocks-whole Stream back is.blocks_behind)
+
+  -- where the stream ends
+  pub stop : ℕ
+  stop = from + length (own ++ after)
+
+  stop-past : length file ≤ stop
+  unfolding stop
+  stop-past = omega (arith, long_file, long_own, length-append own after)
+
+  stream : stream_run file start
+      ≡ record { items = placed from (FrameItem h ∷ later_items); stop = stop }
+  unfolding stop
+  stream =
+      whole-run Stream file from (FrameItem h ∷ later_items) (own ++ after) []
+      (own, after, refl, info_item first info is.header is.sizes, refl, later_whole)
+      (omega (arith, long_file))
+      (stands ∙ sym (append-nil (own ++ after)))
+      (item_of-past Stream file (from + length (own ++ after)) stop-past)
+
+  -- ---- the head
+
+  own_bytes : frame_bytes file start.first ≡ own
+  own_bytes = ap (take head_size) stands ∙ take_at own after head_size long_own
+
+  -- the Info frame is the head
+  pub head-is : head_of file start.first ≡ Some (head_at from first)
+  unfolding head_of
+  head-is = head_by start.first _ _
+      (ap (head_text_of h) own_bytes ∙ info_text first info is.header is.sizes)
+
+  -- its area has as many bytes as the head's
+  pub head_area-is : length (head_bytes file (Some (head_at from first)))
+      ≡ head_area (Some (head_at from first))
+  head_area-is =
+      ap length
+      (area-frame file start.first (overhead-within h (info_header first info is.header is.sizes))
+      ∙ ap (drop (overhead_of (class_of h) h.protected)) own_bytes)
+      ∙ length-info_area first info is.header is.sizes
+
+  -- ---- frames and blocks
+
+  -- the frames are those that were given
+  pub frames-are : frames_from file start ≡ frames_at (frames_offset front first info) frames
+  frames-are =
+      ap₂ numbered_frames head-is (ap (λ (r : ItemRun). frames_of r.items) stream)
+      ∙ frames-placed (from + head_size) frames back is.blocks_behind
+      ∙ ap (λ n. frames_at n frames) (sym place-is)
+
+  -- the blocks are those in front and those at the back
+  pub blocks-are : all_blocks file start ≡ blocks_from 0 front
+      ++ blocks_from (frames_offset front first info + length (bytes_of_frames frames)) back
+  blocks-are =
+      ap₂ (λ (a b : List Piece). a ++ b)
+      (ap (λ (r : ItemRun). blocks_of r.items) front_run ∙ blocks-placed 0 front is.blocks_before)
+      (ap (λ (r : ItemRun). blocks_of r.items) stream
+      ∙ blocks-behind c (from + head_size) frames area_data back is.blocks_behind is.entries many
+      ∙ ap (λ n. blocks_from (n + length (bytes_of_frames frames)) back) (sym place-is))
+
+  -- ---- the end
+
+  ended : fault_at stop (item_at file stop) ≡ None
+  ended = ap (fault_at stop) (sym (stands-only_at file stop End (drop_all stop file stop-past)))
+
+  ended_at : (r : ItemRun)
+      → r ≡ record { items = placed from (FrameItem h ∷ later_items); stop = stop }
+      → fault_at r.stop (item_at file r.stop) ≡ None
+  ended_at r same = ap (λ (q : ItemRun). fault_at q.stop (item_at file q.stop)) same ∙ ended
+
+  -- nothing is at fault at the end
+  pub no-end_fault : end_fault file (frames_from file start)
+      (fault_at (stream_run file start).stop (item_at file (stream_run file start).stop)) ≡ None
+  no-end_fault = ap₂ (end_fault file) frames-are (ended_at (stream_run file start) stream)
+      ∙ some_frames file (frames_offset front first info) frames is.some

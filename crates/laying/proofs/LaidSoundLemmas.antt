@@ -1,0 +1,216 @@
+-- No frame of such a file is at fault, and none is lost.
+use Rattle.std.proofs.Common.{ap, ap₂, arith, Bool, cond, drop, false, length, List, map, None, not}
+use Rattle.std.proofs.Common.{Option, option_map, refl, slice_get, Some, subst, suc, sym, take}
+use Rattle.std.proofs.Common.{true, zero, zero-add, ℕ, [], ◌+◌, ◌<◌, ◌==◌, ◌||◌, ◌∙◌, ◌∷◌, ◌≡◌, ◌≤◌}
+use Rattle.std.proofs.lemmas.Bool.{and_right, le-ltb, ne_eqb}
+use Rattle.std.{proofs.lemmas.Option.{slice_get-map, slice_get_within}, specs.List.enumerate_from}
+use Rattle.frame_header.specs.{Fields.{ClassFields, same_class}, Tables.class_of}
+use Rattle.frame_writer.specs.Frames.{all_frame_data, Frame, frame_data}
+use Rattle.frame_writer.specs.Laid.{areas_end, CanDataBeLaid, data_end, frame_data_end}
+use Rattle.frame_writer.specs.Laid.{frame_data_start}
+use Rattle.laying.proofs.LaidDataLemmas.{data_end-next, IsWellLaid, take-last, well-laid}
+use Rattle.laying.proofs.LaidFrameLemmas.{areas-sum, IsRowOf, row-get, rows-length, same-class}
+use Rattle.laying.proofs.LaidFrameLemmas.{StandFrom}
+use Rattle.laying.specs.LaidFiles.{AreStreamEntries, frame_length, rows_from}
+use Rattle.side_info.specs.{Frame.stored_crc, Side.payload_bytes, declared.side.Side.Side}
+use Rattle.sync_survey.{proofs.SurveyPartsLemmas.{AreSound, IsSound, StandWell}, specs.Laws.AreNear}
+use Rattle.sync_survey.specs.MainData.{data_end_after, data_end_before, end_of_data, head_area}
+use Rattle.sync_survey.specs.MainData.{is_lost, is_silent, lacks_data, marked_row, marked_rows}
+use Rattle.sync_survey.specs.{MainData.{own_area, place, points_too_far, start_of_data}, Row.Row}
+use Rattle.sync_survey.specs.declared.places.Head.{Head}
+
+-- ---- one frame
+
+either_most : (b : Bool) (m n most : ℕ) → m ≤ most → n ≤ most → cond b m n ≤ most
+either_most true m n most first second = first
+either_most false m n most first second = second
+
+-- the place of the own area is after those of the head and of the frames
+-- before it; main data were laid from the end of the head's area on
+module _ (file : List ℕ) (c : ClassFields) (head : ℕ) (end area_start : ℕ) (f : Frame) (r : Row)
+    (row : IsRowOf file c f r)
+    (begins : end + f.kept.side.main_data_begin ≤ area_start)
+    (ends : frame_data_end area_start (frame_data f) ≤ area_start + (frame_data f).area) where
+  begin-is : r.side.main_data_begin ≡ f.kept.side.main_data_begin
+  begin-is = ap (λ s. s.main_data_begin) row.side
+
+  -- where they were laid
+  pub start-there : start_of_data (head + area_start) r
+      ≡ head + frame_data_start area_start (frame_data f)
+  start-there = omega (arith, begin-is, begins)
+
+  end-there : end_of_data (head + area_start) r ≡ head + frame_data_end area_start (frame_data f)
+  end-there = omega (arith, start-there, ap payload_bytes row.side, row.entry.size)
+
+  -- its main data don't begin too far back
+  pub reaches : points_too_far (head + area_start) r ≡ false
+  reaches = le-ltb _ _ (omega (arith, begin-is, begins))
+
+  -- and they are all there
+  pub has_data : (ended : ℕ) → lacks_data (head + area_start) ended r ≡ false
+  has_data ended = and_right (ended == 0) (points_too_far (head + area_start) r) reaches
+
+  well : (ended : ℕ) → ended ≤ head + end → StandWell (head + area_start) ended r
+  well ended before = record {
+    begins = reaches;
+    apart = le-ltb _ _ (omega (arith, start-there, begins, before));
+    within = le-ltb _ _ (omega (arith, end-there, ends, ap own_area row.header));
+  }
+
+  -- after it the main data end no later than those that
+  -- were laid; a silent frame doesn't change where they end
+  pub behind-most : (ended : ℕ) → ended ≤ head + end
+      → data_end_after (head + area_start) ended (Some r)
+      ≤ head + frame_data_end area_start (frame_data f)
+  behind-most ended before =
+      either_most (is_silent r || lacks_data (head + area_start) ended r) ended
+      (end_of_data (head + area_start) r) (head + frame_data_end area_start (frame_data f))
+      (omega (arith, begins, before)) (omega (arith, end-there))
+
+  -- it isn't at fault
+  pub sound-there : (allowed ended count : ℕ) → ended ≤ head + end → count < allowed
+      → IsSound (stored_crc (drop r.offset file)) c allowed (head + area_start) ended count r
+  sound-there allowed ended count before few = record {
+    same = ap (λ d. not (same_class d c)) (ap class_of row.header ∙ row.entry.class)
+        ∙ ap not (same-class c);
+    word = row.word;
+    main = λ has. well ended before;
+    few = ne_eqb count allowed (λ e. omega (arith, e, few));
+  }
+
+-- ---- all of them
+
+piece_get : (fs : List Frame) (i : ℕ) (f : Frame) → slice_get fs i ≡ Some f
+    → slice_get (all_frame_data fs) i ≡ Some (frame_data f)
+piece_get fs i f is =
+    slice_get-map frame_data fs i ∙ ap (λ (o : Option Frame). option_map frame_data o) is
+
+piece_none : (at : ℕ) (fs : List Frame) (i : ℕ) → slice_get (rows_from at fs) i ≡ None
+    → slice_get (all_frame_data fs) i ≡ None
+piece_none at [] i is = refl
+piece_none at (f ∷ fs) zero is = absurd cc
+piece_none at (f ∷ fs) (suc i) is = piece_none (at + frame_length f) fs i is
+
+module _ (file : List ℕ) (c : ClassFields) (head : Option Head) (at : ℕ) (fs : List Frame)
+    (area_data : List ℕ) (entries : AreStreamEntries c fs) (stand : StandFrom file at fs area_data)
+    (fits : CanDataBeLaid (all_frame_data fs)) where
+  abbrev rows : List Row
+  rows = rows_from at fs
+
+  abbrev area_start : ℕ → ℕ
+  area_start i = areas_end 0 (take i (all_frame_data fs))
+
+  abbrev end : ℕ → ℕ
+  end i = data_end 0 0 (take i (all_frame_data fs))
+
+  -- frame i, its row and where it was laid
+  record IsAt (i : ℕ) (r : Row) : Type 0 where
+    frame : Frame
+    found : slice_get (all_frame_data fs) i ≡ Some (frame_data frame)
+    own : slice_get fs i ≡ Some frame
+    row : IsRowOf file c frame r
+    laid : IsWellLaid 0 0 (all_frame_data fs) i (frame_data frame)
+
+  is_at : (i : ℕ) (r : Row) → slice_get rows i ≡ Some r → IsAt i r
+  is_at i r is =
+      let found = row-get c file at fs area_data i r entries stand is in
+      let piece = piece_get fs i found.0 found.1 in
+      record {
+        frame = found.0;
+        found = piece;
+        own = found.1;
+        row = found.2;
+        laid =
+            well-laid 0 0 (all_frame_data fs) i (frame_data found.0) fits piece;
+      }
+
+  -- the place of a frame is after the head's area and those before it
+  pub place-there : (i : ℕ) → place head rows i ≡ head_area head + area_start i
+  unfolding place
+  place-there i = ap (λ n. head_area head + n) (sym (zero-add _) ∙ areas-sum at 0 fs i)
+
+  behind_by : (i : ℕ) (o : Option Row) → slice_get rows i ≡ o → data_end_before head rows i
+      ≤ head_area head + end i → data_end_after (place head rows i) (data_end_before head rows i) o
+      ≤ head_area head + end (suc i)
+  behind_by i None is before =
+      omega
+      (arith, before, ap (data_end 0 0) (take-last (all_frame_data fs) i (piece_none at fs i is)))
+  behind_by i (Some r) is before =
+      let here = is_at i r is in
+      let most = behind-most file c (head_area head) (end i) (area_start i) here.frame r
+      here.row here.laid.begins here.laid.ends (data_end_before head rows i) before in
+      omega (
+        arith,
+        most,
+        ap (λ n. data_end_after n (data_end_before head rows i) (Some r)) (place-there i),
+        data_end-next 0 0 (all_frame_data fs) i (frame_data here.frame) here.found,
+      )
+
+  -- before frame i the main data end no later than those that were laid
+  ended-most : (i : ℕ) → data_end_before head rows i ≤ head_area head + end i
+  unfolding data_end_before
+  ended-most zero = omega arith
+  ended-most (suc i) = behind_by i (slice_get rows i) refl (ended-most i)
+
+  -- all frames are sound
+  pub laid-sound : (allowed : ℕ) → length fs ≤ allowed → AreSound file head c allowed rows
+  laid-sound allowed few i r is =
+      let here = is_at i r is in
+      let within : i < allowed =
+      omega (arith, few, slice_get_within rows i r is, rows-length at fs) in
+      subst (λ n. IsSound (stored_crc (drop r.offset file)) c allowed n
+      (data_end_before head rows i) i r)
+      (sym (place-there i))
+      (sound-there file c (head_area head) (end i) (area_start i) here.frame r here.row
+      here.laid.begins here.laid.ends allowed (data_end_before head rows i) i (ended-most i) within)
+
+  none_lost : (i : ℕ) (r : Row) → slice_get rows i ≡ Some r → is_lost head rows i r ≡ r.lost
+  none_lost i r is =
+      let here = is_at i r is in
+      ap (λ n. lacks_data n (data_end_before head rows i) r) (place-there i)
+      ∙ has_data file c (head_area head) (end i)
+      (area_start i) here.frame r
+      here.row here.laid.begins here.laid.ends (data_end_before head rows i)
+      ∙ sym here.row.kept
+
+  marks : (n : ℕ) (more : List Row)
+      → ((i : ℕ) (r : Row) → slice_get more i ≡ Some r → is_lost head rows (n + i) r ≡ r.lost)
+      → map (λ (p : ℕ × Row). marked_row head rows p.0 p.1) (enumerate_from n more) ≡ more
+  marks n [] kept = refl
+  marks n (r ∷ more) kept =
+      let none : n + 0 ≡ n = omega arith in
+      let same : is_lost head rows n r ≡ r.lost =
+      ap (λ m. is_lost head rows m r) (sym none) ∙ kept 0 r refl in
+      let own : marked_row head rows n r ≡ r = λ j. record r { lost = same j } in
+      ap₂ (λ (q : Row) (qs : List Row). q ∷ qs) own (marks (n + 1) more
+      (λ i q is. ap (λ m. is_lost head rows m q) (omega arith) ∙ kept (suc i) q is))
+
+  -- none is marked
+  pub none-marked : marked_rows head rows ≡ rows
+  unfolding marked_rows
+  none-marked =
+      marks 0 rows (λ i r is. ap (λ m. is_lost head rows m r) (zero-add i) ∙ none_lost i r is)
+
+  -- the main data of frame i begin where they were laid
+  pub starts-there : (i : ℕ) (r : Row) → slice_get rows i ≡ Some r
+      → (f : Frame) × (slice_get fs i ≡ Some f) × (start_of_data (place head rows i) r
+      ≡ head_area head + frame_data_start (area_start i) (frame_data f))
+  starts-there i r is =
+      let here = is_at i r is in (
+        here.frame,
+        here.own,
+        ap (λ n. start_of_data n r) (place-there i) ∙ start-there file c (head_area head) (end i)
+            (area_start i) here.frame r here.row here.laid.begins here.laid.ends,
+      )
+
+-- the main data of each frame begin within the areas of the frames before it, the head's left out
+pub laid-near : (file : List ℕ) (c : ClassFields) (at : ℕ) (fs : List Frame) (area_data : List ℕ)
+    → AreStreamEntries c fs → StandFrom file at fs area_data → CanDataBeLaid (all_frame_data fs)
+    → AreNear (rows_from at fs)
+laid-near file c at fs area_data entries stand fits i r is =
+    let here = is_at file c None at fs area_data entries stand fits i r is in
+    let begins : data_end 0 0 (take i (all_frame_data fs)) + here.frame.kept.side.main_data_begin
+    ≤ areas_end 0 (take i (all_frame_data fs)) = here.laid.begins in
+    let place_is : place None (rows_from at fs) i ≡ 0 + areas_end 0 (take i (all_frame_data fs)) =
+    place-there file c None at fs area_data entries stand fits i in
+    omega (arith, ap (λ (s : Side). s.main_data_begin) here.row.side, begins, place_is)

@@ -1,0 +1,225 @@
+-- Every part of a stream fits. In the file each frame's main data don't overlap those
+-- before, end within its own area and begin at most the window before it. So at least
+-- those bytes are free before each frame that are after the main data before it, as far
+-- as the window shows them; also if silent and lost frames, which don't change where
+-- main data end, are between. After a whole window of free bytes no frame has fewer.
+use Rattle.std.proofs.Common.{ap, arith, Bool, cond, drop, false, List, map, None, Option, refl}
+use Rattle.std.proofs.Common.{slice_get, slice_range, Some, subst, suc, sum_by, sym, take, true}
+use Rattle.std.proofs.Common.{zero, ℕ, [], ◌+◌, ◌-◌, ◌||◌, ◌∙◌, ◌∷◌, ◌≡◌, ◌≤◌}
+use Rattle.std.proofs.lemmas.{Bool.{eqb-true, ltb-false}, List.{drop-map, take-map}}
+use Rattle.std.proofs.lemmas.List.Sums.{sum_by-cons}
+use Rattle.frame_header.specs.{Fields.{ClassFields, IsHeader}, Tables.window_of}
+use Rattle.laying.{proofs.BeginLemmas.begin-near, specs.{Needs.need_of, NeedsFit.IsPlacedSurvey}}
+use Rattle.laying.specs.NeedsLaws.{needs_between}
+use Rattle.side_info.specs.Side.{payload_bits, payload_bytes}
+use Rattle.slot_plan.proofs.{FreeByteLemmas.within-fit, PartLemmas.class-range}
+use Rattle.slot_plan.proofs.ReserveLemmas.{AllFit, fit-from, layout-fit, starts_of}
+use Rattle.slot_plan.specs.{FreeBytes.FitsBehind, Layouts.{FrameLengths, HasLayout}}
+use Rattle.slot_plan.specs.{Parts.{AreNeedsOfClass, own_frame}, Reserve.free_bytes_behind}
+use Rattle.sync_survey.proofs.SurveyPartsLemmas.{data-none_well, StandWell}
+use Rattle.sync_survey.specs.Faults.{SurveyFields}
+use Rattle.sync_survey.specs.MainData.{data_end_after, data_end_before, end_of_data, is_silent}
+use Rattle.sync_survey.specs.{MainData.{lacks_data, own_area, place}, Row.Row, Survey.AreWellPlaced}
+use Rattle.sync_survey.specs.declared.places.Head.{Head}
+
+-- ---- one frame
+
+-- the bytes after the main data before a place, as far as the window shows them
+abbrev shown : ℕ → ℕ → ℕ → ℕ
+shown window place ended = (place - ended) - ((place - ended) - window)
+
+-- A frame's main data fit in the free bytes before it and its own
+-- area, and the end of the main data after it is within the areas. As
+-- many bytes are free after it as the window shows there, or more.
+abbrev Goes : (window place ended area bytes free : ℕ) → Type 0
+Goes window place ended area bytes free = (bytes ≤ free + area) × (ended ≤ place + area)
+    × (shown window (place + area) ended ≤ free_bytes_behind window free bytes area)
+
+-- a silent frame has no main data
+pub silent_bytes : (r : Row) → is_silent r ≡ true → payload_bytes r.side ≡ 0
+unfolding payload_bytes
+silent_bytes r silent = omega (arith, eqb-true (payload_bits r.side) 0 silent)
+
+step_by : (window place ended free : ℕ) (r : Row) (silent lost : Bool) → is_silent r ≡ silent
+    → lacks_data place ended r ≡ lost → (lost ≡ false → StandWell place ended r)
+    → r.side.main_data_begin ≤ window → ended ≤ place → shown window place ended ≤ free
+    → Goes window place (cond (silent || lost) ended (end_of_data place r)) (own_area r.header)
+    (cond lost 0 (payload_bytes r.side)) free
+step_by window place ended free r true true silent lost well near ends some =
+    (omega arith, omega arith, omega arith)
+step_by window place ended free r false true silent lost well near ends some =
+    (omega arith, omega arith, omega arith)
+step_by window place ended free r true false silent lost well near ends some =
+    let none = silent_bytes r silent in
+    (omega (arith, none), omega arith, omega (arith, none))
+step_by window place ended free r false false silent lost well near ends some =
+    let stands = well refl in
+    let begins = ltb-false place r.side.main_data_begin stands.begins in
+    let apart = ltb-false (place - r.side.main_data_begin) ended stands.apart in
+    let within = ltb-false (place + own_area r.header) (end_of_data place r) stands.within in (
+      omega (arith, begins, apart, within),
+      omega (arith, within),
+      omega (arith, begins, apart, within),
+    )
+
+-- ---- all frames
+
+area_more : (f : Row → ℕ) (rows : List Row) (n : ℕ) (r : Row) → slice_get rows n ≡ Some r
+    → sum_by f (take (suc n) rows) ≡ sum_by f (take n rows) + f r
+area_more f [] n r is = absurd cc
+area_more f (q ∷ rows) zero r is = let same : q ≡ r = cc in omega (arith, ap f same)
+area_more f (q ∷ rows) (suc n) r is =
+    let apart : f q + (sum_by f (take n rows) + f r) ≡ (f q + sum_by f (take n rows)) + f r =
+    omega arith in
+    sum_by-cons f q (take (suc n) rows) ∙ ap (λ m. f q + m) (area_more f rows n r is) ∙ apart
+    ∙ ap (λ m. m + f r) (sym (sum_by-cons f q (take n rows)))
+
+place_more : (head : Option Head) (rows : List Row) (n : ℕ) (r : Row) → slice_get rows n ≡ Some r
+    → place head rows (suc n) ≡ place head rows n + own_area r.header
+unfolding place
+place_more head rows n r is = omega (arith, area_more (λ (q : Row). own_area q.header) rows n r is)
+
+-- the end before the next frame is that of the frame before it
+pub end_more : (head : Option Head) (rows : List Row) (n : ℕ) (r : Row) → slice_get rows n ≡ Some r
+    → data_end_before head rows (suc n)
+    ≡ data_end_after (place head rows n) (data_end_before head rows n) (Some r)
+unfolding data_end_before
+end_more head rows n r is = ap (data_end_after (place head rows n) (data_end_before head rows n)) is
+
+-- the headers of rows are the standard's
+abbrev pub AreKnown : List Row → Type 0
+AreKnown [] = Unit {0}
+AreKnown (r ∷ rows) = IsHeader r.header × AreKnown rows
+
+known-take : (n : ℕ) (rows : List Row) → AreKnown rows → AreKnown (take n rows)
+known-take (suc n) (r ∷ rows) all = (all.0, known-take n rows all.1)
+known-take _ _ all = tt
+
+known-drop : (n : ℕ) (rows : List Row) → AreKnown rows → AreKnown (drop n rows)
+known-drop (suc n) (r ∷ rows) all = known-drop n rows all.1
+known-drop _ _ all = all
+
+module _ (head : Option Head) (class : ClassFields) (rows : List Row)
+    (placed : AreWellPlaced head class rows) where
+  -- these rows are those from number n on
+  abbrev StandFrom : ℕ → List Row → Type 0
+  StandFrom n xs = (i : ℕ) (r : Row) → slice_get xs i ≡ Some r → slice_get rows (n + i) ≡ Some r
+
+  first_stands : (n : ℕ) (r : Row) (xs : List Row) → StandFrom n (r ∷ xs)
+      → slice_get rows n ≡ Some r
+  first_stands n r xs stand = ap (slice_get rows) (omega arith) ∙ stand zero r refl
+
+  rest_stand : (n : ℕ) (r : Row) (xs : List Row) → StandFrom n (r ∷ xs) → StandFrom (suc n) xs
+  rest_stand n r xs stand = λ i q is. ap (slice_get rows) (omega arith) ∙ stand (suc i) q is
+
+  all_stand : StandFrom 0 rows
+  all_stand = λ i r is. ap (slice_get rows) (omega arith) ∙ is
+
+  classes_from : (n : ℕ) (xs : List Row) → StandFrom n xs → AreNeedsOfClass class (map need_of xs)
+  unfolding AreNeedsOfClass
+  classes_from n [] stand = tt
+  classes_from n (r ∷ xs) stand = (
+    (placed n r (first_stands n r xs stand)).class_is,
+    classes_from (suc n) xs (rest_stand n r xs stand),
+  )
+
+  known_from : (n : ℕ) (xs : List Row) → StandFrom n xs → AreKnown xs
+  known_from n [] stand = tt
+  known_from n (r ∷ xs) stand = (
+    (placed n r (first_stands n r xs stand)).known,
+    known_from (suc n) xs (rest_stand n r xs stand),
+  )
+
+  abbrev of_class : ℕ
+  of_class = window_of class.version
+
+  fit_from : (n : ℕ) (xs : List Row) (free : ℕ) → StandFrom n xs → data_end_before head rows n
+      ≤ place head rows n → shown of_class (place head rows n) (data_end_before head rows n) ≤ free
+      → AllFit of_class free (map own_frame (map need_of xs))
+  unfolding AllFit
+  fit_from n [] free stand ends some = tt
+  fit_from n (r ∷ xs) free stand ends some =
+      let here = first_stands n r xs stand in
+      let is = placed n r here in
+      let step = step_by of_class (place head rows n) (data_end_before head rows n) free r
+      (is_silent r) r.lost refl (sym is.mark)
+      (λ none. data-none_well (place head rows n) (data_end_before head rows n) r
+      is.sound (sym is.mark ∙ none)) (begin-near class r.side is.fits) ends some in
+      let at = place_more head rows n r here in
+      let ended = end_more head rows n r here ∙ ap (λ b. cond (is_silent r || b)
+      (data_end_before head rows n) (end_of_data (place head rows n) r)) (sym is.mark) in (
+        step.0,
+        fit_from (suc n) xs (free_bytes_behind of_class free (need_of r).bytes (own_area r.header))
+            (rest_stand n r xs stand) (omega (arith, at, ended, step.1))
+            (omega (arith, at, ended, step.2)),
+      )
+
+  fit_all : AllFit of_class of_class (map own_frame (map need_of rows))
+  unfolding data_end_before
+  fit_all = fit_from 0 rows of_class all_stand (omega arith) (omega arith)
+
+-- the frames of a stream fit behind no bytes where it has no head: none of them has main data
+-- before the first
+pub rows-alone : (class : ClassFields) (rows : List Row) → AreWellPlaced None class rows
+    → FitsBehind (window_of class.version) 0 (map need_of rows)
+unfolding data_end_before place
+rows-alone class rows placed =
+    within-fit (window_of class.version) 0 (map own_frame (map need_of rows)) (omega arith)
+    (fit_from None class rows placed 0 rows 0 (all_stand None class rows placed) (omega arith)
+    (omega arith))
+
+-- ---- a part of them
+
+fit-take : (window free n : ℕ) (frames : List FrameLengths) → AllFit window free frames
+    → AllFit window free (take n frames)
+unfolding AllFit
+fit-take window free (suc n) (frame ∷ frames) fit =
+    (fit.0, fit-take window (free_bytes_behind window free frame.bytes frame.area) n frames fit.1)
+fit-take window free _ _ fit = tt
+
+range-map : {X Y : Type 0} (f : X → Y) (from to : ℕ) (xs : List X)
+    → slice_range (map f xs) from to ≡ map f (slice_range xs from to)
+range-map f from to xs =
+    ap (take (to - from)) (drop-map f from xs) ∙ take-map f (to - from) (drop from xs)
+
+feasible-fit : (window : ℕ) (frames : List FrameLengths) → AllFit window window frames
+    → HasLayout window window frames
+unfolding HasLayout
+feasible-fit window frames fit = (
+  starts_of window 0 window frames,
+  layout-fit window 0 window window frames (omega arith) (omega arith) fit,
+)
+
+-- what a part says
+abbrev pub Fits : SurveyFields → ℕ → ℕ → Type 0
+Fits s from to =
+    AreNeedsOfClass s.class (needs_between s from to)
+    × HasLayout (window_of s.class.version) (window_of s.class.version)
+    (map own_frame (needs_between s from to))
+
+part_of : (s : SurveyFields) (from to : ℕ) → AreNeedsOfClass s.class (map need_of s.frames)
+    → AllFit (window_of s.class.version) (window_of s.class.version)
+    (map own_frame (map need_of s.frames)) → Fits s from to
+part_of s from to classes fit =
+    let window : ℕ = window_of s.class.version in
+    let of_needs = range-map need_of from to s.frames in
+    let frames = fit-take window window (to - from) _
+    (fit-from window from (map own_frame (map need_of s.frames)) (feasible-fit window _ fit)) in (
+      subst (AreNeedsOfClass s.class) of_needs
+          (class-range s.class (map need_of s.frames) from to classes),
+      feasible-fit window (map own_frame (needs_between s from to))
+          (subst (AllFit window window) (range-map own_frame from to (map need_of s.frames)
+          ∙ ap (map own_frame) of_needs) frames),
+    )
+
+-- every part of a placed survey fits in its own slots behind a whole window
+pub part-fits : (s : SurveyFields) (from to : ℕ) → IsPlacedSurvey s → Fits s from to
+part-fits s from to placed = part_of s from to (classes_from s.head s.class s.frames placed 0
+    s.frames (all_stand s.head s.class s.frames placed)) (fit_all s.head s.class s.frames placed)
+
+-- and its frames have headers of the standard
+pub part-known : (s : SurveyFields) (from to : ℕ) → IsPlacedSurvey s
+    → AreKnown (slice_range s.frames from to)
+part-known s from to placed =
+    known-take (to - from) (drop from s.frames) (known-drop from s.frames (known_from s.head s.class
+    s.frames placed 0 s.frames (all_stand s.head s.class s.frames placed)))

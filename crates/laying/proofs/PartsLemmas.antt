@@ -1,0 +1,335 @@
+-- Parts one after the other: each begins where those before it end, and each alone has its layout.
+use Rattle.std.proofs.Common.{All, AllPairs, ap, append-nil, append_assoc, ap₂, arith, drop, length}
+use Rattle.std.proofs.Common.{length-append, List, map, refl, slice_range, subst, suc, sym, take, ℕ}
+use Rattle.std.proofs.Common.{[], ◌++◌, ◌+◌, ◌-◌, ◌<◌, ◌↔◌, ◌∙◌, ◌∷◌, ◌≡◌, ◌≤◌}
+use Rattle.std.proofs.Math.Seq.{drop-append_seam, take-append_seam}
+use Rattle.std.proofs.lemmas.List.{length-drop, length-map, length-take-le, Concat.flat_map-append}
+use Rattle.std.proofs.lemmas.List.{Elements.All-cons, Kept.AllPairs-cons}
+use Rattle.frame_header.proofs.HeaderLemmas.{IsClass-class_of}
+use Rattle.frame_header.proofs.SlotLemmas.{areas-ascend, Contains-all_slots}
+use Rattle.frame_header.specs.Fields.{ClassFields, HeaderFields, IsHeader, SlotFields}
+use Rattle.frame_header.specs.{Slots.all_slots, Tables.{class_of, window_of}}
+use Rattle.laying.proofs.NeedsFitLemmas.{AreKnown, part-fits, part-known}
+use Rattle.laying.specs.Needs.{need_of, needs_of_parts, part_places, plan_input, PlanInput}
+use Rattle.laying.specs.NeedsFit.{any_choice, IsFitPlanInput, IsPartOf, IsPlacedSurvey, own_choice}
+use Rattle.slot_plan.proofs.{AreaLemmas.class-ascend, LeastPlanLemmas.least-plan-is}
+use Rattle.slot_plan.specs.{Laws.{ChoosesInOrder, PartsChooseInOrder}, Layouts.HasLayout}
+use Rattle.slot_plan.specs.LeastPlan.{least_plan}
+use Rattle.slot_plan.specs.Parts.{AreNeedsOfClass, AreNeedsOfOneClass, ArePartsFeasible}
+use Rattle.slot_plan.specs.{Parts.{needs_in_parts, own_frame, window_in}, Plans.IsPlan}
+use Rattle.slot_plan.specs.declared.needs.{Need.Need, Placed.Placed}
+use Rattle.sync_survey.specs.{Faults.SurveyFields, Row.Row}
+
+-- ---- one part
+
+-- a part has a frame, is of the class, and has a layout after a whole window
+record Fits (class : ClassFields) (rows : List Row) : Type 0 where
+  some : 0 < length rows
+  known : AreKnown rows
+  all : AreNeedsOfClass class (map need_of rows)
+  feasible : HasLayout (window_of class.version) (window_of class.version)
+      (map own_frame (map need_of rows))
+
+part_some : (rows : List Row) (from to : ℕ) → from < to → to ≤ length rows
+    → 0 < length (slice_range rows from to)
+part_some rows from to some within = omega (
+  arith,
+  length-take-le (to - from) (drop from rows) (omega (arith, length-drop from rows, within)),
+  length-drop from rows,
+  some,
+)
+
+fits : (class : ClassFields) (rows : List Row) → IsPartOf class rows → Fits class rows
+fits class rows part =
+    let is = part-fits part.survey part.from part.to part.placed in
+    let here : Fits part.survey.class (slice_range part.survey.frames part.from part.to) =
+    record {
+      some = part_some part.survey.frames part.from part.to part.some part.within;
+      known = part-known part.survey part.from part.to part.placed;
+      all = is.0;
+      feasible = is.1;
+    } in
+    subst (Fits class) (sym part.are)
+    (subst (λ c. Fits c (slice_range part.survey.frames part.from part.to)) part.same here)
+
+-- each part is one
+abbrev AllFits : ClassFields → List (List Row) → Type 0
+AllFits class [] = Unit {0}
+AllFits class (rows ∷ parts) = Fits class rows × AllFits class parts
+
+all_fits : (class : ClassFields) (parts : List (List Row)) → All (IsPartOf class) parts
+    → AllFits class parts
+all_fits class [] all = tt
+all_fits class (rows ∷ parts) all = (
+  fits class rows (all 0 rows (omega arith)),
+  all_fits class parts (λ k d lt. all (suc k) d (omega (arith, lt))),
+)
+
+-- ---- the needs
+
+needs-cons : (rows : List Row) (parts : List (List Row))
+    → needs_of_parts (rows ∷ parts) ≡ map need_of rows ++ needs_of_parts parts
+unfolding needs_of_parts
+needs-cons rows parts = refl
+
+nothing : needs_of_parts [] ≡ []
+unfolding needs_of_parts
+nothing = refl
+
+class-append : (class : ClassFields) (xs ys : List Need) → AreNeedsOfClass class xs
+    → AreNeedsOfClass class ys → AreNeedsOfClass class (xs ++ ys)
+unfolding AreNeedsOfClass
+class-append class [] ys first second = second
+class-append class (x ∷ xs) ys first second = (first.0, class-append class xs ys first.1 second)
+
+class_all : (class : ClassFields) (parts : List (List Row)) → AllFits class parts
+    → AreNeedsOfClass class (needs_of_parts parts)
+unfolding needs_of_parts AreNeedsOfClass
+class_all class [] all = tt
+class_all class (rows ∷ parts) all =
+    class-append class (map need_of rows)
+    (needs_of_parts parts) all.0.all (class_all class parts all.1)
+
+-- needs of a class are of one class
+pub one_class : (class : ClassFields) (needs : List Need) → AreNeedsOfClass class needs
+    → AreNeedsOfOneClass needs
+unfolding AreNeedsOfClass
+one_class class [] all = tt
+one_class class (need ∷ needs) all = subst (λ c. AreNeedsOfClass c needs) (sym all.0) all.1
+
+window_is : (class : ClassFields) (needs : List Need) → 0 < length needs
+    → AreNeedsOfClass class needs → window_in needs ≡ window_of class.version
+unfolding AreNeedsOfClass
+window_is class [] some all = absurd (omega (arith, some))
+window_is class (need ∷ needs) some all = ap (λ c. window_of c.version) all.0
+
+-- ---- the places
+
+length-needs : (rows : List Row) (parts : List (List Row))
+    → length (needs_of_parts (rows ∷ parts)) ≡ length rows + length (needs_of_parts parts)
+length-needs rows parts =
+    ap length (needs-cons rows parts) ∙ length-append (map need_of rows) (needs_of_parts parts)
+    ∙ ap (λ n. n + length (needs_of_parts parts)) (length-map rows need_of)
+
+-- none is before the first, and each is before the end of all
+places_within : (class : ClassFields) (at : ℕ) (parts : List (List Row)) → AllFits class parts → All
+    (λ place. (at ≤ place) × (place < at + length (needs_of_parts parts))) (part_places at parts)
+unfolding part_places
+places_within class at [] all = λ k d lt. absurd (omega (arith, lt))
+places_within class at (rows ∷ parts) all =
+    let behind = places_within class (at + length rows) parts all.1 in
+    let count = length-needs rows parts in
+    All-cons (λ place. (at ≤ place) × (place < at + length (needs_of_parts (rows ∷ parts)))) at
+    (part_places (at + length rows) parts)
+    (omega arith, omega (arith, count, all.0.some))
+    (λ k d lt. let one = behind k d lt in (omega (arith, one.0), omega (arith, one.1, count)))
+
+places_ascend : (class : ClassFields) (at : ℕ) (parts : List (List Row)) → AllFits class parts
+    → AllPairs (λ m n. m < n) (part_places at parts)
+unfolding part_places
+places_ascend class at [] all = λ i j d before lt. absurd (omega (arith, lt))
+places_ascend class at (rows ∷ parts) all =
+    let behind = places_within class (at + length rows) parts all.1 in
+    AllPairs-cons (λ m n. m < n) at (part_places (at + length rows) parts)
+    (λ k d lt. omega (arith, (behind k d lt).0, all.0.some))
+    (places_ascend class (at + length rows) parts all.1)
+
+-- ---- the parts of the needs
+
+-- a part in the middle
+middle : (before part behind : List Need) (from to : ℕ) → from ≡ length before
+    → to ≡ length before + length part → slice_range (before ++ (part ++ behind)) from to ≡ part
+middle before part behind from to is ends =
+    let many : to - from ≡ length part = omega (arith, is, ends) in
+    ap (λ n. take (to - from) (drop n (before ++ (part ++ behind)))) is
+    ∙ ap (λ n. take n (drop (length before) (before ++ (part ++ behind)))) many
+    ∙ ap (take (length part)) (drop-append_seam before (part ++ behind))
+    ∙ take-append_seam part behind
+
+-- the parts from their places on are the needs of each
+pub parts_are : (before : List Need) (at : ℕ) (parts : List (List Row)) → at ≡ length before
+    → needs_in_parts (before ++ needs_of_parts parts) (part_places at parts)
+    ≡ map (map need_of) parts
+unfolding needs_in_parts part_places
+parts_are before at [] is = refl
+parts_are before at (rows ∷ []) is =
+    let part : List Need = map need_of rows in
+    let whole : before ++ needs_of_parts (rows ∷ []) ≡ before ++ (part ++ needs_of_parts []) =
+    ap (λ l. before ++ l) (needs-cons rows []) in
+    let empty : needs_of_parts [] ≡ [] = nothing in
+    let count : length (before ++ (part ++ needs_of_parts [])) ≡ length before + length part =
+    length-append before (part ++ needs_of_parts []) ∙ ap (λ n. length before + n)
+    (length-append part (needs_of_parts []) ∙ omega (arith, ap length empty)) in
+    ap (λ l. slice_range l at (length l) ∷ []) whole
+    ∙ ap (λ l. l ∷ [])
+    (middle before part (needs_of_parts []) at
+    (length (before ++ (part ++ needs_of_parts []))) is count)
+parts_are before at (rows ∷ next ∷ parts) is =
+    let part : List Need = map need_of rows in
+    let later : List (List Row) = next ∷ parts in
+    let to : ℕ = at + length rows in
+    let whole : before ++ needs_of_parts (rows ∷ later) ≡ before ++ (part ++ needs_of_parts later) =
+    ap (λ l. before ++ l) (needs-cons rows later) in
+    let ends : to ≡ length before + length part = omega (arith, is, length-map rows need_of) in
+    let seam : before ++ (part ++ needs_of_parts later) ≡ (before ++ part) ++ needs_of_parts later =
+    sym (append_assoc before part (needs_of_parts later)) in
+    ap (λ l. slice_range l at to ∷ needs_in_parts l (part_places to later)) whole
+    ∙ ap (λ l. l ∷ needs_in_parts (before ++ (part ++ needs_of_parts later)) (part_places to later))
+    (middle before part (needs_of_parts later) at to is ends)
+    ∙ ap (λ l. part ∷ needs_in_parts l (part_places to later)) seam
+    ∙ ap (λ l. part ∷ l)
+    (parts_are (before ++ part) to (next ∷ parts) (ends ∙ sym (length-append before part)))
+
+feasible_all : (class : ClassFields) (parts : List (List Row)) → AllFits class parts
+    → ArePartsFeasible (window_of class.version) (map (map need_of) parts)
+unfolding ArePartsFeasible
+feasible_all class [] all = tt
+feasible_all class (rows ∷ parts) all = (all.0.feasible, feasible_all class parts all.1)
+
+each_class : (class : ClassFields) (parts : List (List Row)) → AllFits class parts
+    → All (λ part. AreNeedsOfClass class part) (map (map need_of) parts)
+each_class class [] all = λ k d lt. absurd (omega (arith, lt))
+each_class class (rows ∷ parts) all =
+    All-cons (λ part. AreNeedsOfClass class part) (map need_of rows)
+    (map (map need_of) parts) all.0.all (each_class class parts all.1)
+
+-- ---- choices in order
+
+keeps : (r : Row) → IsHeader r.header → ChoosesInOrder own_choice (need_of r)
+keeps r known = record {
+  class = IsClass-class_of r.header known;
+  ascending = λ i j d before lt. absurd (omega (arith, before, lt));
+  own = (0, omega arith, refl);
+}
+
+may_any : (r : Row) → IsHeader r.header → ChoosesInOrder any_choice (need_of r)
+may_any r known =
+    let class = IsClass-class_of r.header known in
+    record {
+      class = class;
+      ascending = class-ascend (class_of r.header) (class_of r.header) r.header.protected all_slots
+          refl refl (areas-ascend (class_of r.header) class r.header.protected);
+      own = Contains-all_slots r.header.slot known.slot;
+    }
+
+module _ (choices : HeaderFields → List SlotFields)
+    (each : (r : Row) → IsHeader r.header → ChoosesInOrder choices (need_of r)) where
+  rows_choose : (rows : List Row) → AreKnown rows → All (ChoosesInOrder choices) (map need_of rows)
+  rows_choose [] known = λ k d lt. absurd (omega (arith, lt))
+  rows_choose (r ∷ rows) known = All-cons (ChoosesInOrder choices) (need_of r) (map need_of rows)
+      (each r known.0) (rows_choose rows known.1)
+
+  parts_choose : (class : ClassFields) (parts : List (List Row)) → AllFits class parts
+      → PartsChooseInOrder choices (map (map need_of) parts)
+  parts_choose class [] all = λ k d lt. absurd (omega (arith, lt))
+  parts_choose class (rows ∷ parts) all =
+      All-cons (λ part. All (ChoosesInOrder choices) part) (map need_of rows)
+      (map (map need_of) parts) (rows_choose rows all.0.known) (parts_choose class parts all.1)
+
+-- ---- all of it
+
+planned : (class : ClassFields) (parts : List (List Row)) → 1 ≤ length parts → AllFits class parts
+    → IsFitPlanInput class (plan_input parts)
+unfolding part_places
+planned class [] some all = absurd (omega (arith, some))
+planned class (rows ∷ parts) some all =
+    let whole : List (List Row) = rows ∷ parts in
+    let needs : List Need = needs_of_parts whole in
+    let classes = class_all class whole all in
+    let window =
+    window_is class needs (omega (arith, length-needs rows parts, all.0.some)) classes in
+    let within = places_within class 0 whole all in
+    record {
+      all = classes;
+      each = subst (All (λ part. AreNeedsOfClass class part)) (sym (parts_are [] 0 whole refl))
+          (each_class class whole all);
+      kept = subst (PartsChooseInOrder own_choice) (sym (parts_are [] 0 whole refl))
+          (parts_choose own_choice keeps class whole all);
+      least = subst (PartsChooseInOrder any_choice) (sym (parts_are [] 0 whole refl))
+          (parts_choose any_choice may_any class whole all);
+      window = window;
+      planned = record {
+        class = one_class class needs classes;
+        some = omega arith;
+        first = refl;
+        ascending = places_ascend class 0 whole all;
+        within = λ k d lt. omega (arith, (within k d lt).1);
+        feasible =
+            subst (λ w. ArePartsFeasible w (needs_in_parts needs (part_places 0 whole)))
+            (sym window)
+            (subst (ArePartsFeasible (window_of class.version)) (sym (parts_are [] 0 whole refl))
+            (feasible_all class whole all));
+      };
+    }
+
+-- parts of one class that each fit can be planned
+pub parts-fit : (class : ClassFields) (parts : List (List Row)) → 1 ≤ length parts
+    → All (IsPartOf class) parts → IsFitPlanInput class (plan_input parts)
+parts-fit class parts some all = planned class parts some (all_fits class parts all)
+
+-- so can one part of a survey
+pub one-part-fits : (s : SurveyFields) (from to : ℕ) → IsPlacedSurvey s → from < to
+    → to ≤ length s.frames → IsFitPlanInput s.class (plan_input (slice_range s.frames from to ∷ []))
+one-part-fits s from to placed some within =
+    let part : IsPartOf s.class (slice_range s.frames from to) =
+    record {
+      survey = s;
+      from = from;
+      to = to;
+      placed = placed;
+      same = refl;
+      some = some;
+      within = within;
+      are = refl;
+    } in
+    planned s.class (slice_range s.frames from to ∷ []) (omega arith)
+    (fits s.class (slice_range s.frames from to) part, tt)
+
+-- the plan of parts that can be planned is the first of all, by either policy
+pub parts-plan : (class : ClassFields) (choices : HeaderFields → List SlotFields)
+    (parts : List (List Row)) (placed : List Placed) → IsFitPlanInput class (plan_input parts)
+    → PartsChooseInOrder choices (needs_in_parts (plan_input parts).needs (plan_input parts).places)
+    → IsPlan (window_of class.version) choices (map (map need_of) parts) placed
+    ↔ (placed ≡ least_plan (window_of class.version) choices (map (map need_of) parts))
+parts-plan class choices parts placed fit in_order =
+    let are : needs_in_parts (plan_input parts).needs (plan_input parts).places
+    ≡ map (map need_of) parts =
+    parts_are [] 0 parts refl in
+    least-plan-is class choices (map (map need_of) parts) placed
+    (subst (All (AreNeedsOfClass class)) are fit.each)
+    (subst (PartsChooseInOrder choices) are in_order)
+    (subst (λ (n : ℕ). ArePartsFeasible n (map (map need_of) parts)) fit.window
+    (subst (ArePartsFeasible (window_in (plan_input parts).needs)) are fit.planned.feasible))
+
+-- ---- one part more
+
+-- one part more adds its needs
+pub needs-push : (parts : List (List Row)) (rows : List Row)
+    → needs_of_parts (parts ++ rows ∷ []) ≡ needs_of_parts parts ++ map need_of rows
+unfolding needs_of_parts
+needs-push parts rows = flat_map-append (map need_of) parts (rows ∷ [])
+    ∙ ap (λ l. needs_of_parts parts ++ l) (append-nil (map need_of rows))
+
+-- and its place, where those before it end
+pub places-push : (at : ℕ) (parts : List (List Row)) (rows : List Row)
+    → part_places at (parts ++ rows ∷ [])
+    ≡ part_places at parts ++ (at + length (needs_of_parts parts)) ∷ []
+unfolding part_places needs_of_parts
+places-push at [] rows = ap (λ n. n ∷ []) (omega arith)
+places-push at (first ∷ parts) rows =
+    ap (λ l. at ∷ l) (places-push (at + length first) parts rows ∙ ap (λ n.
+    part_places (at + length first) parts ++ n ∷ []) (omega (arith, length-needs first parts)))
+
+-- what was asked, with a part more after it
+pub asked-push : (parts : List (List Row)) (rows : List Row) (needs : List Need) (places : List ℕ)
+    (place : ℕ) (all : List Need) (all_places : List ℕ)
+    → record { needs = needs; places = places } ≡ plan_input parts → place ≡ length needs
+    → all ≡ needs ++ map need_of rows → all_places ≡ places ++ place ∷ []
+    → record { needs = all; places = all_places } ≡ plan_input (parts ++ rows ∷ [])
+asked-push parts rows needs places place all all_places is at added put =
+    let of_needs : needs ≡ needs_of_parts parts = ap (λ (a : PlanInput). a.needs) is in
+    let of_places : places ≡ part_places 0 parts = ap (λ (a : PlanInput). a.places) is in
+    let here : place ≡ 0 + length (needs_of_parts parts) = at ∙ ap length of_needs ∙ omega arith in
+    ap₂ (λ (n : List Need) (p : List ℕ). record { needs = n; places = p })
+    (added ∙ ap (λ l. l ++ map need_of rows) of_needs ∙ sym (needs-push parts rows))
+    (put ∙ ap₂ (λ (l : List ℕ) n. l ++ n ∷ []) of_places here ∙ sym (places-push 0 parts rows))

@@ -1,0 +1,224 @@
+-- Frames in the slots and with the main_data_begin
+-- of their plan can be laid, and are what they were.
+use Rattle.std.proofs.Common.{ap, ap₂, arith, Bool, cond, Contains, drop, false, length, List, map}
+use Rattle.std.proofs.Common.{refl, slice_index, subst, sym, take, true, ℕ, [], ◌*◌, ◌+◌, ◌-◌, ◌/◌}
+use Rattle.std.proofs.{Common.{◌<◌, ◌==◌, ◌^◌, ◌∙◌, ◌∷◌, ◌≡◌, ◌≤◌}, lemmas.List.get_or_default}
+use Rattle.bit_fields.specs.Bits.{bits}
+use Rattle.frame_header.proofs.SlotLemmas.{IsSlot-nth_slot, length-all_slots}
+use Rattle.frame_header.specs.Fields.{ClassFields, HeaderFields, IsSlot, SlotFields}
+use Rattle.frame_header.specs.{Slots.{all_slots, slot_of}, Tables.window_of}
+use Rattle.frame_header.specs.declared.version.Version.{Version, TheVariants.One}
+use Rattle.frame_writer.specs.Frames.{all_frame_data, Frame, frame_area}
+use Rattle.frame_writer.specs.Laid.{CanDataBeLaidFrom, zeros}
+use Rattle.laying.specs.LaidFiles.{AreStreamEntries, IsStreamEntry, stream_entry}
+use Rattle.laying.specs.Relaid.{frame_with_place, lead_in_with_place, relaid_frames, rest_behind}
+use Rattle.laying.specs.Relaid.{silent_lead_in, stream_with_lead_ins}
+use Rattle.side_info.proofs.SideLemmas.{SideFits-no_side}
+use Rattle.side_info.specs.Side.{front_widths_of, granules_in, no_side, payload_bits, payload_bytes}
+use Rattle.side_info.specs.{Side.SideFits, declared.side.Side.Side}
+use Rattle.slot_plan.specs.declared.needs.{Need.Need, Placed.Placed}
+use Rattle.sync_survey.proofs.EmptiedLemmas.{no_bits, no_bytes}
+use Rattle.sync_survey.specs.MainData.{granule_lengths, no_slot, split_bits, StreamFrame}
+
+-- ---- one frame of a plan
+
+abbrev pub one : Bool → Placed → Frame → Frame
+one lead_in p f = cond lead_in (lead_in_with_place p f) (frame_with_place p f)
+
+abbrev pub one_in_stream : Bool → StreamFrame → StreamFrame
+one_in_stream lead_in f = cond lead_in (silent_lead_in f) f
+
+-- the first place has the first frame or a lead-in, and the others those that are left
+pub relaid-cons : (p : Placed) (placed : List Placed) (f : Frame) (fs : List Frame)
+    → relaid_frames (f ∷ fs) (p ∷ placed)
+    ≡ one p.lead_in p f ∷ relaid_frames (rest_behind p.lead_in f fs) placed
+unfolding relaid_frames
+relaid-cons p placed f fs = refl
+
+-- so it is in the stream
+pub stream-cons : (p : Placed) (placed : List Placed) (f : StreamFrame) (fs : List StreamFrame)
+    → stream_with_lead_ins (p ∷ placed) (f ∷ fs)
+    ≡ one_in_stream p.lead_in f ∷ stream_with_lead_ins placed (rest_behind p.lead_in f fs)
+unfolding stream_with_lead_ins
+stream-cons p placed f fs = refl
+
+-- ---- it is of the class
+
+below_one : (b : Bool) → 511 < 2 ^ slice_index (cond b (9 ∷ 5 ∷ 4 ∷ 0 ∷ []) (9 ∷ 3 ∷ 4 ∷ 4 ∷ [])) 0
+below_one true = omega arith
+below_one false = omega arith
+
+below_two : (b : Bool) → 255 < 2 ^ slice_index (cond b (8 ∷ 1 ∷ 0 ∷ 0 ∷ []) (8 ∷ 2 ∷ 0 ∷ 0 ∷ [])) 0
+below_two true = omega arith
+below_two false = omega arith
+
+window_below : (v : Version) (channels : ℕ)
+    → window_of v < 2 ^ slice_index (front_widths_of v channels) 0
+window_below One channels = below_one (channels == 1)
+window_below _ channels = below_two (channels == 1)
+
+-- side information with another main_data_begin within the window still fits
+pub begun_fits : (c : ClassFields) (s : Side) (begin : ℕ) → SideFits c s
+    → begin ≤ window_of c.version → SideFits c (record s { main_data_begin = begin })
+begun_fits c s begin fits within = record {
+  main_data_begin = omega (arith, within, window_below c.version c.channels);
+  private_bits = fits.private_bits;
+  scfsi = fits.scfsi;
+  granules = fits.granules;
+}
+
+bits_begun : (s : Side) (begin : ℕ)
+    → payload_bits (record s { main_data_begin = begin }) ≡ payload_bits s
+unfolding payload_bits
+bits_begun s begin = refl
+
+bytes_begun : (s : Side) (begin : ℕ)
+    → payload_bytes (record s { main_data_begin = begin }) ≡ payload_bytes s
+unfolding payload_bytes
+bytes_begun s begin = ap (λ n. (n + 7) / 8) (bits_begun s begin)
+
+nothing_filled : (n m : ℕ) → n ≡ 0 → m ≡ 0 → drop n (bits []) ≡ zeros (8 * m - n)
+unfolding bits
+nothing_filled n m none few =
+    ap (λ k. drop k (bits [])) none ∙ ap₂ (λ j k. zeros (8 * j - k)) (sym few) (sym none)
+
+module _ (c : ClassFields) (p : Placed) (f : Frame) (slot : IsSlot p.slot)
+    (near : p.begin ≤ window_of c.version) (is : IsStreamEntry c f) where
+  lead_in-entry : IsStreamEntry c (lead_in_with_place p f)
+  lead_in-entry =
+      let none = bits_begun no_side p.begin ∙ no_bits in
+      let few = bytes_begun no_side p.begin ∙ no_bytes in
+      record {
+        header = record {
+          slot = slot;
+          frequency_index = is.header.frequency_index;
+          mode = is.header.mode;
+          mode_extension = is.header.mode_extension;
+          emphasis = is.header.emphasis;
+        };
+        class = is.class;
+        pairs = record { scfsi = refl; granules = refl; first = refl; second = refl };
+        fits = begun_fits c no_side p.begin (SideFits-no_side c) near;
+        octets = tt;
+        size = sym few;
+        filled = nothing_filled _ _ none few;
+      }
+
+  moved-entry : IsStreamEntry c (frame_with_place p f)
+  moved-entry = record {
+    header = record {
+      slot = slot;
+      frequency_index = is.header.frequency_index;
+      mode = is.header.mode;
+      mode_extension = is.header.mode_extension;
+      emphasis = is.header.emphasis;
+    };
+    class = is.class;
+    pairs = record {
+      scfsi = is.pairs.scfsi;
+      granules = is.pairs.granules;
+      first = is.pairs.first;
+      second =
+          is.pairs.second;
+    };
+    fits = begun_fits c f.kept.side p.begin is.fits near;
+    octets = is.octets;
+    size = is.size ∙ sym (bytes_begun f.kept.side p.begin);
+    filled = ap (λ n. drop n (bits f.payload)) (bits_begun f.kept.side p.begin) ∙ is.filled
+        ∙ ap₂ (λ m n. zeros (8 * m - n)) (sym (bytes_begun f.kept.side p.begin))
+        (sym (bits_begun f.kept.side p.begin));
+  }
+
+  -- what the place has can be laid
+  pub one-entry : (b : Bool) → IsStreamEntry c (one b p f)
+  one-entry true = lead_in-entry
+  one-entry false = moved-entry
+
+-- ---- it is the same in a stream
+
+lengths_begun : (h : HeaderFields) (s : Side) (begin : ℕ)
+    → granule_lengths h (record s { main_data_begin = begin }) ≡ granule_lengths h s
+unfolding granules_in
+lengths_begun h s begin = refl
+
+-- what a place has is, in the stream, the frame or an empty one
+pub one-stream : (b : Bool) (p : Placed) (f : Frame)
+    → stream_entry (one b p f) ≡ one_in_stream b (stream_entry f)
+unfolding bits payload_bits
+one-stream true p f = ap (λ lengths. record {
+  header = record f.kept.header { protected = false; slot = no_slot };
+  side = no_side;
+  payload = split_bits lengths [];
+}) (lengths_begun f.kept.header no_side p.begin)
+one-stream false p f =
+    ap₂ (λ lengths n. record {
+      header = record f.kept.header { slot = no_slot };
+      side = record f.kept.side { main_data_begin = 0 };
+      payload = split_bits lengths (take n (bits f.payload));
+    })
+    (lengths_begun f.kept.header f.kept.side p.begin) (bits_begun f.kept.side p.begin)
+
+-- what is left behind a place is left when each is changed too
+pub next-map : {X Y : Type 0} (g : X → Y) (b : Bool) (x : X) (xs : List X)
+    → map g (rest_behind b x xs) ≡ rest_behind b (g x) (map g xs)
+next-map g true x xs = refl
+next-map g false x xs = refl
+
+-- and can still be laid
+pub next-entries : (c : ClassFields) (b : Bool) (f : Frame) (fs : List Frame) → IsStreamEntry c f
+    → AreStreamEntries c fs → AreStreamEntries c (rest_behind b f fs)
+next-entries c true f fs is are = (is, are)
+next-entries c false f fs is are = are
+
+-- ---- all of them
+
+-- they can be laid from here on, and are what they were
+pub record AreLaidFrom (c : ClassFields) (end before : ℕ) (fs : List Frame)
+    (stream : List StreamFrame) : Type 0 where
+  pub entries : AreStreamEntries c fs
+  pub fit : CanDataBeLaidFrom end before (all_frame_data fs)
+  pub stream_is : map stream_entry fs ≡ stream
+
+-- no frames are laid in no bytes
+pub none_laid : (c : ClassFields) (end before : ℕ) (placed : List Placed)
+    → AreLaidFrom c end before (relaid_frames [] placed) (stream_with_lead_ins placed [])
+unfolding relaid_frames stream_with_lead_ins
+none_laid c end before placed = record { entries = tt; fit = tt; stream_is = refl }
+
+-- one frame more in front of others that are laid is laid
+pub laid_more : (c : ClassFields) (end before bytes area : ℕ) (g : Frame) (gs : List Frame)
+    (q : StreamFrame) (qs : List StreamFrame) → IsStreamEntry c g → stream_entry g ≡ q
+    → length g.payload
+    ≡ bytes → frame_area g.kept ≡ area → end + g.kept.side.main_data_begin ≤ before
+    → before - g.kept.side.main_data_begin + bytes ≤ before + area
+    → AreLaidFrom c (before - g.kept.side.main_data_begin + bytes) (before + area) gs qs
+    → AreLaidFrom c end before (g ∷ gs) (q ∷ qs)
+laid_more c end before bytes area g gs q qs is same long wide starts ends behind = record {
+  entries = (is, behind.entries);
+  fit = (
+    starts,
+    omega (arith, ends, long, wide),
+    subst (λ m. CanDataBeLaidFrom m (before + frame_area g.kept) (all_frame_data gs))
+        (ap (λ n. before - g.kept.side.main_data_begin + n) (sym long))
+        (subst (λ n. CanDataBeLaidFrom (before - g.kept.side.main_data_begin + bytes) n
+        (all_frame_data gs))
+        (ap (λ n. before + n) (sym wide)) behind.fit),
+  );
+  stream_is = ap₂ (λ x xs. x ∷ xs) same behind.stream_is;
+}
+
+-- ---- the frames that the plan was made for
+
+-- this is what a plan is given of these frames
+abbrev pub AreNeedsOf : List Need → List Frame → Type 0
+AreNeedsOf [] [] = Unit {0}
+AreNeedsOf (need ∷ needs) (f ∷ fs) =
+    (need.header ≡ f.kept.header) × (need.bytes ≡ length f.payload) × AreNeedsOf needs fs
+AreNeedsOf _ _ = ⊥
+
+-- each of the 28 is a slot
+pub slot_among : (slot : SlotFields) → Contains all_slots slot → IsSlot slot
+slot_among slot has =
+    let within : has.0 < 28 = omega (arith, has.1, length-all_slots) in
+    subst IsSlot (get_or_default all_slots has.0 (slot_of 1 false) slot has.1 ∙ has.2)
+    (IsSlot-nth_slot has.0 within)

@@ -1,0 +1,383 @@
+-- The main data of frames as they are read, area by area.
+use Rattle.std.proofs.Common.{ap, append-nil, append_assoc, ap₂, arith, Bool, cond, drop, eqb}
+use Rattle.std.proofs.Common.{false, flat_map, IfSome, inl, inr, length, length-append, length-drop}
+use Rattle.std.proofs.Common.{List, min, Option, refl, replicate, slice_get, Some, subst, suc}
+use Rattle.std.proofs.Common.{sum_by, sym, take, true, zero, ℕ, [], ◌*◌, ◌++◌, ◌+◌, ◌-◌, ◌/◌, ◌==◌}
+use Rattle.std.proofs.{Common.{◌∙◌, ◌∷◌, ◌≡◌, ◌≢◌, ◌≤◌, ◌⊎◌}, Math.Seq.drop-append-add}
+use Rattle.std.proofs.lemmas.Bool.{ltb-false, Decides.eqb_tells}
+use Rattle.std.proofs.lemmas.List.{drop-drop, length-replicate, length-take-le, nil_from_length}
+use Rattle.std.proofs.lemmas.List.{take-append-drop, Sums.sum_by-cons}
+use Rattle.bit_fields.proofs.BitsLemmas.{AreBelow-drop, AreBelow-take, AreBits-bits, bits-front}
+use Rattle.bit_fields.proofs.BitsLemmas.{bits-injective, length-bits}
+use Rattle.bit_fields.specs.Bits.{AreBits, AreBytes, bits, bytes}
+use Rattle.frame_header.specs.Fields.{ClassFields, HeaderFields}
+use Rattle.frame_header.specs.Tables.{class_of, length_of, overhead_of, window_of}
+use Rattle.frame_header.specs.declared.version.Version.{Version, TheVariants.One}
+use Rattle.frame_writer.specs.Laid.{zeros}
+use Rattle.laying.proofs.BeginLemmas.{begin-near}
+use Rattle.laying.proofs.SurveyFrameLemmas.{filling, main-place, packed-bits, packed-bytes}
+use Rattle.laying.specs.Passing.{IsAreaOf, IsWindowOverFrames, IsWindowOverLast, skipped_area_bytes}
+use Rattle.laying.specs.{Relaid.{packed_bytes, payload_of}, Surveys.CanBeRelaid}
+use Rattle.outside.proofs.FilesLemmas.{there_holds}
+use Rattle.outside.specs.Files.{Files, Holds, IsFileThere, Told, Untold}
+use Rattle.reservoir.specs.Window.{AreBitsPacked, IsWindowOver, main_bits}
+use Rattle.side_info.specs.{Side.{no_side, payload_bits, payload_bytes}, declared.side.Side.Side}
+use Rattle.sync_survey.{proofs.SurveyPartsLemmas.data-none_well, specs.Faults.SurveyFields}
+use Rattle.sync_survey.specs.MainData.{area_bytes, data_end_before, end_of_data, head_area}
+use Rattle.sync_survey.specs.MainData.{head_bytes, main_bytes, own_area, payload_at, place}
+use Rattle.sync_survey.specs.{MainData.start_of_data, Row.Row}
+use Rattle.sync_survey.specs.Survey.{FramesAreLaid, IsSurveyLaidOut, IsWellPlaced, IsWholeHead}
+use Rattle.sync_survey.specs.declared.places.Head.{Head}
+
+-- ---- a frame within the file
+
+-- the bytes of an area are at its place
+pub area-at : (file : List ℕ) (offset : ℕ) (h : HeaderFields) (at size : ℕ)
+    → at ≡ offset + overhead_of (class_of h) h.protected → size ≡ own_area h
+    → take size (drop at file) ≡ area_bytes file offset h
+area-at file offset h at size at_is size_is = ap₂ (λ m n. take m (drop n file)) size_is at_is
+    ∙ ap (take (own_area h)) (sym (drop-drop (overhead_of (class_of h) h.protected) offset file))
+
+-- frames that follow each other end no earlier than they begin
+pub laid-behind : (from to : ℕ) (rows : List Row) → FramesAreLaid from rows to → from ≤ to
+laid-behind from to [] laid = laid
+laid-behind from to (r ∷ rows) laid = omega (
+  arith,
+  laid.0,
+  laid-behind (r.offset + length_of (class_of r.header) r.header.slot) to rows laid.2,
+)
+
+-- each of them ends before all end
+pub laid-within : (from to : ℕ) (rows : List Row) (i : ℕ) (r : Row) → FramesAreLaid from rows to
+    → slice_get rows i ≡ Some r → r.offset + length_of (class_of r.header) r.header.slot ≤ to
+laid-within from to [] i r laid is = absurd cc
+laid-within from to (q ∷ rows) zero r laid is =
+    let same : q ≡ r = cc in
+    subst (λ (x : Row). x.offset + length_of (class_of x.header) x.header.slot ≤ to) same
+    (laid-behind (q.offset + length_of (class_of q.header) q.header.slot) to rows laid.2)
+laid-within from to (q ∷ rows) (suc i) r laid is =
+    laid-within (q.offset + length_of (class_of q.header) q.header.slot) to rows i r laid.2 is
+
+-- ---- one area more
+
+take-next : (rows : List Row) (i : ℕ) (r : Row) → slice_get rows i ≡ Some r
+    → take (i + 1) rows ≡ take i rows ++ r ∷ []
+take-next [] i r is = absurd cc
+take-next (q ∷ rows) zero r is = ap (λ (x : Row). x ∷ []) cc
+take-next (q ∷ rows) (suc i) r is =
+    let more : suc i + 1 ≡ suc (i + 1) = omega arith in
+    ap (λ n. take n (q ∷ rows)) more ∙ ap (λ (l : List Row). q ∷ l) (take-next rows i r is)
+
+sum-last : (rows : List Row) (r : Row) → sum_by (λ (q : Row). own_area q.header) (rows ++ r ∷ [])
+    ≡ sum_by (λ (q : Row). own_area q.header) rows + own_area r.header
+sum-last [] r = sum_by-cons (λ (q : Row). own_area q.header) r [] ∙ omega arith
+sum-last (q ∷ rows) r =
+    sum_by-cons (λ (x : Row). own_area x.header) q (rows ++ r ∷ [])
+    ∙ ap (λ n. own_area q.header + n) (sum-last rows r)
+    ∙ omega (arith, sum_by-cons (λ (x : Row). own_area x.header) q rows)
+
+areas-last : (file : List ℕ) (rows : List Row) (r : Row)
+    → flat_map (λ (q : Row). area_bytes file q.offset q.header) (rows ++ r ∷ []) ≡ flat_map
+    (λ (q : Row). area_bytes file q.offset q.header) rows ++ area_bytes file r.offset r.header
+areas-last file [] r = append-nil (area_bytes file r.offset r.header)
+areas-last file (q ∷ rows) r =
+    ap (λ (l : List ℕ). area_bytes file q.offset q.header ++ l) (areas-last file rows r)
+    ∙ sym (append_assoc (area_bytes file q.offset q.header) (flat_map
+    (λ (x : Row). area_bytes file x.offset x.header) rows) (area_bytes file r.offset r.header))
+
+-- the place after a frame is its own area further on
+pub place-next : (head : Option Head) (rows : List Row) (i : ℕ) (r : Row)
+    → slice_get rows i ≡ Some r → place head rows (i + 1) ≡ place head rows i + own_area r.header
+unfolding place
+place-next head rows i r is =
+    ap (λ (l : List Row). head_area head + sum_by (λ (q : Row). own_area q.header) l)
+    (take-next rows i r is) ∙ ap (λ n. head_area head + n) (sum-last (take i rows) r) ∙ omega arith
+
+-- one frame more adds the bytes of its area to the main data
+pub main-next : (file : List ℕ) (head : Option Head) (rows : List Row) (i : ℕ) (r : Row)
+    → slice_get rows i ≡ Some r → main_bytes file head (take (i + 1) rows)
+    ≡ main_bytes file head (take i rows) ++ area_bytes file r.offset r.header
+unfolding main_bytes
+main-next file head rows i r is =
+    ap (λ (l : List Row). head_bytes file head
+    ++ flat_map (λ (q : Row). area_bytes file q.offset q.header) l) (take-next rows i r is)
+    ∙ ap (λ (l : List ℕ). head_bytes file head ++ l) (areas-last file (take i rows) r)
+    ∙ sym (append_assoc (head_bytes file head) (flat_map (λ (q : Row). area_bytes file
+    q.offset q.header) (take i rows)) (area_bytes file r.offset r.header))
+
+-- the areas of the first frames are the first of all
+areas-append : (file : List ℕ) (rows more : List Row)
+    → flat_map (λ (q : Row). area_bytes file q.offset q.header) (rows ++ more)
+    ≡ flat_map (λ (q : Row). area_bytes file q.offset q.header) rows
+    ++ flat_map (λ (q : Row). area_bytes file q.offset q.header) more
+areas-append file [] more = refl
+areas-append file (q ∷ rows) more =
+    ap (λ (l : List ℕ). area_bytes file q.offset q.header ++ l) (areas-append file rows more)
+    ∙ sym (append_assoc (area_bytes file q.offset q.header) (flat_map (λ (x : Row). area_bytes file
+    x.offset x.header) rows) (flat_map (λ (x : Row). area_bytes file x.offset x.header) more))
+
+-- the main data of the first frames begin those of all
+pub main-front : (file : List ℕ) (head : Option Head) (rows : List Row) (n : ℕ)
+    → (rest : List ℕ) × (main_bytes file head rows ≡ main_bytes file head (take n rows) ++ rest)
+unfolding main_bytes
+main-front file head rows n =
+    let areas = λ (l : List Row). flat_map (λ (q : Row). area_bytes file q.offset q.header) l in (
+      areas (drop n rows),
+      ap (λ (l : List Row). head_bytes file head ++ areas l) (sym (take-append-drop n rows))
+          ∙ ap (λ (l : List ℕ). head_bytes file head ++ l)
+          (areas-append file (take n rows) (drop n rows))
+          ∙ sym (append_assoc (head_bytes file head) (areas (take n rows)) (areas (drop n rows))),
+    )
+
+-- ---- the main data of one frame in a window
+
+-- where they are and how far a window has to reach
+pub record IsWithin (head : Option Head) (rows : List Row) (i : ℕ) (r : Row) : Type 0 where
+  pub begins : r.side.main_data_begin ≤ place head rows i
+  pub apart : data_end_before head rows i ≤ place head rows i - r.side.main_data_begin
+  pub near : r.side.main_data_begin ≤ 511
+  pub ends : payload_bytes r.side ≤ own_area r.header + r.side.main_data_begin
+
+window_most : (c : ClassFields) → window_of c.version ≤ 511
+window_most c = by_version c.version
+  where
+    by_version : (v : Version) → window_of v ≤ 511
+    by_version One = omega arith
+    by_version _ = omega arith
+
+-- the main data of a frame that isn't lost are within the areas up to its own
+pub data-within : (head : Option Head) (c : ClassFields) (rows : List Row) (i : ℕ) (r : Row)
+    → IsWellPlaced head c rows i r → r.lost ≡ false → IsWithin head rows i r
+data-within head c rows i r is kept =
+    let stands =
+    data-none_well (place head rows i)
+    (data_end_before head rows i) r is.sound (sym is.mark ∙ kept) in
+    let begins : r.side.main_data_begin ≤ place head rows i =
+    ltb-false (place head rows i) r.side.main_data_begin stands.begins in
+    record {
+      begins = begins;
+      apart = ltb-false (place head rows i - r.side.main_data_begin)
+          (data_end_before head rows i) stands.apart;
+      near = omega (arith, begin-near c r.side is.fits, window_most c);
+      ends = omega (
+        arith,
+        begins,
+        ltb-false (place head rows i + own_area r.header)
+            (end_of_data (place head rows i) r) stands.within,
+      );
+    }
+
+-- the bytes of bits hold them
+pub bits-least : (n : ℕ) → n ≤ 8 * ((n + 7) / 8)
+bits-least n = omega arith
+
+-- bytes that hold these bits are the bits packed
+pub packed-is : (new bs : List ℕ) (count : ℕ) → AreBytes new → AreBits bs → length bs ≡ count
+    → AreBitsPacked new count bs → new ≡ packed_bytes bs
+packed-is new bs count octets are many is =
+    let same : replicate (8 * length new - count) 0 ≡ filling bs are =
+    ap₂ (λ m n. zeros (8 * m - n)) (is.few ∙ ap (λ n. (n + 7) / 8) (sym many)) (sym many) in
+    bits-injective new (packed_bytes bs) octets (packed-bytes bs are)
+    (is.same ∙ ap (λ (l : List ℕ). bs ++ l) same ∙ sym (packed-bits bs are))
+
+-- the bits that are cut from the window are the frame's main data
+pub cut-is : (file main new : List ℕ) (s : SurveyFields) (i : ℕ) (r : Row) (area begin count : ℕ)
+    → slice_get s.frames i ≡ Some r → r.lost ≡ false → IsWithin s.head s.frames i r → length main
+    ≡ place s.head s.frames (i + 1) → main ≡ main_bytes file s.head (take (i + 1) s.frames)
+    → area ≡ own_area r.header → begin ≡ r.side.main_data_begin → count ≡ payload_bits r.side
+    → count ≤ 8 * payload_bytes r.side → AreBytes new
+    → AreBitsPacked new count (main_bits main (length main - area - begin) count)
+    → new ≡ payload_of file s i r
+cut-is file main new s i r area begin count found kept within long is area_is begin_is count_is
+    least octets cut =
+    let front = main-front file s.head s.frames (i + 1) in
+    let start : length main - area - begin ≡ start_of_data (place s.head s.frames i) r =
+    omega (arith, long, place-next s.head s.frames i r found, area_is, begin_is) in
+    let at = start_of_data (place s.head s.frames i) r in
+    let reach : 8 * at + payload_bits r.side ≤ 8 * length main = omega
+    (arith, long, place-next s.head s.frames i r found, within.begins, within.ends, least, count_is)
+    in
+    let bits_are : main_bits main (length main - area - begin) count
+    ≡ payload_at (main_bytes file s.head s.frames) at r.side =
+    ap₂ (λ n m. take m (drop (8 * n) (bits main))) start count_is
+    ∙ sym (bits-front main front.0 at (payload_bits r.side) reach)
+    ∙ ap (λ (l : List ℕ). take (payload_bits r.side) (drop (8 * at) (bits l)))
+    (ap (λ (l : List ℕ). l ++ front.0) is ∙ sym front.1) in
+    let own = main_bits main (length main - area - begin) count in
+    let are : AreBits own =
+    AreBelow-take 2 count (drop (8 * (length main - area - begin)) (bits main))
+    (AreBelow-drop 2 (8 * (length main - area - begin)) (bits main) (AreBits-bits main)) in
+    let many : length own ≡ count =
+    length-take-le count (drop (8 * (length main - area - begin)) (bits main)) (omega (
+      arith,
+      start,
+      reach,
+      count_is,
+      length-bits main,
+      length-drop (8 * (length main - area - begin)) (bits main),
+    )) in
+    packed-is new own count octets are many cut
+    ∙ ap packed_bytes bits_are
+    ∙ ap (λ lost.
+    packed_bytes (payload_at (main_bytes file s.head s.frames) at (cond lost no_side r.side)))
+    (sym kept)
+
+-- a lost frame has none
+no_data : (main : List ℕ) (at : ℕ) → [] ≡ packed_bytes (payload_at main at no_side)
+unfolding bytes payload_bits
+no_data main at = refl
+
+-- a lost frame has no main data
+pub lost-is : (file : List ℕ) (s : SurveyFields) (i : ℕ) (r : Row) → r.lost ≡ true
+    → [] ≡ payload_of file s i r
+lost-is file s i r lost =
+    let at = start_of_data (place s.head s.frames i) r in
+    no_data (main_bytes file s.head s.frames) at ∙ ap (λ b.
+    packed_bytes (payload_at (main_bytes file s.head s.frames) at (cond b no_side r.side)))
+    (sym lost)
+
+-- a window over so many bytes holds as many, or 2,048
+pub window-holds : (held main : List ℕ) → IsWindowOver held main
+    → min 2048 (length main) ≤ length held
+window-holds held main is = omega (arith, ap length is ∙ length-drop (length main - 2048) main)
+
+-- main data have an eighth as many bytes as bits, rounded up
+pub bytes-are : (s : Side) → payload_bytes s ≡ (payload_bits s + 7) / 8
+unfolding payload_bytes
+bytes-are s = refl
+
+-- ---- areas that were read into a window
+
+abbrev some : List ℕ → Option (List ℕ)
+some l = Some l
+
+-- with the area of the next frame the window is over one frame more
+pub last-next : (before after area input : List ℕ) (files : Files) (s : SurveyFields) (first i : ℕ)
+    (r : Row) → slice_get s.frames i ≡ Some r → IsWindowOverLast before input files s first i
+    → IsAreaOf area input files r
+    → ((main : List ℕ) → IsWindowOver before main → IsWindowOver after (main ++ area))
+    → IsWindowOverLast after input files s first (i + 1)
+last-next before after area input files s first i r found over has more = record {
+  main = over.main ++ area;
+  held = more over.main over.held;
+  long = omega (
+    arith,
+    length-append over.main area,
+    over.long,
+    has.long,
+    place-next s.head s.frames i r found,
+  );
+  is = λ file holds.
+      let own = over.is file holds in (
+        own.0,
+        own.1,
+        main-next file s.head s.frames i r found ∙ ap₂ (λ (l m : List ℕ). l ++ m)
+            own.2 (sym (has.is file holds)) ∙ append_assoc own.0 over.main area,
+      );
+}
+
+-- nothing yet
+pub last-none : (window input : List ℕ) (files : Files) (s : SurveyFields) (first : ℕ)
+    → (first ≡ 0 → ⊥) → IsWindowOver window []
+    → ((file : List ℕ) → Holds files input file → CanBeRelaid file s)
+    → IsWindowOverLast window input files s first first
+last-none window input files s first some held has =
+    let skipped : skipped_area_bytes s first ≡ place s.head s.frames first =
+    ap (λ b. cond b 0 (place s.head s.frames first)) (other first some) in
+    record {
+      main = [];
+      held = held;
+      long = omega (arith, skipped);
+      is = λ file holds.
+          let whole = has file holds in
+          let front = main_bytes file s.head (take first s.frames) in (
+            front,
+            main-place file s.head s.frames first whole.head whole.rows ∙ sym skipped,
+            sym (append-nil front),
+          );
+    }
+  where
+    told : (n : ℕ) → (n ≡ 0 → ⊥) → ((eqb n 0 ≡ true) × (n ≡ 0)) ⊎ ((eqb n 0 ≡ false) × (n ≢ 0))
+        → (n == 0) ≡ false
+    told n some (inl same) = absurd (some same.1)
+    told n some (inr differ) = differ.0
+
+    other : (n : ℕ) → (n ≡ 0 → ⊥) → (n == 0) ≡ false
+    other n some = told n some (eqb_tells n 0)
+
+-- the last 2,048 bytes of all are those of the last areas
+last-kept : (held front main : List ℕ) → 2048 ≤ length main → IsWindowOver held main
+    → IsWindowOver held (front ++ main)
+last-kept held front main many is =
+    let from : length (front ++ main) - 2048 ≡ length front + (length main - 2048) =
+    omega (arith, length-append front main, many) in
+    is
+    ∙ sym (ap (λ n. drop n (front ++ main)) from ∙ drop-append-add front main (length main - 2048))
+
+skipped-most : (s : SurveyFields) (first : ℕ)
+    → skipped_area_bytes s first ≤ place s.head s.frames first
+skipped-most s first = by (first == 0)
+  where
+    by : (b : Bool) → cond b 0 (place s.head s.frames first) ≤ place s.head s.frames first
+    by true = omega arith
+    by false = omega arith
+
+-- with the last 2,048 bytes, or all, a window is over all
+pub last-whole : (window input : List ℕ) (files : Files) (s : SurveyFields) (first i : ℕ)
+    → IsFileThere files input
+    → (first ≡ 0) ⊎ (place s.head s.frames first + 2048 ≤ place s.head s.frames i)
+    → IsWindowOverLast window input files s first i → IsWindowOverFrames window input files s i
+last-whole window input files s first i there (inl none) over =
+    let skipped : skipped_area_bytes s first ≡ 0 = ap (λ n. skipped_area_bytes s n) none in
+    record {
+      main = over.main;
+      held = over.held;
+      long = omega (arith, over.long, skipped);
+      is = λ file holds.
+          let own = over.is file holds in
+          let empty : own.0 ≡ [] = nil_from_length own.0 (own.1 ∙ skipped) in
+          sym (own.2 ∙ ap (λ (l : List ℕ). l ++ over.main) empty);
+    }
+last-whole window input (Untold touched) s first i there (inr far) over =
+    let skipped : List ℕ = replicate (skipped_area_bytes s first) 0 in
+    record {
+      main = skipped ++ over.main;
+      held = last-kept window skipped
+          over.main (omega (arith, over.long, far, skipped-most s first)) over.held;
+      long = length-append skipped over.main ∙ ap (λ n. n + length over.main)
+          (length-replicate (skipped_area_bytes s first) 0) ∙ over.long;
+      is = λ file holds. absurd holds;
+    }
+last-whole window input (Told f) s first i there (inr far) over =
+    let held = there_holds f input there in
+    let own = over.is held.0 held.1 in
+    record {
+      main = own.0 ++ over.main;
+      held = last-kept window own.0 over.main (omega (arith, over.long, far, skipped-most s first))
+          over.held;
+      long = length-append own.0 over.main ∙ ap (λ n. n + length over.main) own.1 ∙ over.long;
+      is = λ file holds. sym own.2 ∙ ap (λ (b : List ℕ). main_bytes b s.head (take i s.frames))
+          (only-one held.0 file (sym held.1 ∙ holds));
+    }
+  where
+    only-one : (a b : List ℕ) → some a ≡ some b → a ≡ b
+    only-one a b e = cc
+
+-- ---- before the first frame
+
+-- before the first frame the place is after the head's area
+pub place-first : (head : Option Head) (rows : List Row) → place head rows 0 ≡ head_area head
+unfolding place
+place-first head rows = omega arith
+
+-- before it the main data are the head's area
+pub main-first : (file : List ℕ) (head : Option Head) (rows : List Row)
+    → main_bytes file head (take 0 rows) ≡ head_bytes file head
+unfolding main_bytes
+main-first file head rows = append-nil (head_bytes file head)
+
+-- the head is within the length
+pub head-within : (s : SurveyFields) (head : Head) → IsSurveyLaidOut s → s.head ≡ Some head
+    → head.offset + length_of (class_of head.header) head.header.slot ≤ s.length
+head-within s head laid is = (subst (λ (h : Option Head). IfSome h
+    (IsWholeHead s.first s.class s.length)) is laid.head).within

@@ -1,0 +1,256 @@
+-- Frames one after another, as they are planned.
+use Rattle.std.proofs.Common.{ap, append-nil, append_assoc, ap₂, arith, Bool, cond, drop, false}
+use Rattle.std.proofs.Common.{get_or, inl, inr, length, List, map, min, refl, slice_get}
+use Rattle.std.proofs.Common.{slice_range, Some, subst, suc, sym, take, true, zero, ℕ, [], ◌++◌}
+use Rattle.std.proofs.{Common.{◌+◌, ◌-◌, ◌<◌, ◌∙◌, ◌∷◌, ◌≡◌, ◌≤◌, ◌⊎◌}, lemmas.Bool.cases_lt}
+use Rattle.std.{proofs.lemmas.Option.slice_get-get_or, specs.List.enumerate_from}
+use Rattle.frame_header.specs.Tables.{area_of, class_of}
+use Rattle.frame_writer.specs.{Frames.{all_frame_data, Frame}, Laid.BeginsWithin, Writing.Writing}
+use Rattle.laying.proofs.PassLemmas.{lays_as}
+use Rattle.laying.proofs.PlannedFrameLemmas.{AreNeedsOf, next-map, one, relaid-cons}
+use Rattle.laying.specs.Fits.{FitsFromReach, last_reach, placed_area, placed_bytes, reach_behind}
+use Rattle.laying.specs.{Needs.need_of, Passing.{LaysFrames, LaysPart}}
+use Rattle.laying.specs.Relaid.{all_frames, planned_frame, relaid_frames, rest_behind, survey_frame}
+use Rattle.outside.specs.{Files.{Files, Holds}, declared.pass.PassFault.PassFault}
+use Rattle.slot_plan.specs.declared.needs.{Need.Need, Placed.Placed}
+use Rattle.sync_survey.specs.{Faults.SurveyFields, Row.Row}
+
+-- ---- lists
+
+drop-next : {X : Type 0} (xs : List X) (i : ℕ) (x : X) → slice_get xs i ≡ Some x
+    → drop i xs ≡ x ∷ drop (i + 1) xs
+drop-next [] i x is = absurd cc
+drop-next (y ∷ xs) zero x is = ap (λ z. z ∷ xs) cc
+drop-next (y ∷ xs) (suc i) x is =
+    let more : suc i + 1 ≡ suc (i + 1) = omega arith in
+    drop-next xs i x is ∙ ap (λ n. x ∷ drop n (y ∷ xs)) (sym more)
+
+-- a stretch is its first and those behind it
+pub range-next : {X : Type 0} (xs : List X) (i to : ℕ) (x : X) → slice_get xs i ≡ Some x → i < to
+    → slice_range xs i to ≡ x ∷ slice_range xs (i + 1) to
+range-next xs i to x is within =
+    let one_more : to - i ≡ suc (to - (i + 1)) = omega (arith, within) in
+    ap₂ (λ n l. take n l) one_more (drop-next xs i x is)
+
+-- behind its end there is nothing
+pub range-none : {X : Type 0} (xs : List X) (i to : ℕ) → to ≤ i → slice_range xs i to ≡ []
+range-none xs i to past = let none : to - i ≡ 0 = omega (arith, past) in
+    ap (λ n. take n (drop i xs)) none
+
+-- the item at a place of a list is found there
+pub found-at : {X : Type 0} (xs : List X) (i : ℕ) (x : X) → i < length xs → x ≡ get_or xs i x
+    → slice_get xs i ≡ Some x
+found-at xs i x within is = slice_get-get_or xs i x within ∙ ap (λ y. Some y) (sym is)
+
+-- an item of a list is one of any list that is the same
+pub read-at : {X : Type 0} (xs ys : List X) (i : ℕ) (x : X) → i < length ys → xs ≡ ys
+    → x ≡ get_or xs i x → slice_get ys i ≡ Some x
+read-at {X} xs ys i x within same is =
+    let here : i < length xs = omega (arith, within, ap length same) in
+    ap (λ (l : List X). slice_get l i) (sym same) ∙ found-at xs i x here is
+
+-- what is left from a place on is the one there and those behind it
+pub item-next : {X : Type 0} (xs : List X) (i : ℕ) (x : X) → i < length xs → x ≡ get_or xs i x
+    → drop i xs ≡ x ∷ drop (i + 1) xs
+item-next xs i x within is = drop-next xs i x (found-at xs i x within is)
+
+-- what is left after a lead-in or a frame
+pub left-range : {X : Type 0} (xs : List X) (i to next : ℕ) (x : X) (b : Bool)
+    → slice_get xs i ≡ Some x → i < to → next ≡ i + cond b 0 1
+    → rest_behind b x (slice_range xs (i + 1) to) ≡ slice_range xs next to
+left-range xs i to next x true found within is =
+    let same : next ≡ i = omega (arith, is) in
+    sym (range-next xs i to x found within) ∙ ap (λ n. slice_range xs n to) (sym same)
+left-range xs i to next x false found within is = ap (λ n. slice_range xs n to) (sym is)
+
+-- ---- the frames of a file
+
+each-get : (f : ℕ → Row → Frame) (n : ℕ) (rows : List Row) (i : ℕ) (r : Row)
+    → slice_get rows i ≡ Some r
+    → slice_get (map (λ (p : ℕ × Row). f p.0 p.1) (enumerate_from n rows)) i ≡ Some (f (n + i) r)
+each-get f n [] i r is = absurd cc
+each-get f n (q ∷ rows) zero r is =
+    let same : q ≡ r = cc in
+    let at : n ≡ n + 0 = omega arith in
+    ap₂ (λ m x. Some (f m x)) at same
+each-get f n (q ∷ rows) (suc i) r is =
+    let at : n + 1 + i ≡ n + suc i = omega arith in
+    each-get f (n + 1) rows i r is ∙ ap (λ m. Some (f m r)) at
+
+-- a frame of the survey is the one of its row
+pub all-get : (file : List ℕ) (s : SurveyFields) (i : ℕ) (r : Row) → slice_get s.frames i ≡ Some r
+    → slice_get (all_frames file s) i ≡ Some (survey_frame file s i r)
+unfolding all_frames
+all-get file s i r is =
+    let at : 0 + i ≡ i = omega arith in
+    each-get (survey_frame file s) 0 s.frames i r is ∙ ap (λ n. Some (survey_frame file s n r)) at
+
+-- ---- one place of a plan
+
+module _ (s : SurveyFields) (i to next : ℕ) (row : Row) (p : Placed) (placed : List Placed)
+    (found : slice_get s.frames i ≡ Some row) (within : i < to)
+    (next_is : next ≡ i + cond p.lead_in 0 1) where
+  needs-next : map need_of (slice_range s.frames i to)
+      ≡ need_of row ∷ map need_of (slice_range s.frames (i + 1) to)
+  needs-next = ap (map need_of) (range-next s.frames i to row found within)
+
+  needs-left : rest_behind p.lead_in (need_of row) (map need_of (slice_range s.frames (i + 1) to))
+      ≡ map need_of (slice_range s.frames next to)
+  needs-left = sym (next-map need_of p.lead_in row (slice_range s.frames (i + 1) to))
+      ∙ ap (map need_of) (left-range s.frames i to next row p.lead_in found within next_is)
+
+  -- the first place fits, and the others behind what it reaches
+  pub fits-next : (window reach : ℕ)
+      → FitsFromReach window reach (map need_of (slice_range s.frames i to)) (p ∷ placed)
+      → (p.begin ≤ reach)
+      × (placed_bytes p.lead_in (need_of row) ≤ p.begin + placed_area p (need_of row))
+      × FitsFromReach window (reach_behind window p (need_of row))
+      (map need_of (slice_range s.frames next to)) placed
+  unfolding FitsFromReach
+  fits-next window reach fits =
+      let opened =
+      subst (λ (l : List Need). FitsFromReach window reach l (p ∷ placed)) needs-next fits in (
+        opened.0,
+        opened.1,
+        subst (λ (l : List Need). FitsFromReach window
+            (reach_behind window p (need_of row)) l placed)
+            needs-left opened.2,
+      )
+
+  -- all reach as far as those behind it do
+  pub last-next : (window reach : ℕ)
+      → last_reach window reach (map need_of (slice_range s.frames i to)) (p ∷ placed)
+      ≡ last_reach window (reach_behind window p (need_of row))
+      (map need_of (slice_range s.frames next to)) placed
+  unfolding last_reach
+  last-next window reach =
+      ap (λ (l : List Need). last_reach window reach l (p ∷ placed)) needs-next
+      ∙ ap (λ (l : List Need). last_reach window (reach_behind window p (need_of row)) l placed)
+      needs-left
+
+  -- the first is the frame in its place, and the others are behind it
+  pub relaid-next : (file : List ℕ)
+      → relaid_frames (slice_range (all_frames file s) i to) (p ∷ placed) ≡
+      planned_frame p (survey_frame file s i row)
+      ∷ relaid_frames (slice_range (all_frames file s) next to) placed
+  relaid-next file =
+      let all = all_frames file s in
+      let f = survey_frame file s i row in
+      let got = all-get file s i row found in
+      ap (λ (l : List Frame). relaid_frames l (p ∷ placed)) (range-next all i to f got within)
+      ∙ relaid-cons p placed f (slice_range all (i + 1) to)
+      ∙ ap (λ (l : List Frame). planned_frame p f ∷ relaid_frames l placed)
+      (left-range all i to next f p.lead_in got within next_is)
+
+-- ---- as many places as frames
+
+-- if a place is left, a frame is
+pub fits-some : (window reach : ℕ) (s : SurveyFields) (i to : ℕ) (p : Placed) (placed : List Placed)
+    → FitsFromReach window reach (map need_of (slice_range s.frames i to)) (p ∷ placed) → i < to
+unfolding FitsFromReach
+fits-some window reach s i to p placed fits = by_cases (cases_lt i to)
+  where
+    none-fits : (needs : List Need) → needs ≡ [] → FitsFromReach window reach needs (p ∷ placed) → ⊥
+    none-fits [] none fits = fits
+    none-fits (need ∷ needs) none fits = absurd cc
+
+    by_cases : (i < to) ⊎ (to ≤ i) → i < to
+    by_cases (inl within) = within
+    by_cases (inr past) = absurd (none-fits (map need_of (slice_range s.frames i to))
+        (ap (map need_of) (range-none s.frames i to past)) fits)
+
+-- ---- the end
+
+-- behind no places the reach stays
+pub fits-none : (window reach : ℕ) (needs : List Need) → last_reach window reach needs [] ≡ reach
+unfolding last_reach
+fits-none window reach [] = refl
+fits-none window reach (need ∷ needs) = refl
+
+-- no frames are laid in any places
+pub relaid-none : (placed : List Placed) → relaid_frames [] placed ≡ []
+unfolding relaid_frames
+relaid-none placed = refl
+
+-- nor are frames in no places
+pub relaid-end : (frames : List Frame) → relaid_frames frames [] ≡ []
+unfolding relaid_frames
+relaid-end [] = refl
+relaid-end (f ∷ frames) = refl
+
+-- ---- where frames that follow begin
+
+one_begin : (b : Bool) (p : Placed) (f : Frame) → (one b p f).kept.side.main_data_begin ≡ p.begin
+one_begin true p f = refl
+one_begin false p f = refl
+
+-- the frames that are left begin within reach
+pub begins-left : (window reach : ℕ) (needs : List Need) (fs : List Frame) (placed : List Placed)
+    (more : List Frame) → AreNeedsOf needs fs → FitsFromReach window reach needs placed
+    → BeginsWithin (last_reach window reach needs placed) (all_frame_data more)
+    → BeginsWithin reach (all_frame_data (relaid_frames fs placed ++ more))
+unfolding FitsFromReach last_reach relaid_frames
+begins-left window reach [] [] [] more are fits begins = begins
+begins-left window reach [] (f ∷ fs) placed more are fits begins = absurd are
+begins-left window reach (need ∷ needs) [] placed more are fits begins = absurd are
+begins-left window reach (need ∷ needs) (f ∷ fs) (p ∷ placed) more are fits begins =
+    omega (arith, one_begin p.lead_in p f, fits.0)
+begins-left window reach _ _ _ more are fits begins = absurd fits
+
+-- frames that are left after those of which a write failed
+pub part_more : (input output : List ℕ) (made rest whole : List ℕ → List Frame) (reach last : ℕ)
+    (old : Writing) (before after : Files) {fault : PassFault}
+    → ((file : List ℕ) → Holds before input file → (more : List Frame) → BeginsWithin last
+    (all_frame_data more) → BeginsWithin reach (all_frame_data (rest file ++ more)))
+    → ((file : List ℕ) → Holds before input file → made file ++ rest file ≡ whole file)
+    → LaysPart input output made reach old before after fault
+    → LaysPart input output whole last old before after fault
+part_more input output made rest whole reach last old before after begins same part = record {
+  settled = part.settled;
+  prefix = part.prefix;
+  done = part.done;
+  held = part.held;
+  writer = part.writer;
+  is = λ file holds more within.
+      let found = part.is file holds (rest file ++ more) (begins file holds more within) in (
+        found.0,
+        found.1 ∙ sym (append_assoc (made file) (rest file) more)
+            ∙ ap (λ (l : List Frame). l ++ more) (same file holds),
+        found.2,
+      );
+}
+
+-- ---- one place, by whether it is a lead-in
+
+-- behind a lead-in the reach is longer by its area, up to a window
+pub reach-lead : (window : ℕ) (p : Placed) (need : Need) → p.lead_in ≡ true
+    → reach_behind window p need
+    ≡ min window (p.begin + area_of (class_of need.header) p.slot false)
+reach-lead window p need is =
+    let none : p.begin + area_of (class_of need.header) p.slot false - 0
+    ≡ p.begin + area_of (class_of need.header) p.slot false = omega arith in
+    ap (λ b. min window (p.begin + area_of (class_of need.header)
+    p.slot (cond b false need.header.protected) - cond b 0 need.bytes)) is ∙ ap (min window) none
+
+-- The first of these frames were given to the writer, and the rest of them are to follow.
+pub record LaysUpTo (input output : List ℕ) (whole rest : List ℕ → List Frame) (old new : Writing)
+    (before after : Files) : Type 0 where
+  pub made : List ℕ → List Frame
+  pub lays : LaysFrames input output made old new before after
+  pub left : (file : List ℕ) → Holds before input file → whole file ≡ made file ++ rest file
+
+-- a place takes one frame at most
+pub step-most : (b : Bool) → cond b 0 1 ≤ 1
+step-most true = omega arith
+step-most false = omega arith
+
+module _ (input output : List ℕ) (whole rest : List ℕ → List Frame) (old new : Writing)
+    (before after : Files) (sofar : LaysUpTo input output whole rest old new before after) where
+  -- where nothing is left to lay, all frames were laid
+  pub lays-all : ((file : List ℕ) → Holds before input file → rest file ≡ [])
+      → LaysFrames input output whole old new before after
+  lays-all none =
+      lays_as input output sofar.made whole old new before after
+      (λ file holds. sym (sofar.left file holds ∙ ap (λ (l : List Frame). sofar.made file ++ l)
+      (none file holds) ∙ append-nil (sofar.made file)))
+      sofar.lays

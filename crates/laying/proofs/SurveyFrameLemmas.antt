@@ -1,0 +1,441 @@
+-- The frames of a surveyed file: their main data are within
+-- the file, and as many bits as their side information says.
+use Rattle.std.proofs.Common.{ap, ap₂, arith, Bool, cond, drop, false, flat_map, length}
+use Rattle.std.proofs.Common.{length-append, length-drop, List, map, None, Ok, Option, option_map}
+use Rattle.std.proofs.Common.{refl, slice_get, Some, subst, suc, sum_by, sym, take, true, zero, ℕ}
+use Rattle.std.proofs.Common.{[], ◌*◌, ◌++◌, ◌+◌, ◌-◌, ◌/◌, ◌∙◌, ◌∷◌, ◌≡◌, ◌≤◌}
+use Rattle.std.proofs.lemmas.{Bool.ltb-false, List.{drop_at, length-take-le, take_at}}
+use Rattle.std.{proofs.lemmas.List.Sums.sum_by-cons, specs.List.{cons_option, enumerate_from}}
+use Rattle.bit_fields.proofs.BitsLemmas.{AreBelow-append, AreBelow-drop, AreBelow-take}
+use Rattle.bit_fields.proofs.BitsLemmas.{AreBits-bits, AreBytes-bytes, bits-bytes, length-bits}
+use Rattle.bit_fields.{proofs.BitsLemmas.length-bytes, specs.Bits.{AreBits, AreBytes, bits}}
+use Rattle.frame_header.proofs.{HeaderLemmas.IsClass-class_of, SlotLemmas.area-is}
+use Rattle.frame_header.specs.{Fields.{ClassFields, HeaderFields}, Tables.{class_of, overhead_of}}
+use Rattle.frame_writer.{proofs.LaidLemmas.length-zeros, specs.{Frames.Frame, Laid.zeros}}
+use Rattle.laying.proofs.BlockLemmas.{surveyed-blocks}
+use Rattle.laying.specs.LaidFiles.{AreStreamEntries, HasPairs, IsStreamEntry, stream_entry}
+use Rattle.laying.specs.{Laws.SurveysCanBeRelaid, Relaid.{all_frames, packed_bytes}}
+use Rattle.laying.specs.Surveys.{AreWholeRows, CanBeRelaid, HasWholeHead, IsWholeFrameAt}
+use Rattle.laying.specs.Surveys.{IsWholeRow}
+use Rattle.side_info.proofs.FrameLemmas.{shaped-side_in}
+use Rattle.side_info.proofs.SideLemmas.{bits_least, IsShaped, SideFits-no_side}
+use Rattle.side_info.specs.{Frame.side_in, Side.{no_side, payload_bits, payload_bytes, SideFits}}
+use Rattle.side_info.specs.declared.side.Side.{Side}
+use Rattle.sync_survey.proofs.EmptiedLemmas.{no_bytes}
+use Rattle.sync_survey.proofs.ItemsLemmas.{header_front-in_range, stands-at}
+use Rattle.sync_survey.proofs.{PlacedRowLemmas.surveyed-placed, RunsLemmas.{item_of-is, run-ends}}
+use Rattle.sync_survey.proofs.StartLemmas.{start-first}
+use Rattle.sync_survey.proofs.SurveyPartsLemmas.{data-none_well, frames_from, surveyed-parts}
+use Rattle.sync_survey.proofs.SurveyedFileLemmas.{survey_of-parts}
+use Rattle.sync_survey.specs.Faults.{stream_of_survey, survey_fields, SurveyFields}
+use Rattle.sync_survey.specs.Items.{item_at, size_of}
+use Rattle.sync_survey.specs.MainData.{area_bytes, data_end_before, end_of_data, granule_lengths}
+use Rattle.sync_survey.specs.MainData.{head_area, head_bytes, main_bytes, marked_row, marked_rows}
+use Rattle.sync_survey.specs.MainData.{own_area, payload_at, place, row_side, rows_of, split_bits}
+use Rattle.sync_survey.specs.MainData.{start_of_data, stream_frame, stream_frames, StreamFrame}
+use Rattle.sync_survey.specs.{Row.Row, Runs.{AreEndToEnd, frame_of_item, frames_of, PlacedItem}}
+use Rattle.sync_survey.specs.Survey.{AreWellPlaced, IsWellPlaced, survey_of}
+use Rattle.sync_survey.specs.{Walk.{head_of, numbered_frames, stream_run}, declared.items.Item.Item}
+use Rattle.sync_survey.specs.declared.{items.Item.TheVariants.Frame as FrameItem, places.Head.Head}
+use Rattle.sync_survey.specs.declared.places.{PlacedFrame.PlacedFrame, Start.Start}
+use Rattle.sync_survey.specs.declared.runs.Region.TheVariants.{Stream}
+
+-- ---- whole frames
+
+abbrev AreWholeFrames : List ℕ → List PlacedFrame → Type 0
+AreWholeFrames file [] = Unit {0}
+AreWholeFrames file (p ∷ ps) = IsWholeFrameAt file p.offset p.header × AreWholeFrames file ps
+
+frame_more : (file : List ℕ) (at : ℕ) (item : Item) (ps : List PlacedFrame) → item_at file at ≡ item
+    → at + size_of item ≤ length file → AreWholeFrames file ps
+    → AreWholeFrames file (cons_option (frame_of_item at item) ps)
+frame_more file at (FrameItem h) ps is within are = (
+  record {
+    header = header_front-in_range (drop at file) h (stands-at file at (FrameItem h) is);
+    within = within;
+  },
+  are,
+)
+frame_more file at _ ps is within are = are
+
+ends-frames : (file : List ℕ) (from : ℕ) (ps : List PlacedItem) (to : ℕ)
+    → AreEndToEnd Stream file from ps to → AreWholeFrames file (frames_of ps)
+ends-frames file from [] to ends = tt
+ends-frames file from (p ∷ ps) to ends =
+    let here = item_of-is Stream file p.offset p.item ends.1 in
+    frame_more file p.offset p.item (frames_of ps)
+    here.is here.within (ends-frames file (p.offset + size_of p.item) ps to ends.2)
+
+numbered-whole : (file : List ℕ) (head : Option Head) (ps : List PlacedFrame)
+    → AreWholeFrames file ps → AreWholeFrames file (numbered_frames head ps)
+numbered-whole file None ps are = are
+numbered-whole file (Some head) [] are = tt
+numbered-whole file (Some head) (p ∷ ps) are = are.1
+
+-- side information with lists as long as the arrays has pairs of granules and channels
+pub shaped_pairs : (s : Side) → IsShaped s → HasPairs s
+shaped_pairs s shaped = record {
+  scfsi = shaped.scfsi;
+  granules = shaped.granules;
+  first = shaped.first;
+  second = shaped.second;
+}
+
+rows-whole : (file : List ℕ) (ps : List PlacedFrame) → AreWholeFrames file ps
+    → AreWholeRows file (rows_of file ps)
+rows-whole file [] are = tt
+rows-whole file (p ∷ ps) are = (
+  record {
+    frame = are.0;
+    pairs = shaped_pairs (side_in p.header (drop p.offset file))
+        (shaped-side_in p.header (drop p.offset file));
+  },
+  rows-whole file ps are.1,
+)
+
+marks-whole : (file : List ℕ) (head : Option Head) (rows : List Row) (n : ℕ) (more : List Row)
+    → AreWholeRows file more → AreWholeRows file
+    (map (λ (p : ℕ × Row). marked_row head rows p.0 p.1) (enumerate_from n more))
+marks-whole file head rows n [] are = tt
+marks-whole file head rows n (r ∷ more) are = (
+  record { frame = are.0.frame; pairs = are.0.pairs },
+  marks-whole file head rows (n + 1) more are.1,
+)
+
+-- rows that are whole in the file are so when they are marked
+pub marked-whole : (file : List ℕ) (head : Option Head) (rows : List Row) → AreWholeRows file rows
+    → AreWholeRows file (marked_rows head rows)
+unfolding marked_rows
+marked-whole file head rows are = marks-whole file head rows 0 rows are
+
+-- the head is a whole frame too
+head_by : (file : List ℕ) (p : PlacedFrame) (o : Option ℕ) → IsWholeFrameAt file p.offset p.header
+    → HasWholeHead file
+    (option_map (λ at. record { offset = p.offset; header = p.header; text_at = at }) o)
+head_by file p None is = tt
+head_by file p (Some at) is = is
+
+-- the head of a frame that is whole is whole
+pub head-whole : (file : List ℕ) (p : PlacedFrame) → IsWholeFrameAt file p.offset p.header
+    → HasWholeHead file (head_of file p)
+unfolding head_of
+head-whole file p is = head_by file p _ is
+
+-- ---- the main data of the file
+
+area-length : (file : List ℕ) (offset : ℕ) (h : HeaderFields) → IsWholeFrameAt file offset h
+    → length (area_bytes file offset h) ≡ own_area h
+area-length file offset h is =
+    let over = overhead_of (class_of h) h.protected in
+    let whole =
+    (area-is (class_of h) h.slot h.protected (IsClass-class_of h is.header) is.header.slot).0 in
+    length-take-le (own_area h) (drop over (drop offset file))
+    (omega (arith, whole, is.within, length-drop over (drop offset file), length-drop offset file))
+
+areas-length : (file : List ℕ) (rows : List Row) → AreWholeRows file rows
+    → length (flat_map (λ (r : Row). area_bytes file r.offset r.header) rows)
+    ≡ sum_by (λ (r : Row). own_area r.header) rows
+areas-length file [] are = refl
+areas-length file (r ∷ rows) are =
+    omega (
+      arith,
+      length-append (area_bytes file r.offset r.header)
+          (flat_map (λ (q : Row). area_bytes file q.offset q.header) rows),
+      area-length file r.offset r.header are.0.frame,
+      areas-length file rows are.1,
+      sum_by-cons (λ (q : Row). own_area q.header) r rows,
+    )
+
+head-length : (file : List ℕ) (head : Option Head) → HasWholeHead file head
+    → length (head_bytes file head) ≡ head_area head
+head-length file None is = refl
+head-length file (Some head) is = area-length file head.offset head.header is
+
+area-among : (rows : List Row) (i : ℕ) (r : Row) → slice_get rows i ≡ Some r
+    → sum_by (λ (q : Row). own_area q.header) (take i rows) + own_area r.header
+    ≤ sum_by (λ (q : Row). own_area q.header) rows
+area-among [] i r is = absurd cc
+area-among (q ∷ rows) zero r is =
+    let same : q ≡ r = cc in
+    omega (
+      arith,
+      ap (λ (x : Row). own_area x.header) same,
+      sum_by-cons (λ (x : Row). own_area x.header) q rows,
+    )
+area-among (q ∷ rows) (suc i) r is = omega (
+  arith,
+  area-among rows i r is,
+  sum_by-cons (λ (x : Row). own_area x.header) q rows,
+  sum_by-cons (λ (x : Row). own_area x.header) q (take i rows),
+)
+
+-- the main data of the file reach to the end of the area of each frame
+pub main-reaches : (file : List ℕ) (head : Option Head) (rows : List Row) (i : ℕ) (r : Row)
+    → HasWholeHead file head → AreWholeRows file rows → slice_get rows i ≡ Some r
+    → place head rows i + own_area r.header ≤ length (main_bytes file head rows)
+unfolding place main_bytes
+main-reaches file head rows i r front are is =
+    omega (
+      arith,
+      length-append (head_bytes file head)
+          (flat_map (λ (q : Row). area_bytes file q.offset q.header) rows),
+      head-length file head front,
+      areas-length file rows are,
+      area-among rows i r is,
+    )
+
+rows-first : (file : List ℕ) (i : ℕ) (rows : List Row) → AreWholeRows file rows
+    → AreWholeRows file (take i rows)
+rows-first file zero [] are = tt
+rows-first file zero (r ∷ rows) are = tt
+rows-first file (suc i) [] are = tt
+rows-first file (suc i) (r ∷ rows) are = (are.0, rows-first file i rows are.1)
+
+-- so many main data are before frame i
+pub main-place : (file : List ℕ) (head : Option Head) (rows : List Row) (i : ℕ)
+    → HasWholeHead file head → AreWholeRows file rows
+    → length (main_bytes file head (take i rows)) ≡ place head rows i
+unfolding place main_bytes
+main-place file head rows i front are =
+    omega (
+      arith,
+      length-append (head_bytes file head)
+          (flat_map (λ (q : Row). area_bytes file q.offset q.header) (take i rows)),
+      head-length file head front,
+      areas-length file (take i rows) (rows-first file i rows are),
+    )
+
+-- ---- bits in bytes
+
+zeros-bits : (n : ℕ) → AreBits (zeros n)
+zeros-bits zero = tt
+zeros-bits (suc n) = (omega arith, zeros-bits n)
+
+module _ (bs : List ℕ) (are : AreBits bs) where
+  abbrev pub count : ℕ
+  count = (length bs + 7) / 8
+
+  abbrev pub filling : List ℕ
+  filling = zeros (8 * count - length bs)
+
+  whole : length (bs ++ filling) ≡ 8 * count
+  whole = omega (arith, length-append bs filling, length-zeros (8 * count - length bs))
+
+  filled-bits : AreBits (bs ++ filling)
+  filled-bits = AreBelow-append 2 bs filling are (zeros-bits (8 * count - length bs))
+
+  -- bits packed into bytes have as many bytes as hold them
+  pub packed-length : length (packed_bytes bs) ≡ count
+  packed-length = length-bytes count (bs ++ filling) whole
+
+  -- these are bytes
+  pub packed-bytes : AreBytes (packed_bytes bs)
+  packed-bytes = AreBytes-bytes (bs ++ filling) filled-bits
+
+  -- their bits are those, and zeros behind them
+  pub packed-bits : bits (packed_bytes bs) ≡ bs ++ filling
+  packed-bits = bits-bytes count (bs ++ filling) filled-bits whole
+
+-- ---- a frame with its main data
+
+-- the side information has its pairs, whether or not the frame was lost
+pub side_paired : (lost : Bool) (s : Side) → HasPairs s → HasPairs (cond lost no_side s)
+side_paired true s pairs = record { scfsi = refl; granules = refl; first = refl; second = refl }
+side_paired false s pairs = pairs
+
+-- and its fields are within their bits
+pub side_fits : (c : ClassFields) (lost : Bool) (s : Side) → SideFits c s
+    → SideFits c (cond lost no_side s)
+side_fits c true s fits = SideFits-no_side c
+side_fits c false s fits = fits
+
+bytes_of_bits : (s : Side) (n : ℕ) → n ≡ payload_bits s → (n + 7) / 8 ≡ payload_bytes s
+unfolding payload_bytes
+bytes_of_bits s n is = ap (λ m. (m + 7) / 8) is
+
+-- a lost frame has none, and another's end within its own area
+data-ends : (head : Option Head) (c : ClassFields) (rows : List Row) (i : ℕ) (r : Row)
+    → IsWellPlaced head c rows i r → (lost : Bool) → r.lost ≡ lost
+    → payload_bytes (cond lost no_side r.side)
+    ≤ (place head rows i + own_area r.header) - start_of_data (place head rows i) r
+data-ends head c rows i r is true lost = omega (arith, no_bytes)
+data-ends head c rows i r is false lost =
+    let stands =
+    data-none_well (place head rows i)
+    (data_end_before head rows i) r is.sound (sym is.mark ∙ lost) in
+    omega (
+      arith,
+      ltb-false (place head rows i + own_area r.header)
+          (end_of_data (place head rows i) r) stands.within,
+    )
+
+module _ (file : List ℕ) (head : Option Head) (c : ClassFields) (rows : List Row)
+    (front : HasWholeHead file head) (are : AreWholeRows file rows)
+    (placed : AreWellPlaced head c rows) where
+  abbrev main : List ℕ
+  main = main_bytes file head rows
+
+  module _ (i : ℕ) (r : Row) (found : slice_get rows i ≡ Some r) (row : IsWholeRow file r) where
+    abbrev own_bits : List ℕ
+    own_bits = payload_at main (start_of_data (place head rows i) r) (row_side r)
+
+    data-bits : AreBits own_bits
+    data-bits = AreBelow-take 2 (payload_bits (row_side r))
+        (drop (8 * start_of_data (place head rows i) r) (bits main))
+        (AreBelow-drop 2 (8 * start_of_data (place head rows i) r) (bits main) (AreBits-bits main))
+
+    data-length : length own_bits ≡ payload_bits (row_side r)
+    data-length =
+        let start = start_of_data (place head rows i) r in
+        length-take-le (payload_bits (row_side r)) (drop (8 * start) (bits main))
+        (omega (
+          arith,
+          length-drop (8 * start) (bits main),
+          length-bits main,
+          bits_least (row_side r),
+          data-ends head c rows i r (placed i r found) r.lost refl,
+          main-reaches file head rows i r front are found,
+        ))
+
+    abbrev own : Frame
+    own =
+        record {
+          kept = record { header = r.header; side = row_side r };
+          payload = packed_bytes own_bits;
+        }
+
+    bytes-is : (length own_bits + 7) / 8 ≡ payload_bytes (row_side r)
+    bytes-is = bytes_of_bits (row_side r) (length own_bits) data-length
+
+    own-filled : drop (payload_bits (row_side r)) (bits (packed_bytes own_bits))
+        ≡ zeros (8 * payload_bytes (row_side r) - payload_bits (row_side r))
+    own-filled =
+        ap (drop (payload_bits (row_side r))) (packed-bits own_bits data-bits)
+        ∙ drop_at own_bits (filling own_bits data-bits) (payload_bits (row_side r)) data-length
+        ∙ ap₂ (λ m n. zeros (8 * m - n)) bytes-is data-length
+
+    -- the frame can be laid
+    pub own-entry : IsStreamEntry c own
+    own-entry =
+        let well = placed i r found in
+        record {
+          header = row.frame.header;
+          class = well.class_is;
+          pairs = side_paired r.lost r.side row.pairs;
+          fits = side_fits c r.lost r.side well.fits;
+          octets = packed-bytes own_bits data-bits;
+          size = packed-length own_bits data-bits ∙ bytes-is;
+          filled = own-filled;
+        }
+
+    -- in the stream it is the frame that its row tells
+    pub own-stream : stream_entry own ≡ stream_frame main head rows i r
+    own-stream =
+        let all : take (payload_bits (row_side r)) (bits (packed_bytes own_bits)) ≡ own_bits =
+        ap (take (payload_bits (row_side r))) (packed-bits own_bits data-bits)
+        ∙ take_at own_bits (filling own_bits data-bits) (payload_bits (row_side r)) data-length in
+        ap (λ bs. record {
+          header = (stream_entry own).header;
+          side = (stream_entry own).side;
+          payload = split_bits (granule_lengths r.header (row_side r)) bs;
+        }) all
+
+  -- ---- all of them
+
+  abbrev each : ℕ × Row → Frame
+  each p = record {
+    kept = record { header = p.1.header; side = row_side p.1 };
+    payload =
+        packed_bytes (payload_at main (start_of_data (place head rows p.0) p.1) (row_side p.1));
+  }
+
+  abbrev AreAt : ℕ → List Row → Type 0
+  AreAt n more = (i : ℕ) (r : Row) → slice_get more i ≡ Some r → slice_get rows (n + i) ≡ Some r
+
+  first_at : (n : ℕ) (r : Row) (more : List Row) → AreAt n (r ∷ more) → slice_get rows n ≡ Some r
+  first_at n r more at = ap (slice_get rows) (omega arith) ∙ at 0 r refl
+
+  later_at : (n : ℕ) (r : Row) (more : List Row) → AreAt n (r ∷ more) → AreAt (n + 1) more
+  later_at n r more at = λ i q is. ap (slice_get rows) (omega arith) ∙ at (suc i) q is
+
+  each-entries : (n : ℕ) (more : List Row) → AreWholeRows file more → AreAt n more
+      → AreStreamEntries c (map each (enumerate_from n more))
+  each-entries n [] whole_rows at = tt
+  each-entries n (r ∷ more) whole_rows at = (
+    own-entry n r (first_at n r more at) whole_rows.0,
+    each-entries (n + 1) more whole_rows.1 (later_at n r more at),
+  )
+
+  each-stream : (n : ℕ) (more : List Row) → AreWholeRows file more → AreAt n more
+      → map stream_entry (map each (enumerate_from n more))
+      ≡ map (λ (p : ℕ × Row). stream_frame main head rows p.0 p.1) (enumerate_from n more)
+  each-stream n [] whole_rows at = refl
+  each-stream n (r ∷ more) whole_rows at =
+      ap₂ (λ (x : StreamFrame) (xs : List StreamFrame). x ∷ xs)
+      (own-stream n r (first_at n r more at) whole_rows.0)
+      (each-stream (n + 1) more whole_rows.1 (later_at n r more at))
+
+-- ---- the frames of a survey
+
+-- they are entries, and what they are in its stream
+pub record AreFramesOf (file : List ℕ) (s : SurveyFields) : Type 0 where
+  pub entries : AreStreamEntries s.class (all_frames file s)
+  pub stream_is : map stream_entry (all_frames file s) ≡ stream_of_survey file s
+
+-- the frames of a survey that is had are frames with side information and main data
+pub frames-of : (file : List ℕ) (s : SurveyFields) → CanBeRelaid file s → AreFramesOf file s
+unfolding all_frames stream_of_survey stream_frames
+frames-of file s has =
+    let at : AreAt file s.head s.class s.frames has.head has.rows has.placed 0 s.frames =
+    λ i r is. ap (slice_get s.frames) (omega arith) ∙ is in
+    record {
+      entries = each-entries file s.head s.class s.frames has.head has.rows has.placed 0
+          s.frames has.rows at;
+      stream_is = each-stream file s.head s.class s.frames has.head has.rows has.placed 0
+          s.frames has.rows at;
+    }
+
+-- ---- a file without fault
+
+record IsWholeSurvey (file : List ℕ) (s : SurveyFields) : Type 0 where
+  pub head : HasWholeHead file s.head
+  pub rows : AreWholeRows file s.frames
+
+surveyed-whole : (file : List ℕ) (allowed : ℕ) (s : SurveyFields)
+    → survey_fields file allowed ≡ Ok s → IsWholeSurvey file s
+surveyed-whole file allowed s e =
+    let parts = surveyed-parts file allowed s e in
+    let start : Start = parts.0 in
+    let stream = stream_run file start in
+    let first = (start-first file start parts.1.start_is).frame in
+    let whole_first : IsWholeFrameAt file start.first.offset start.first.header =
+    record {
+      header = header_front-in_range _ start.first.header (stands-at file
+          start.first.offset (FrameItem start.first.header) first.is);
+      within = first.within;
+    } in
+    subst (IsWholeSurvey file) parts.2
+    (record {
+      head = head-whole file start.first whole_first;
+      rows = marked-whole file (head_of file start.first) (rows_of file (frames_from file start))
+          (rows-whole file (frames_from file start)
+          (numbered-whole file (head_of file start.first) (frames_of stream.items) (ends-frames file
+          start.first.offset stream.items stream.stop (run-ends Stream file start.first.offset))));
+    })
+
+-- a survey without fault is had by its file
+pub surveys-had : SurveysCanBeRelaid
+surveys-had file allowed s e =
+    let is = surveyed-whole file allowed s e in
+    record {
+      long = ap (λ (t : SurveyFields). t.length) (surveyed-parts file allowed s e).2;
+      head = is.head;
+      rows = is.rows;
+      placed = surveyed-placed file allowed s e;
+      blocks = surveyed-blocks file allowed s e;
+    }
+
+-- so is that of a file that isn't too long
+pub survey-had : (file : List ℕ) (allowed : ℕ) (s : SurveyFields) → survey_of file allowed ≡ Ok s
+    → CanBeRelaid file s
+survey-had file allowed s e = surveys-had file allowed s (survey_of-parts file allowed s e).1

@@ -1,0 +1,128 @@
+-- Bytes that are items, one after the other: where they are in a file, they are its run.
+use Rattle.std.proofs.Common.{ap, append_assoc, arith, drop, length, length-append, length-drop}
+use Rattle.std.proofs.Common.{List, None, option_map, option_to_list, refl, Some, subst, sym, take}
+use Rattle.std.proofs.{Common.{true, ℕ, [], ◌++◌, ◌+◌, ◌∙◌, ◌∷◌, ◌≡◌, ◌≤◌}, Math.Seq.take-length}
+use Rattle.std.{proofs.lemmas.List.{drop-drop, drop_at}, specs.List.concat}
+use Rattle.laying.specs.LaidFiles.{AreBlocks, blocks_from, IsBlock}
+use Rattle.sync_survey.proofs.ItemBytesLemmas.{block_front-bytes, IsItem}
+use Rattle.sync_survey.proofs.{ItemListLemmas.item_at-known, OneItemLemmas.stands-only}
+use Rattle.sync_survey.{proofs.RunsLemmas.{item_of-whole, run-only}, specs.Items.size_of}
+use Rattle.sync_survey.specs.Runs.{AreEndToEnd, belongs, blocks_of, frames_of, item_run, PlacedItem}
+use Rattle.sync_survey.specs.{Runs.whole_item_at, declared.items.Item.{Item, TheVariants.Block}}
+use Rattle.sync_survey.specs.declared.{places.Piece.Piece, runs.Region.Region}
+use Rattle.tag_blocks.specs.{Blocks.block_front, declared.block.Block.Block as TagBlock}
+
+-- ---- whole items
+
+-- these bytes are these items of the part, one after the other
+abbrev pub AreWhole : Region → List Item → List ℕ → Type 0
+AreWhole part [] bytes = bytes ≡ []
+AreWhole part (item ∷ items) bytes = (own : List ℕ) × (rest : List ℕ) × (bytes ≡ own ++ rest)
+    × IsItem item own × (belongs part item ≡ true) × AreWhole part items rest
+
+-- whole items and more of them are whole items
+pub whole-append : (part : Region) (xs ys : List Item) (front back : List ℕ)
+    → AreWhole part xs front → AreWhole part ys back → AreWhole part (xs ++ ys) (front ++ back)
+whole-append part [] ys front back are behind =
+    subst (AreWhole part ys) (sym (ap (λ (l : List ℕ). l ++ back) are)) behind
+whole-append part (x ∷ xs) ys front back are behind = (
+  are.0,
+  are.1 ++ back,
+  ap (λ (l : List ℕ). l ++ back) are.2 ∙ append_assoc are.0 are.1 back,
+  are.3,
+  are.4,
+  whole-append part xs ys are.1 back are.5 behind,
+)
+
+-- ---- where they are
+
+-- the items one after the other, the first of them at an offset
+abbrev pub placed : ℕ → List Item → List PlacedItem
+placed at [] = []
+placed at (item ∷ items) = record { offset = at; item = item } ∷ placed (at + size_of item) items
+
+-- whole items are end to end wherever their bytes are
+pub whole-end : (part : Region) (file : List ℕ) (at : ℕ) (items : List Item) (bytes behind : List ℕ)
+    → AreWhole part items bytes → at ≤ length file → drop at file ≡ bytes ++ behind
+    → AreEndToEnd part file at (placed at items) (at + length bytes)
+whole-end part file at [] bytes behind are within is = omega (arith, ap length are)
+whole-end part file at (item ∷ items) bytes behind are within is =
+    let own = are.0 in
+    let rest = are.1 in
+    let size = size_of item in
+    let stands : drop at file ≡ own ++ (rest ++ behind) =
+    is ∙ ap (λ (l : List ℕ). l ++ behind) are.2 ∙ append_assoc own rest behind in
+    let room : at + size ≤ length file = omega (
+      arith,
+      within,
+      ap length stands,
+      length-drop at file,
+      length-append own (rest ++ behind),
+      are.3.size,
+    ) in
+    let known = item_at-known file at at (own ++ (rest ++ behind)) item refl stands
+    (are.3.known (rest ++ behind)) in
+    let next : drop (at + size) file ≡ rest ++ behind = sym (drop-drop size at file)
+    ∙ ap (drop size) stands ∙ drop_at own (rest ++ behind) size are.3.size in
+    let to : at + size + length rest ≡ at + length bytes =
+    omega (arith, ap length are.2, length-append own rest, are.3.size) in (
+      refl,
+      item_of-whole part file at item known are.4 room,
+      subst (AreEndToEnd part file (at + size) (placed (at + size) items)) to
+          (whole-end part file (at + size) items rest behind are.5 room next),
+    )
+
+-- they are the run, if no further item of the part is after them
+pub whole-run : (part : Region) (file : List ℕ) (at : ℕ) (items : List Item) (bytes behind : List ℕ)
+    → AreWhole part items bytes → at ≤ length file → drop at file ≡ bytes ++ behind
+    → whole_item_at part file (at + length bytes) ≡ None
+    → item_run part file at ≡ record { items = placed at items; stop = at + length bytes }
+whole-run part file at items bytes behind are within is none = run-only part file at (placed at
+    items) (at + length bytes) (whole-end part file at items bytes behind are within is) none
+
+-- ---- blocks
+
+block_item : (bytes : List ℕ) (is : IsBlock bytes) → IsItem (Block is.0) bytes
+block_item bytes is =
+    let block = is.0 in
+    let whole : take block.length bytes ≡ bytes = ap (λ n. take n bytes) is.2 ∙ take-length bytes in
+    let stands : (rest : List ℕ) → block_front (bytes ++ rest) ≡ Some block =
+    λ rest. ap (λ (l : List ℕ). block_front (l ++ rest)) (sym whole)
+    ∙ block_front-bytes bytes rest block is.1 (omega (arith, is.2)) in
+    record {
+      size = sym is.2;
+      known = λ rest. sym (stands-only (bytes ++ rest) (Block block) (stands rest));
+    }
+
+-- the items that blocks are
+abbrev pub block_items : (blocks : List (List ℕ)) → AreBlocks blocks → List Item
+block_items [] are = []
+block_items (b ∷ blocks) are = Block are.0.0 ∷ block_items blocks are.1
+
+-- blocks, one after the other, are whole items
+pub blocks-whole : (part : Region) (blocks : List (List ℕ)) (are : AreBlocks blocks)
+    → AreWhole part (block_items blocks are) (concat blocks)
+blocks-whole part [] are = refl
+blocks-whole part (b ∷ blocks) are =
+    (b, concat blocks, refl, block_item b are.0, refl, blocks-whole part blocks are.1)
+
+-- no frame is among them
+pub blocks-no_frame : (at : ℕ) (blocks : List (List ℕ)) (are : AreBlocks blocks)
+    → frames_of (placed at (block_items blocks are)) ≡ []
+blocks-no_frame at [] are = refl
+blocks-no_frame at (b ∷ blocks) are = blocks-no_frame (at + are.0.0.length) blocks are.1
+
+-- they follow one after the other
+pub blocks-placed : (at : ℕ) (blocks : List (List ℕ)) (are : AreBlocks blocks)
+    → blocks_of (placed at (block_items blocks are)) ≡ blocks_from at blocks
+blocks-placed at [] are = refl
+blocks-placed at (b ∷ blocks) are =
+    let block = are.0.0 in
+    let there : option_map (λ (k : TagBlock). record { offset = at; block = k }) (block_front b)
+    ≡ Some (record { offset = at; block = block }) =
+    ap (option_map (λ (k : TagBlock). record { offset = at; block = k })) are.0.1 in
+    ap (λ n. record { offset = at; block = block }
+    ∷ blocks_of (placed (at + n) (block_items blocks are.1))) are.0.2
+    ∙ ap (λ (l : List Piece). record { offset = at; block = block } ∷ l)
+    (blocks-placed (at + length b) blocks are.1)
+    ∙ ap (λ o. option_to_list o ++ blocks_from (at + length b) blocks) (sym there)

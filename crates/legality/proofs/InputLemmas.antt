@@ -1,0 +1,150 @@
+-- Names that are apart, and the surveys of inputs.
+use Rattle.std.proofs.Common.{ap, arith, bytes_eq, cond, Contains, false, length, List, None, Ok}
+use Rattle.std.proofs.Common.{refl, Some, subst, suc, sym, true, zero, ℕ, [], ◌+◌, ◌∙◌, ◌∷◌, ◌≡◌}
+use Rattle.std.proofs.{Common.◌≤◌, lemmas.{Bool.false_from_ne_true, List.Elements.All-cons}}
+use Rattle.std.proofs.lemmas.{List.Folds.list_any_at, Map.Views.Contains-from_any}
+use Rattle.std.{proofs.lemmas.Slice.Eq.bytes_eq-Decides, specs.List.list_any}
+use Rattle.commands.{proofs.MakeLemmas.no_clash, specs.Command.clash_from}
+use Rattle.legality.specs.Inputs.{AreInputs, AreNamesApart, FileInput, HoldsOfEach, HoldsOfEachNext}
+use Rattle.legality.specs.Inputs.{HoldsOfOne, input_frames, IsInput}
+use Rattle.outside.{proofs.FilesLemmas.bytes_eq_same, specs.Files.Contents}
+use Rattle.pack_edits.proofs.LimitLemmas.{few-rows}
+use Rattle.sync_survey.proofs.{FaultsLemmas.marked-length, FoldersLemmas.survey_of-short}
+use Rattle.sync_survey.proofs.SurveyPartsLemmas.{all_faults-none_sound, frames_from}
+use Rattle.sync_survey.proofs.SurveyPartsLemmas.{sound-no_all_faults, sound_allowed}
+use Rattle.sync_survey.proofs.SurveyPartsLemmas.{surveyed-allowed, surveyed-parts, surveyed-told}
+use Rattle.sync_survey.proofs.SurveyedFileLemmas.{survey_of-parts}
+use Rattle.sync_survey.specs.Faults.{class_from, longest_file, SurveyFields, unbounded_survey}
+use Rattle.sync_survey.specs.{MainData.rows_of, Survey.survey_of, Walk.head_of}
+
+-- ---- lists
+
+-- what holds of the first and of each behind it holds of each
+pub each-cons : {A : Type 0} (P : ℕ → A → Type 0) (x : A) (xs : List A) → P 0 x
+    → HoldsOfEach xs (λ i y. P (suc i) y) → HoldsOfEach (x ∷ xs) P
+each-cons P x xs first rest zero y is = let same : x ≡ y = cc in subst (P 0) same first
+each-cons P x xs first rest (suc i) y is = rest i y is
+
+-- what holds of the first two and of each two behind them holds of each two
+pub next-cons : {A : Type 0} (P : A → A → Type 0) (x y : A) (more : List A) → P x y
+    → HoldsOfEachNext (y ∷ more) P → HoldsOfEachNext (x ∷ y ∷ more) P
+next-cons P x y more first rest zero p q is next =
+    let one : x ≡ p = cc in
+    let two : y ≡ q = cc in
+    subst (λ a. P a q) one (subst (P x) two first)
+next-cons P x y more first rest (suc i) p q is next = rest i p q is next
+
+-- ---- names
+
+none-is : (name : List ℕ) (outputs : List (List ℕ)) → list_any (bytes_eq name) outputs ≡ false
+    → Contains outputs name → ⊥
+none-is name outputs none has =
+    let found : list_any (bytes_eq name) outputs ≡ true = list_any_at (bytes_eq name) outputs
+    has.0 name has.1 (ap (bytes_eq name) has.2 ∙ bytes_eq_same name) in
+    let both : true ≡ false = sym found ∙ none in
+    absurd cc
+
+is-none : (name : List ℕ) (outputs : List (List ℕ)) → (Contains outputs name → ⊥)
+    → list_any (bytes_eq name) outputs ≡ false
+is-none name outputs free = false_from_ne_true _
+    (λ e. free (Contains-from_any (λ x y same. (bytes_eq-Decides x y).0 same) name outputs e))
+
+-- without a clash the names are apart
+pub no-clash_apart : (outputs names : List (List ℕ)) (place : ℕ)
+    → clash_from outputs place names ≡ None → AreNamesApart names outputs
+no-clash_apart outputs [] place none = λ k d within. absurd (omega (arith, within))
+no-clash_apart outputs (name ∷ names) place none =
+    let parts =
+    no_clash (list_any (bytes_eq name) outputs) place (clash_from outputs (place + 1) names) none in
+    All-cons (λ n. Contains outputs n → ⊥) name names (none-is name outputs parts.0)
+    (no-clash_apart outputs names (place + 1) parts.1)
+
+-- names that are apart don't clash
+pub apart_no-clash : (outputs names : List (List ℕ)) (place : ℕ) → AreNamesApart names outputs
+    → clash_from outputs place names ≡ None
+apart_no-clash outputs [] place apart = refl
+apart_no-clash outputs (name ∷ names) place apart =
+    ap (λ b. cond b (Some place) (clash_from outputs (place + 1) names))
+    (is-none name outputs (apart 0 [] (omega arith)))
+    ∙ apart_no-clash outputs names (place + 1)
+    (λ k d within. apart (suc k) d (omega (arith, within)))
+
+-- ---- surveys
+
+-- a file that is no longer than allowed and has no fault where `allowed` frames are allowed
+pub record IsWhole (file : List ℕ) (allowed : ℕ) (s : SurveyFields) : Type 0 where
+  pub long : length file ≤ longest_file
+  pub well_formed : unbounded_survey file ≡ Ok s
+  pub few : length s.frames ≤ allowed
+
+-- a surveyed file isn't too long, is well-formed, and has no more frames than allowed
+pub survey-whole : (file : List ℕ) (allowed : ℕ) (s : SurveyFields) → survey_of file allowed ≡ Ok s
+    → IsWhole file allowed s
+survey-whole file allowed s e =
+    let whole = survey_of-parts file allowed s e in
+    let parts = surveyed-parts file allowed s whole.1 in
+    let head = head_of file parts.0.first in
+    let rows = rows_of file (frames_from file parts.0) in
+    let few = few-rows file head (class_from parts.0) allowed rows
+    (all_faults-none_sound file head (class_from parts.0) allowed rows parts.1.frames) in
+    let size : length s.frames ≡ length rows =
+    ap (λ (t : SurveyFields). length t.frames) (sym parts.2) ∙ marked-length head rows in
+    record {
+      long = whole.0;
+      well_formed = surveyed-allowed file allowed (length file + 1) s (omega arith) whole.1;
+      few = omega (arith, few, size);
+    }
+
+-- and such a file has a survey
+pub whole-survey : (file : List ℕ) (allowed : ℕ) (s : SurveyFields) → IsWhole file allowed s
+    → survey_of file allowed ≡ Ok s
+whole-survey file allowed s whole =
+    let parts = surveyed-parts file (length file + 1) s whole.well_formed in
+    let start = parts.0 in
+    let read = parts.1 in
+    let head = head_of file start.first in
+    let rows = rows_of file (frames_from file start) in
+    let size : length s.frames ≡ length rows =
+    ap (λ (t : SurveyFields). length t.frames) (sym parts.2) ∙ marked-length head rows in
+    survey_of-short file allowed whole.long
+    ∙ surveyed-told file allowed start (record {
+      start_is = read.start_is;
+      frames = sound-no_all_faults file head (class_from start) allowed rows
+          (sound_allowed file head (class_from start) (length file + 1) allowed rows
+          (omega (arith, whole.few, size))
+          (all_faults-none_sound file head (class_from start) (length file + 1) rows read.frames));
+      end = read.end;
+    })
+    ∙ ap Ok parts.2
+
+-- ---- one input
+
+-- the name's file is an input without fault, and what was chosen is legal for it
+pub record IsOne (Choice : FileInput → Type 0) (files : Contents) (name : List ℕ)
+    (most : ℕ) : Type 0 where
+  pub input : FileInput
+  pub is : IsInput files name input
+  pub few : length input.survey.frames ≤ most
+  pub choice : Choice input
+
+-- one input that is right is the one of the command
+pub one-of : (Choice : FileInput → Type 0) (files : Contents) (name : List ℕ) (most : ℕ)
+    (inputs : List FileInput) → AreInputs files (name ∷ []) inputs → input_frames inputs ≤ most
+    → HoldsOfOne Choice inputs → IsOne Choice files name most
+one-of Choice files name most [] are few choice = absurd are
+one-of Choice files name most (input ∷ []) are few choice =
+    record { input = input; is = are.0; few = omega (arith, few); choice = choice }
+one-of Choice files name most (input ∷ next ∷ inputs) are few choice = absurd choice
+
+-- a right input has its survey
+pub one-survey : (Choice : FileInput → Type 0) (files : Contents) (name : List ℕ) (most : ℕ)
+    (one : IsOne Choice files name most) → survey_of one.input.bytes most ≡ Ok one.input.survey
+one-survey Choice files name most one = whole-survey one.input.bytes most one.input.survey
+    (record { long = one.is.long; well_formed = one.is.well_formed; few = one.few })
+
+-- a surveyed file under its name is an input
+pub survey-input : (files : Contents) (name file : List ℕ) (allowed : ℕ) (s : SurveyFields)
+    → files name ≡ Some file → survey_of file allowed ≡ Ok s
+    → IsInput files name (record { bytes = file; survey = s })
+survey-input files name file allowed s there e = let whole = survey-whole file allowed s e in
+    record { there = there; long = whole.long; well_formed = whole.well_formed }

@@ -1,0 +1,298 @@
+-- A packing: with the least slots, the fewest bytes, and the slots of some bit rates.
+use Rattle.std.proofs.Common.{ap, arith, Bool, cond, Contains, Err, false, get_or, inl, inr, length}
+use Rattle.std.proofs.Common.{List, map, None, Ok, refl, Result, Some, subst, suc, sym, true, zero}
+use Rattle.std.proofs.Common.{ℕ, [], ◌<◌, ◌==◌, ◌∙◌, ◌∷◌, ◌≡◌, ◌≤◌}
+use Rattle.std.proofs.lemmas.{Bool.{eq-eqb, eqb-true, lt-ltb, ltb-true}, List.length-map}
+use Rattle.std.specs.Prelude.{filter, ◌↔◌}
+use Rattle.commands.proofs.{MadeLemmas.some-frames, RefusingLemmas.{then_ok, unless_ok}}
+use Rattle.commands.specs.{Refusing.{refusal_or, then_made}, SingleOutput.most_frames}
+use Rattle.commands.specs.declared.fault.EditFault.{EditFault, TheVariants.Refused}
+use Rattle.commands.specs.declared.fault.Refusal.TheVariants.{NoRate, Unfit}
+use Rattle.cut_edits.proofs.ChosenLemmas.{laid-fault, laid-parts, laying-is}
+use Rattle.cut_edits.specs.Chosen.{all_choice, Chosen, chosen_needs, chosen_rows, laying_making}
+use Rattle.cut_edits.specs.Chosen.{placed_part, Planning}
+use Rattle.frame_header.specs.{Fields.{ClassFields, SlotFields}, Slots.all_slots}
+use Rattle.frame_header.specs.Tables.{rate_of, window_of}
+use Rattle.laying.{proofs.PlacesLemmas.range-whole, specs.{Laid.file_laid, Needs.need_of}}
+use Rattle.laying.specs.{NeedsFit.IsPlacedSurvey, Written.head_info}
+use Rattle.legality.proofs.SplitLemmas.{within-ok}
+use Rattle.legality.specs.Choices.{HasRateRoom, IsFirstUnfit, IsRate}
+use Rattle.pack_edits.proofs.MenuLemmas.{menu-ascends, menu-some}
+use Rattle.pack_edits.proofs.PlanLemmas.{fitted-ok, floor-unfit, plan-is, rows-same, rows-some}
+use Rattle.pack_edits.proofs.PlanLemmas.{rows-sound}
+use Rattle.pack_edits.specs.Rates.{fitted_plan, is_rate, menu_in, no_rate, rate_refusal, rates_plan}
+use Rattle.rate_plan.proofs.LeastMenuPlanLemmas.{least_menu_plan-is}
+use Rattle.rate_plan.specs.LeastMenuPlan.{least_menu_plan}
+use Rattle.rate_plan.specs.Menus.{CanBeLaidFromMenu, IsFirstUnfitFrame, IsMenuPlan, menu_items}
+use Rattle.requests.specs.declared.mode.PackMode.{PackMode, TheVariants.{Constant, Floor}}
+use Rattle.slot_plan.specs.{Lists.CanBeLaid, Plans.item_areas, declared.needs.Need.Need}
+use Rattle.slot_plan.specs.declared.needs.Placed.{Placed}
+use Rattle.sync_survey.proofs.{PlacedRowLemmas.surveyed-placed, SurveyedFileLemmas.survey_of-parts}
+use Rattle.sync_survey.specs.{Faults.SurveyFields, Survey.survey_of}
+
+-- ---- a bit rate of the class
+
+some-kept : (p : SlotFields → Bool) (xs : List SlotFields) → 0 < length (filter p xs)
+    → (x : SlotFields) × Contains xs x × (p x ≡ true)
+some-kept p [] some = absurd (omega (arith, some))
+some-kept p (x ∷ xs) some = at (p x) refl some (λ more. some-kept p xs more)
+  where
+    later : (y : SlotFields) × Contains xs y × (p y ≡ true)
+        → (y : SlotFields) × Contains (x ∷ xs) y × (p y ≡ true)
+    later found = (found.0, (suc found.1.0, omega (arith, found.1.1), found.1.2), found.2)
+
+    at : (b : Bool) → p x ≡ b → 0 < length (cond b (x ∷ filter p xs) (filter p xs))
+        → (0 < length (filter p xs) → (y : SlotFields) × Contains xs y × (p y ≡ true))
+        → (y : SlotFields) × Contains (x ∷ xs) y × (p y ≡ true)
+    at true is some rest = (x, (0, omega arith, refl), is)
+    at false is some rest = later (rest some)
+
+kept-some : (p : SlotFields → Bool) (x : SlotFields) → p x ≡ true → (xs : List SlotFields) (k : ℕ)
+    → k < length xs → get_or xs k x ≡ x → 0 < length (filter p xs)
+kept-some p x is [] k within same = absurd (omega (arith, within))
+kept-some p x is (y ∷ ys) zero within same = ap-kept (p y) (ap p same ∙ is)
+  where
+    ap-kept : (b : Bool) → b ≡ true → 0 < length (cond b (y ∷ filter p ys) (filter p ys))
+    ap-kept true e = omega arith
+    ap-kept false e = absurd cc
+kept-some p x is (y ∷ ys) (suc k) within same =
+    at (p y) (kept-some p x is ys k (omega (arith, within)) same)
+  where
+    at : (b : Bool) → 0 < length (filter p ys) → 0 < length (cond b (y ∷ filter p ys) (filter p ys))
+    at true some = omega arith
+    at false some = some
+
+-- a bit rate that isn't refused is one of the class
+pub no-rate_none : (rate : ℕ) (class : ClassFields) → rate_refusal rate class ≡ None
+    → IsRate rate class
+no-rate_none rate class none = at (is_rate rate class) refl none
+  where
+    found : is_rate rate class ≡ true → IsRate rate class
+    found is =
+        let kept = some-kept (λ slot. rate_of class slot == rate) all_slots
+        (ltb-true 0 (length (menu_in (Constant rate) class)) is) in
+        (kept.0, kept.1, eqb-true (rate_of class kept.0) rate kept.2)
+
+    at : (b : Bool) → is_rate rate class ≡ b → cond b None (Some (NoRate rate)) ≡ None
+        → IsRate rate class
+    at true is e = found is
+    at false is e = absurd cc
+
+-- and a bit rate of the class isn't refused
+pub rate-none : (rate : ℕ) (class : ClassFields) → IsRate rate class
+    → rate_refusal rate class ≡ None
+rate-none rate class is =
+    ap (λ b. cond b None (Some (NoRate rate)))
+    (lt-ltb 0 (length (menu_in (Constant rate) class))
+    (kept-some (λ slot. rate_of class slot == rate) is.0 (eq-eqb (rate_of class is.0) rate is.2)
+    all_slots is.1.0 is.1.1 is.1.2))
+
+-- ---- a plan
+
+laid : (window : ℕ) (menu : List SlotFields) (needs : List Need) (placed : List Placed)
+    → IsMenuPlan window menu needs placed
+    → (lead_in : Bool) × CanBeLaidFromMenu window lead_in menu needs
+unfolding CanBeLaid
+laid window menu needs placed plan =
+    let items = menu_items plan.lead_in menu needs in
+    (plan.lead_in, (item_areas items placed, plan.whole.least.chosen, plan.whole.least.feasible))
+
+-- all frames are chosen
+same-chosen : (a b : Chosen) (r : Result Chosen EditFault) → r ≡ Ok a → r ≡ Ok b → a ≡ b
+same-chosen a b r e d = cc
+
+both-answers : (a : Chosen) (fault : EditFault) (r : Result Chosen EditFault) → r ≡ Ok a
+    → r ≡ Err fault → ⊥
+both-answers a fault r e d = absurd cc
+
+module _ (file : List ℕ) (s : SurveyFields) (is : survey_of file most_frames ≡ Ok s) where
+  abbrev chosen : Chosen
+  chosen = record {
+    from = 0;
+    to = length s.frames;
+    quality = (head_info file s.head).quality;
+    extension =
+        (head_info file s.head).extension;
+  }
+
+  choose-all : all_choice file s ≡ Ok chosen
+  unfolding all_choice
+  choose-all = within-ok (head_info file s.head).quality (head_info file s.head).extension 0
+      (length s.frames) (length s.frames) (some-frames file most_frames s is, omega arith)
+
+  abbrev needs : List Need
+  needs = chosen_needs chosen s
+
+  needs-all : needs ≡ map need_of s.frames
+  needs-all = ap (map need_of) (range-whole s.frames)
+
+  -- frames that have a plan are laid
+  pub planned-made : (plan : Planning) (placed : List Placed) → plan s.class needs ≡ Ok placed
+      → (bytes : List ℕ) × (laying_making all_choice plan file s ≡ Ok bytes)
+  planned-made plan placed planned = (
+    file_laid (placed_part chosen placed) file s,
+    laying-is all_choice plan file s chosen (Ok placed) choose-all planned,
+  )
+
+  made-planned : (plan : Planning) (bytes : List ℕ)
+      → laying_making all_choice plan file s ≡ Ok bytes
+      → (placed : List Placed) × (plan s.class needs ≡ Ok placed)
+  made-planned plan bytes made =
+      let by = laid-parts all_choice plan file s bytes made in (
+        by.placed,
+        subst (λ (c : Chosen). plan s.class (chosen_needs c s) ≡ Ok by.placed)
+            (same-chosen by.chosen chosen (all_choice file s) by.chose choose-all) by.planned,
+      )
+
+  -- ---- from a menu
+
+  some : 0 < length s.frames
+  some = some-frames file most_frames s is
+
+  placed : IsPlacedSurvey s
+  placed = surveyed-placed file most_frames s (survey_of-parts file most_frames s is).1
+
+  needs-some : 1 ≤ length needs
+  needs-some = omega (
+    arith,
+    rows-some chosen s placed some (omega arith),
+    length-map (chosen_rows chosen s) need_of,
+  )
+
+  module _ (mode : PackMode) (none : no_rate mode s.class ≡ None) where
+    abbrev menu : List SlotFields
+    menu = menu_in mode s.class
+
+    abbrev window : ℕ
+    window = window_of s.class.version
+
+    menu-law : ((placed : List Placed)
+        → IsMenuPlan window menu needs placed ↔ (least_menu_plan window menu needs ≡ Ok placed))
+        × ((i : ℕ)
+        → IsFirstUnfitFrame window menu needs i ↔ (least_menu_plan window menu needs ≡ Err i))
+    menu-law =
+        least_menu_plan-is window s.class menu needs (rows-same chosen s placed some (omega arith))
+        needs-some (menu-ascends mode s.class (rows-sound chosen s placed some (omega arith)))
+        (menu-some mode s.class none)
+
+    -- where no frame is unfit
+    fit-made : ((i : ℕ) → least_menu_plan window menu needs ≡ Err i → ⊥)
+        → (bytes : List ℕ) × (laying_making all_choice (rates_plan mode) file s ≡ Ok bytes)
+    fit-made fits = at (least_menu_plan window menu needs) refl
+      where
+        at : (r : Result (List Placed) ℕ) → least_menu_plan window menu needs ≡ r
+            → (bytes : List ℕ) × (laying_making all_choice (rates_plan mode) file s ≡ Ok bytes)
+        at (Ok found) e = planned-made (rates_plan mode) found
+            (plan-is chosen s placed some (omega arith) mode (Ok found) none e)
+        at (Err i) e = absurd (fits i e)
+
+    room-made : (lead_in : Bool) → CanBeLaidFromMenu window lead_in menu (map need_of s.frames)
+        → (bytes : List ℕ) × (laying_making all_choice (rates_plan mode) file s ≡ Ok bytes)
+    room-made lead_in can = fit-made (λ i e. ((menu-law.1 i).1 e).never lead_in
+        (subst (CanBeLaidFromMenu window lead_in menu) (sym needs-all) can))
+
+    plan-room : (found : List Placed) → least_menu_plan window menu needs ≡ Ok found
+        → (lead_in : Bool) × CanBeLaidFromMenu window lead_in menu (map need_of s.frames)
+    plan-room found e =
+        let room = laid window menu needs found ((menu-law.0 found).1 e) in
+        (room.0, subst (CanBeLaidFromMenu window room.0 menu) needs-all room.1)
+
+  rates-parts : (mode : PackMode) (bytes : List ℕ)
+      → laying_making all_choice (rates_plan mode) file s ≡ Ok bytes
+      → (none : no_rate mode s.class ≡ None) × (found : List Placed)
+      × (least_menu_plan (window_of s.class.version) (menu_in mode s.class) needs ≡ Ok found)
+  rates-parts mode bytes made =
+      let window = window_of s.class.version in
+      let planned = made-planned (rates_plan mode) bytes made in
+      let one = then_ok (refusal_or (no_rate mode s.class) (menu_in mode s.class))
+      (λ menu. fitted_plan (least_menu_plan window menu needs)) planned.0 planned.1 in
+      let ok = unless_ok (no_rate mode s.class) (menu_in mode s.class) one.0 one.1 in (
+        ok.0,
+        planned.0,
+        fitted-ok (least_menu_plan window (menu_in mode s.class) needs)
+            planned.0 (ap (λ menu. fitted_plan (least_menu_plan window menu needs)) ok.1 ∙ one.2),
+      )
+
+  -- a packing with one bit rate that isn't refused has a bit rate of the class, and room
+  pub constant-legal : (rate : ℕ) (bytes : List ℕ)
+      → laying_making all_choice (rates_plan (Constant rate)) file s ≡ Ok bytes
+      → IsRate rate s.class × HasRateRoom rate s
+  constant-legal rate bytes made =
+      let parts = rates-parts (Constant rate) bytes made in
+      (no-rate_none rate s.class parts.0, plan-room (Constant rate) parts.0 parts.1 parts.2)
+
+  -- and with these it isn't refused
+  pub legal-constant : (rate : ℕ) → IsRate rate s.class × HasRateRoom rate s
+      → (bytes : List ℕ) × (laying_making all_choice (rates_plan (Constant rate)) file s ≡ Ok bytes)
+  legal-constant rate legal =
+      room-made (Constant rate) (rate-none rate s.class legal.0) legal.1.0 legal.1.1
+
+  -- a packing with bit rates from one on that isn't refused has a bit rate of the class
+  pub floor-legal : (rate : ℕ) (bytes : List ℕ)
+      → laying_making all_choice (rates_plan (Floor rate)) file s ≡ Ok bytes → IsRate rate s.class
+  floor-legal rate bytes made = no-rate_none rate s.class (rates-parts (Floor rate) bytes made).0
+
+  -- and with one it isn't refused
+  pub legal-floor : (rate : ℕ) → IsRate rate s.class
+      → (bytes : List ℕ) × (laying_making all_choice (rates_plan (Floor rate)) file s ≡ Ok bytes)
+  legal-floor rate legal =
+      let none = rate-none rate s.class legal in
+      fit-made (Floor rate) none
+      (λ i e. floor-unfit chosen s placed some (omega arith) rate i none e)
+
+  -- ---- no room in slots of one bit rate
+
+  -- the first frame without room refuses it
+  pub unfit-made : (rate i : ℕ) → no_rate (Constant rate) s.class ≡ None → IsFirstUnfit rate s i
+      → laying_making all_choice (rates_plan (Constant rate)) file s ≡ Err (Refused (Unfit i))
+  unfit-made rate i none unfit =
+      let window = window_of s.class.version in
+      let is_unfit : IsFirstUnfitFrame window (menu_in (Constant rate) s.class) needs i =
+      subst (λ l. IsFirstUnfitFrame window (menu_in (Constant rate) s.class) l i)
+      (sym needs-all) unfit in
+      let least = ((menu-law (Constant rate) none).1 i).0 is_unfit in
+      laying-is all_choice (rates_plan (Constant rate)) file s chosen (Err (Refused (Unfit i)))
+      choose-all (plan-is chosen s placed some (omega arith) (Constant rate) (Err i) none least)
+
+  plan-unfit : (rate i : ℕ) → rates_plan (Constant rate) s.class needs ≡ Err (Refused (Unfit i))
+      → (none : no_rate (Constant rate) s.class ≡ None) ×
+      (least_menu_plan (window_of s.class.version) (menu_in (Constant rate) s.class) needs ≡ Err i)
+  plan-unfit rate i e = at (is_rate rate s.class) refl e
+    where
+      menu : (r : Result (List Placed) ℕ) → fitted_plan r ≡ Err (Refused (Unfit i)) → r ≡ Err i
+      menu (Ok placed) e = absurd cc
+      menu (Err k) e = cc
+
+      at : (b : Bool) → is_rate rate s.class ≡ b → then_made
+          (refusal_or (cond b None (Some (NoRate rate))) (menu_in (Constant rate) s.class))
+          (λ menu. fitted_plan (least_menu_plan (window_of s.class.version) menu needs))
+          ≡ Err (Refused (Unfit i)) → (none : no_rate (Constant rate) s.class ≡ None)
+          × (least_menu_plan (window_of s.class.version) (menu_in (Constant rate) s.class) needs
+          ≡ Err i)
+      at true is e = (
+        ap (λ b. cond b None (Some (NoRate rate))) is,
+        menu (least_menu_plan (window_of s.class.version) (menu_in (Constant rate) s.class) needs)
+            e,
+      )
+      at false is e = absurd cc
+
+  -- and only that frame does so
+  pub made-unfit : (rate i : ℕ)
+      → laying_making all_choice (rates_plan (Constant rate)) file s ≡ Err (Refused (Unfit i))
+      → IsRate rate s.class × IsFirstUnfit rate s i
+  made-unfit rate i e =
+      elim (laid-fault all_choice (rates_plan (Constant rate)) file s (Refused (Unfit i)) e)
+      as (λ _. IsRate rate s.class × IsFirstUnfit rate s i) [
+        | inl refused ↦
+            absurd (both-answers chosen (Refused (Unfit i)) (all_choice file s) choose-all refused)
+        | inr no_plan ↦
+            let same = same-chosen no_plan.0 chosen (all_choice file s) no_plan.1 choose-all in
+            let plan = plan-unfit rate i (subst (λ (c : Chosen). rates_plan (Constant rate)
+            s.class (chosen_needs c s) ≡ Err (Refused (Unfit i))) same no_plan.2) in
+            let unfit = ((menu-law (Constant rate) plan.0).1 i).1 plan.1 in (
+              no-rate_none rate s.class plan.0,
+              subst (λ l. IsFirstUnfitFrame (window_of s.class.version)
+                  (menu_in (Constant rate) s.class) l i)
+                  needs-all unfit,
+            )
+      ]

@@ -1,0 +1,247 @@
+-- What a command leaves that sends a text of one file, by the survey of its input.
+use Rattle.std.proofs.Common.{ap, ap₂, arith, Err, inl, inr, length, List, Ok, refl, Result, Some}
+use Rattle.std.proofs.Common.{subst, sym, ℕ, [], ◌+◌, ◌∙◌, ◌∷◌, ◌≡◌, ◌≤◌}
+use Rattle.std.specs.{Prelude.{IfErr, OnErr, OnOk}, Result.IsErrAnd}
+use Rattle.commands.proofs.{InputLemmas.of_bytes_behind, MakeLemmas.{made-same, ok_made}}
+use Rattle.commands.proofs.NamedLemmas.{lost_name, missed_name, unread_name}
+use Rattle.commands.proofs.{RefusingLemmas.before_first, TellingLemmas.{says-all, says-prefix}}
+use Rattle.commands.proofs.WhyLemmas.{each_why}
+use Rattle.commands.specs.AfterCall.{HasNumbers, HasSurveyNumbers, IsCommandDone, IsCommandFault}
+use Rattle.commands.specs.AfterCall.{TakesMemory, why_of}
+use Rattle.commands.specs.Command.{Command, HasAnswer, HoldsStreams, Made, MakesStreams}
+use Rattle.commands.specs.{Command.written_files, SentText.{answer_fault, IsCommandText, SaysText}}
+use Rattle.commands.specs.SingleOutput.{IsFileFault, most_frames}
+use Rattle.commands.specs.declared.fault.EditFault.{EditFault}
+use Rattle.commands.specs.declared.fault.EditFault.TheVariants.{EqualNames, Input, Memory, Refused}
+use Rattle.commands.specs.declared.fault.EditFault.TheVariants.{Sent as NotSent, Write}
+use Rattle.list_edits.specs.TextCommand.{input_text, IsTextRun, surveyed_text, text_command}
+use Rattle.outside.{proofs.FilesLemmas.{there_holds, touches_none}, specs.BufferOutput.SentPrefix}
+use Rattle.outside.specs.Counts.{Counts, HasCause, OnlyReads}
+use Rattle.outside.specs.Files.{Contents, Files, Holds, IfTold, IsFileMissing, IsFileThere}
+use Rattle.outside.specs.Files.{OnlyTouches, sent_and_more, Told, Untold}
+use Rattle.outside.specs.Seen.{Heard, Seen, seen_folder}
+use Rattle.sync_survey.proofs.BytesFaultLemmas.{IsOfBytes, surveyed_of_bytes}
+use Rattle.sync_survey.proofs.{FoldersLemmas.survey_of-short, SurveyPartsLemmas.surveyed-allowed}
+use Rattle.sync_survey.proofs.SurveyedFileLemmas.{survey_of-parts}
+use Rattle.sync_survey.specs.Faults.{IsWellFormed, longest_file, survey_fields, SurveyFields}
+use Rattle.sync_survey.specs.{Survey.survey_of, declared.survey_fault.SurveyFault.SurveyFault}
+use Rattle.sync_survey.specs.declared.survey_fault.SurveyFault.TheVariants.{Absent}
+
+-- ---- the last step
+
+-- what holds where all was sent, and where a write failed, holds of every answer of the last step
+pub told_by : {T : Type 0} (P : Result T EditFault → Type 0) → ((x : T) → P (Ok x))
+    → P (Err NotSent) → (result : Result T EditFault) → IfErr result (λ fault. fault ≡ NotSent)
+    → P result
+told_by P all part (Ok x) is = all x
+told_by P all part (Err fault) is = subst (λ f. P (Err f)) (sym is) part
+
+-- ---- what the told files make of the command
+
+module _ (text : List ℕ → SurveyFields → List ℕ) (input : List ℕ) where
+  gives_absent : (files : Files) → IsFileMissing files input
+      → HasAnswer (text_command text input) files (Err (Input 0 Absent))
+  gives_absent (Untold touched) missing = tt
+  gives_absent (Told f) missing = ap (input_text text) missing
+
+  gives_survey : (f : Contents) (bytes : List ℕ) (r : Result SurveyFields SurveyFault)
+      → f input ≡ Some bytes → survey_of bytes most_frames ≡ r
+      → (text_command text input).makes f ≡ surveyed_text (text bytes) r
+  gives_survey f bytes r holds is = ap (input_text text) holds ∙ ap (surveyed_text (text bytes)) is
+
+  gives_bytes : (files : Files) (answer : Result Made EditFault) → IsFileThere files input
+      → ((bytes : List ℕ) → Holds files input bytes
+      → surveyed_text (text bytes) (survey_of bytes most_frames) ≡ answer)
+      → HasAnswer (text_command text input) files answer
+  gives_bytes (Untold touched) answer there is = tt
+  gives_bytes (Told f) answer there is = let held = there_holds f input there in
+      ap (input_text text) held.1 ∙ is held.0 held.1
+
+  -- ---- a fault of the survey
+
+  survey_takes : (bytes : List ℕ) (r : Result SurveyFields SurveyFault)
+      → ((fault : SurveyFault) → r ≡ Err fault → IsOfBytes fault)
+      → TakesMemory (surveyed_text (text bytes) r)
+  survey_takes bytes (Ok s) of = tt
+  survey_takes bytes (Err fault) of = of_bytes_behind fault (of fault refl)
+
+  takes_memory : (files : Files) → IsFileThere files input
+      → ((bytes : List ℕ) → Holds files input bytes → length bytes ≤ longest_file)
+      → IfTold files (λ f. TakesMemory ((text_command text input).makes f))
+  takes_memory (Untold touched) there few = tt
+  takes_memory (Told f) there few =
+      let held = there_holds f input there in
+      subst TakesMemory (sym (gives_survey f held.0 (survey_fields held.0 most_frames)
+      held.1 (survey_of-short held.0 most_frames (few held.0 held.1))))
+      (survey_takes held.0 (survey_fields held.0 most_frames)
+      (surveyed_of_bytes held.0 most_frames))
+
+  module _ (old new : Seen) (fault : EditFault) where
+    -- a fault of the file leaves all as it was
+    pub survey_left : IsFileFault 0 most_frames input old new fault
+        → IsCommandFault (text_command text input) old new fault
+    survey_left h = each_why (why_of fault) h (record {
+      rejected = λ r. record {
+        defined = subst (λ e. HasAnswer (text_command text input) old.files (Err e)) (sym r.1)
+            (gives_bytes old.files (Err (Input 0 r.0))
+            r.2.there (λ bytes holds. ap (surveyed_text (text bytes)) (r.2.bytes bytes holds)));
+        stays = r.2.stays;
+      };
+      missing = λ m. record {
+        defined = subst (λ e. HasAnswer (text_command text input) old.files (Err e)) (sym m.is)
+            (gives_absent old.files m.missing);
+        rose = missed_name (input ∷ []) 0 refl m;
+        files =
+            m.files;
+      };
+      unread = λ u. record {
+        names = refl;
+        before = before_first old.files (text_command text input).makes fault
+            u.is;
+        rose = unread_name (input ∷ []) 0 refl u;
+        files = inl u.files;
+      };
+      shorter = λ l. record {
+        ended = lost_name (input ∷ []) 0 refl l;
+        touches = subst
+            (λ files. OnlyTouches [] old.files files) (sym l.files) (touches_none [] old.files);
+      };
+      unwritten = λ k w. absurd w;
+      unsent = λ w. absurd w;
+      no_memory = λ n.
+          record { names = refl; takes = takes_memory old.files n.there n.few; stays = n.stays };
+    })
+
+  -- ---- a file without fault, of which this is the text
+
+  module _ (files : Files) (s : SurveyFields) (said : List ℕ) (there : IsFileThere files input)
+      (is : (bytes : List ℕ) → Holds files input bytes → survey_of bytes most_frames ≡ Ok s)
+      (text_is : (bytes : List ℕ) → Holds files input bytes → text bytes s ≡ said) where
+    abbrev made_of : Made
+    made_of = record { outputs = []; text = said }
+
+    abbrev with_text : List ℕ → Result Made EditFault
+    with_text told = Ok (record { outputs = []; text = told })
+
+    gives : HasAnswer (text_command text input) files (Ok made_of)
+    gives = gives_bytes files (Ok made_of) there (λ bytes holds.
+        ap (surveyed_text (text bytes)) (is bytes holds) ∙ ap with_text (text_is bytes holds))
+
+    module _ (new : Files) (counts after : Counts) (same : new ≡ files)
+        (done : after ≡ counts) where
+      -- with no count changed the command is done
+      pub is_done : IsCommandDone (text_command text input) (seen_folder files counts)
+          (seen_folder new after)
+      is_done = record {
+        made = at files same gives;
+        touches = subst (λ fs. OnlyTouches [] files fs) (sym same) (touches_none [] files);
+        counts = done;
+      }
+        where
+          at : (fs : Files) → new ≡ fs → HasAnswer (text_command text input) fs (Ok made_of)
+              → IfTold fs (λ f. (made : Made) × ((text_command text input).makes f ≡ Ok made)
+              × (new ≡ Told (written_files made.outputs f)))
+          at (Untold touched) e g = tt
+          at (Told f) e g = (made_of, g, e)
+
+      -- and nothing is refused where a write to standard output failed
+      pub unsent : IsCommandFault (text_command text input) (seen_folder files counts)
+          (seen_folder new after) NotSent
+      unsent = is_done
+
+      -- or where there is no memory for what is sent
+      pub no_room : IsCommandFault (text_command text input) (seen_folder files counts)
+          (seen_folder new after) Memory
+      no_room = record { names = refl; takes = at files gives; stays = ap₂ seen_folder same done }
+        where
+          at : (fs : Files) → HasAnswer (text_command text input) fs (Ok made_of)
+              → IfTold fs (λ f. TakesMemory ((text_command text input).makes f))
+          at (Untold touched) g = tt
+          at (Told f) g = subst TakesMemory (sym g) tt
+
+    -- it writes no output, so its streams hold
+    pub holds_streams : HoldsStreams (text_command text input) files
+    holds_streams = at files there is gives
+      where
+        none_written : (f : Contents) (bytes : List ℕ) → f input ≡ Some bytes → IsWellFormed bytes
+            → (made : Made) → ok_made made_of ≡ ok_made made
+            → MakesStreams (text_command text input) f made
+        none_written f bytes holds sound made e =
+            subst (MakesStreams (text_command text input) f) (made-same made_of made e)
+            (record { sources = ((bytes, holds, sound), tt); streams = tt })
+
+        at : (fs : Files) → IsFileThere fs input
+            → ((bytes : List ℕ) → Holds fs input bytes → survey_of bytes most_frames ≡ Ok s)
+            → HasAnswer (text_command text input) fs (Ok made_of)
+            → HoldsStreams (text_command text input) fs
+        at (Untold touched) there is g = tt
+        at (Told f) there is g =
+            let held = there_holds f input there in
+            let parts = survey_of-parts held.0 most_frames s (is held.0 held.1) in
+            λ made e. none_written f held.0 held.1 (
+              s,
+              surveyed-allowed held.0 most_frames (length held.0 + 1) s (omega arith) parts.1,
+            ) made (sym g ∙ e)
+
+    -- the text of the command is this one
+    only_text : (told : List ℕ) → IsCommandText (text_command text input) files told → said ≡ told
+    only_text told (inl always) = absurd cc
+    only_text told (inr known) =
+        let makes : (text_command text input).makes known.0 ≡ Ok made_of =
+        subst (λ fs. HasAnswer (text_command text input) fs (Ok made_of)) known.2 gives in
+        ap (λ (m : Made). m.text) (made-same made_of known.1 (sym makes ∙ known.3)) ∙ known.4
+
+    -- the sink got all of the text or, if a write failed, a prefix
+    pub says : {T : Type 0} (old new : Heard) (result : Result T EditFault)
+        → IfErr result (λ fault. fault ≡ NotSent)
+        → OnOk result (new.sent ≡ sent_and_more old.sent said)
+        → OnErr result (SentPrefix said old.sent new.sent) → HasCause old.faults new.faults result
+        → SaysText (text_command text input) files old new (answer_fault result)
+    says old new =
+        told_by (λ r. OnOk r (new.sent ≡ sent_and_more old.sent said)
+        → OnErr r (SentPrefix said old.sent new.sent) → HasCause old.faults new.faults r
+        → SaysText (text_command text input) files old new (answer_fault r))
+        (λ x sent part cause. says-all (text_command text input) files old new said only_text sent
+        cause.done)
+        (λ sent part cause. says-prefix (text_command text input) files old new said only_text part
+        cause.failed)
+
+-- ---- a call that is refused before anything is sent
+
+unsaid : (command : Command) (files : Files) (heard : Heard) (fault : EditFault)
+    → HasSurveyNumbers 0 fault → SaysText command files heard heard (Some fault)
+unsaid command files heard (Input place fault) of = refl
+unsaid command files heard Memory of = refl
+unsaid command files heard (EqualNames place) of = absurd of
+unsaid command files heard (Refused refusal) of = absurd of
+unsaid command files heard (Write place) of = absurd of
+unsaid command files heard NotSent of = absurd of
+
+survey_numbers : (text : List ℕ → SurveyFields → List ℕ) (input : List ℕ) (fault : EditFault)
+    → HasSurveyNumbers 0 fault → HasNumbers (text_command text input) fault
+survey_numbers text input (Input place fault) of = (omega (arith, of.0), of.1, of.2, inl of.0)
+survey_numbers text input Memory of = tt
+survey_numbers text input (EqualNames place) of = absurd of
+survey_numbers text input (Refused refusal) of = absurd of
+survey_numbers text input (Write place) of = absurd of
+survey_numbers text input NotSent of = absurd of
+
+-- a run that the survey refuses: nothing was sent, and the files stay
+pub refused_run : (text : List ℕ → SurveyFields → List ℕ) (input : List ℕ) (old new : Seen)
+    (heard : Heard) (answer : Result (Unit {0}) EditFault) (fault : EditFault)
+    → IsErrAnd answer (λ y. y ≡ fault) → IsCommandFault (text_command text input) old new fault
+    → HasSurveyNumbers 0 fault → new.files ≡ old.files → OnlyReads old.counts new.counts
+    → IsTextRun (text_command text input) old new heard heard answer
+refused_run text input old new heard (Ok x) fault is left of files counts = absurd is
+refused_run text input old new heard (Err first) fault is left of files counts =
+    let command = text_command text input in
+    record {
+      done = tt;
+      left = subst (IsCommandFault command old new) (sym is) left;
+      says = subst (λ f. SaysText command old.files heard heard (Some f)) (sym is)
+          (unsaid command old.files heard fault of);
+      numbers = subst (HasNumbers command) (sym is) (survey_numbers text input fault of);
+      streams = tt;
+      files = files;
+      counts = counts;
+    }

@@ -1,0 +1,157 @@
+-- The things of a file are two lists that each are in order of their offsets.
+use Rattle.std.proofs.Common.{ap, ap₂, arith, cond, false, List, ltb, map, None, Option, refl, Some}
+use Rattle.std.proofs.Common.{subst, sym, true, ℕ, [], ◌++◌, ◌+◌, ◌-◌, ◌∙◌, ◌∷◌, ◌≡◌, ◌≤◌}
+use Rattle.std.specs.Prelude.{is_some, MatchOption}
+use Rattle.frame_header.specs.Tables.{class_of, length_of}
+use Rattle.list_edits.specs.Things.{frames_from, frames_left, head_thing, IsLeadingOffset}
+use Rattle.list_edits.specs.Things.{leading_things, offset_of, ordered_things, stream_things}
+use Rattle.list_edits.specs.{Things.{things_left, things_of}, declared.things.Thing.Thing}
+use Rattle.list_edits.specs.declared.things.{Thing.TheVariants.{Block, Frame, Junk}, Things.Things}
+use Rattle.sync_survey.proofs.OrderLemmas.{after_map, merged_other, merged_own, ordered_both}
+use Rattle.sync_survey.{proofs.OrderLemmas.rises_from, specs.Faults.SurveyFields}
+use Rattle.sync_survey.specs.Merge.{firsts_left, PassesFirst, PassesSecond, seconds_left}
+use Rattle.sync_survey.specs.{Order.{IsFirstAfter, IsFirstFrom, merged_list, RisesBy}, Row.Row}
+use Rattle.sync_survey.specs.Survey.{BlocksAreLaid, FramesAreLaid, IsSurveyLaidOut}
+use Rattle.sync_survey.specs.declared.{merge.Merge.Merge, places.{Head.Head, Piece.Piece}}
+
+-- the blocks of a file are in order of their offsets
+pub blocks_rise : (from to : ℕ) (blocks : List Piece) → BlocksAreLaid from blocks to
+    → RisesBy offset_of from (map Block blocks)
+blocks_rise from to [] laid = tt
+blocks_rise from to (b ∷ blocks) laid = (
+  laid.0,
+  rises_from offset_of b.offset (b.offset + b.block.length) (map Block blocks) (omega arith)
+      (blocks_rise (b.offset + b.block.length) to blocks laid.1),
+)
+
+frames_rise : (from to number : ℕ) (rows : List Row) → FramesAreLaid from rows to
+    → RisesBy offset_of from (frames_from number rows)
+frames_rise from to number [] laid = tt
+frames_rise from to number (r ∷ rows) laid =
+    let size = length_of (class_of r.header) r.header.slot in (
+      laid.0,
+      rises_from offset_of r.offset (r.offset + size) (frames_from (number + 1) rows) (omega arith)
+          (frames_rise (r.offset + size) to (number + 1) rows laid.2),
+    )
+
+head_rises : (first : ℕ) (head : Option Head) (ts : List Thing) → RisesBy offset_of first ts
+    → RisesBy offset_of first (head_thing first head ++ ts)
+head_rises first None ts rises = rises
+head_rises first (Some head) ts rises = (omega arith, rises)
+
+-- so are the other things
+pub stream_rises : (s : SurveyFields) → IsSurveyLaidOut s
+    → RisesBy offset_of s.junk (stream_things s)
+stream_rises s laid =
+    let rest : List Thing = head_thing s.first s.head ++ frames_from 0 s.frames in
+    let behind = head_rises s.first s.head (frames_from 0 s.frames)
+    (frames_rise s.first s.length 0 s.frames laid.frames) in
+    elim (ltb s.junk s.first)
+    as (λ b. RisesBy offset_of s.junk (cond b (Junk s.junk (s.first - s.junk) ∷ []) [] ++ rest)) [
+      | true ↦ (omega arith, rises_from offset_of s.junk s.first rest laid.junk behind)
+      | false ↦ rises_from offset_of s.junk s.first rest laid.junk behind
+    ]
+
+-- in order, the things are the blocks merged with the others
+pub things_in_order : (s : SurveyFields) → IsSurveyLaidOut s
+    → ordered_things (things_of s) ≡ merged_list offset_of (map Block s.blocks) (stream_things s)
+unfolding things_of
+things_in_order s laid = ordered_both offset_of (map Block s.blocks)
+    (stream_things s) 0 s.junk (blocks_rise 0 s.length s.blocks laid.blocks) (stream_rises s laid)
+
+-- ---- the walk
+
+from_frames : (at number : ℕ) (rows : List Row) → IsFirstFrom (λ (r : Row). r.offset) at rows
+    → IsFirstFrom offset_of at (frames_from number rows)
+from_frames at number [] from = tt
+from_frames at number (r ∷ rows) from = from
+
+from_leading : (at least : ℕ) (ts us : List Thing) → IsLeadingOffset (Some at) ts → least ≤ at
+    → IsFirstFrom offset_of least (ts ++ us)
+from_leading at least [] us is le = absurd is
+from_leading at least (t ∷ ts) us is le = subst (λ n. least ≤ n) is le
+
+module _ (old new : Things) where
+  -- a block is met
+  block_first : (piece : Piece) → leading_things new ≡ leading_things old
+      → PassesFirst piece old.others new.others
+      → IsFirstFrom offset_of piece.offset (leading_things old ++ frames_left old)
+      → things_left old ≡ Block piece ∷ things_left new
+  unfolding things_left
+  block_first piece same passes from =
+      let blocks : List Thing = map Block (firsts_left new.others) in
+      ap (λ bs. merged_list offset_of (map Block bs) (leading_things old ++ frames_left old))
+      passes.firsts
+      ∙ merged_own offset_of (Block piece) blocks (leading_things old ++ frames_left old) from
+      ∙ ap (λ us. Block piece ∷ merged_list offset_of blocks us)
+      (sym (ap₂ (λ ls fs. ls ++ fs) same (ap₂ frames_from passes.number passes.seconds)))
+
+  -- where the junk or the head is left
+  pub block_met : (piece : Piece) (at : ℕ) → leading_things new ≡ leading_things old
+      → PassesFirst piece old.others new.others → IsLeadingOffset (Some at) (leading_things old)
+      → piece.offset ≤ at → things_left old ≡ Block piece ∷ things_left new
+  block_met piece at same passes is le = block_first piece same passes
+      (from_leading at piece.offset (leading_things old) (frames_left old) is le)
+
+  -- the junk or the head is met
+  pub leading_met : (result : Option Thing) (at : ℕ)
+      → IsLeadingOffset (Some at) (leading_things old)
+      → IsFirstAfter (λ (p : Piece). p.offset) at (firsts_left old.others) → new.others ≡ old.others
+      → MatchOption result (leading_things old ≡ [])
+      (λ t. leading_things old ≡ t ∷ leading_things new)
+      → MatchOption result (things_left old ≡ []) (λ t. things_left old ≡ t ∷ things_left new)
+  unfolding things_left
+  leading_met None at is after same none = absurd (subst (IsLeadingOffset (Some at)) none is)
+  leading_met (Some t) at is after same first =
+      let at_is : at ≡ offset_of t = subst (IsLeadingOffset (Some at)) first is in
+      ap (λ ls. merged_list offset_of (map Block (firsts_left old.others)) (ls ++ frames_left old))
+      first
+      ∙ merged_other offset_of (map Block (firsts_left old.others)) t (leading_things new
+      ++ frames_left old)
+      (subst (λ n. IsFirstAfter offset_of n (map Block (firsts_left old.others)))
+      at_is (after_map offset_of Block at (firsts_left old.others) after))
+      ∙ ap (λ (o : Merge Piece Row). t ∷ merged_list offset_of (map Block (firsts_left o))
+      (leading_things new ++ frames_from o.next_second (seconds_left o))) (sym same)
+
+  module _ (none : leading_things old ≡ []) (none_now : leading_things new ≡ []) where
+    -- a frame is met
+    pub frame_met : (row : Row) → PassesSecond row old.others new.others
+        → IsFirstAfter (λ (p : Piece). p.offset) row.offset (firsts_left old.others)
+        → things_left old ≡ Frame old.others.next_second row ∷ things_left new
+    unfolding things_left
+    frame_met row passes after =
+        let number : ℕ = old.others.next_second in
+        let frames : frames_left old ≡ Frame number row ∷ frames_left new =
+        ap (frames_from number) passes.seconds
+        ∙ ap (λ n. Frame number row ∷ frames_from n (seconds_left new.others)) (sym passes.number)
+        in
+        ap₂ (λ ls fs. merged_list offset_of (map Block (firsts_left old.others)) (ls ++ fs)) none
+        frames
+        ∙ merged_other offset_of (map Block (firsts_left old.others)) (Frame number row)
+        (frames_left new) (after_map offset_of Block row.offset (firsts_left old.others) after)
+        ∙ ap₂ (λ bs ls. Frame number row ∷ merged_list offset_of (map Block bs)
+        (ls ++ frames_left new)) (sym passes.firsts) (sym none_now)
+
+    -- a block up to which no other thing comes is the next
+    pub block_alone : (piece : Piece) → PassesFirst piece old.others new.others
+        → IsFirstFrom (λ (r : Row). r.offset) piece.offset (seconds_left old.others)
+        → things_left old ≡ Block piece ∷ things_left new
+    block_alone piece passes from =
+        block_first piece (none_now ∙ sym none) passes
+        (subst (λ ls. IsFirstFrom offset_of piece.offset (ls ++ frames_left old)) (sym none)
+        (from_frames piece.offset old.others.next_second (seconds_left old.others) from))
+
+-- where nothing leads and both lists are at their ends, nothing is left
+pub none_met : (t : Things) → leading_things t ≡ [] → firsts_left t.others ≡ []
+    → seconds_left t.others ≡ [] → things_left t ≡ []
+unfolding things_left merged_list
+none_met t none blocks frames = rw (none, blocks, frames) refl
+
+-- without junk and without a head nothing leads
+pub none_leading : (t : Things) → is_some t.junk ≡ false → is_some t.head ≡ false
+    → leading_things t ≡ []
+none_leading t junk head = rw (none_left t.junk junk, none_left t.head head) refl
+  where
+    none_left : {A : Type 0} (o : Option A) → is_some o ≡ false → o ≡ None
+    none_left None is = refl
+    none_left (Some x) is = absurd cc

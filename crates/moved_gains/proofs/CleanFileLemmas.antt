@@ -1,0 +1,128 @@
+-- A file without fault and without junk: all its bytes are items, and they split at its tag.
+use Rattle.std.proofs.Common.{ap, ap₂, arith, length, length-drop, List, None, Option}
+use Rattle.std.proofs.Common.{option_to_list, refl, Some, subst, sym, ℕ, [], ◌++◌, ◌+◌, ◌∙◌, ◌∷◌}
+use Rattle.std.{proofs.{Common.{◌≡◌, ◌≤◌}, lemmas.List.Elements.filter_map-append}, specs.List.find}
+use Rattle.moved_gains.proofs.MovedItemLemmas.{ends-append}
+use Rattle.moved_gains.proofs.SplitItemLemmas.{final, IsSplit, last-told, split-last, split-tag}
+use Rattle.moved_gains.proofs.{SplitItemLemmas.stop_of, TagReadingLemmas.place-some}
+use Rattle.moved_gains.proofs.WholeFileLemmas.{front_end-is}
+use Rattle.moved_gains.specs.TagPlace.{is_tag, last_end, tag_block, tag_length, tag_offset}
+use Rattle.sync_survey.proofs.ItemListLemmas.{ends-stream, ends-within}
+use Rattle.sync_survey.proofs.RunsLemmas.{frames-append, frames-next, front-frames, run-ends}
+use Rattle.sync_survey.proofs.StartLemmas.{start-first, start-front}
+use Rattle.sync_survey.proofs.SurveyPartsLemmas.{frames_from, IsRead, told_from}
+use Rattle.sync_survey.proofs.WalkLemmas.{first_item, no_fault, nothing_left}
+use Rattle.sync_survey.specs.{Faults.SurveyFields, Items.size_of, MainData.{marked_rows, rows_of}}
+use Rattle.sync_survey.specs.Runs.{AreEndToEnd, block_of_item, blocks_of, frames_of, item_run}
+use Rattle.sync_survey.specs.Runs.{ItemRun, PlacedItem}
+use Rattle.sync_survey.specs.Walk.{end_fault, head_of, numbered_frames, stream_run}
+use Rattle.sync_survey.specs.declared.{items.Item.TheVariants.Frame, places.Head.Head}
+use Rattle.sync_survey.specs.declared.places.{Piece.Piece, PlacedFrame.PlacedFrame, Start.Start}
+use Rattle.sync_survey.specs.declared.runs.Region.TheVariants.{Front, Stream}
+use Rattle.sync_survey.specs.declared.survey_fault.SurveyFault.{SurveyFault}
+
+some_frames : (file : List ℕ) (frames : List PlacedFrame) (o : Option SurveyFault)
+    → end_fault file frames o ≡ None → frames ≡ [] → ⊥
+some_frames file [] (Some fault) e none = absurd cc
+some_frames file [] None e none = absurd cc
+some_frames file (p ∷ ps) o e none = absurd cc
+
+-- the blocks of items and more items are those of the one and then of the other
+pub blocks-append : (ps qs : List PlacedItem) → blocks_of (ps ++ qs) ≡ blocks_of ps ++ blocks_of qs
+blocks-append ps qs = filter_map-append (λ (p : PlacedItem). block_of_item p.offset p.item) ps qs
+
+module _ (file : List ℕ) (allowed : ℕ) (start : Start) (read : IsRead file allowed start)
+    (no_junk : start.front_end ≡ start.first.offset) where
+  abbrev s : SurveyFields
+  s = told_from file start
+
+  abbrev front : ItemRun
+  front = item_run Front file 0
+
+  abbrev stream : ItemRun
+  stream = stream_run file start
+
+  abbrev pub items : List PlacedItem
+  items = front.items ++ stream.items
+
+  abbrev pub rest : List PlacedFrame
+  rest = frames_of (item_run Stream file
+      (start.first.offset + size_of (Frame start.first.header))).items
+
+  first_within : start.first.offset + size_of (Frame start.first.header) ≤ length file
+  first_within = (start-first file start read.start_is).frame.within
+
+  stop_is : stream.stop ≡ length file
+  stop_is =
+      let nothing =
+      nothing_left file stream.stop (no_fault file (frames_from file start) _ read.end) in
+      omega (
+        arith,
+        ap length nothing,
+        length-drop stream.stop file,
+        ends-within Stream file start.first.offset stream.items stream.stop
+            (run-ends Stream file start.first.offset) (omega (arith, first_within)),
+      )
+
+  -- all bytes are items
+  pub items-end : AreEndToEnd Stream file 0 items (length file)
+  items-end =
+      let front_stop : front.stop ≡ start.first.offset =
+      sym (front_end-is file) ∙ sym (start-front file start read.start_is) ∙ no_junk in
+      ends-append Stream file 0 front.items start.first.offset stream.items (length file)
+      (subst (λ n. AreEndToEnd Stream file 0 front.items n) front_stop
+      (ends-stream Front file 0 front.items front.stop (run-ends Front file 0)))
+      (subst (λ n. AreEndToEnd Stream file start.first.offset stream.items n) stop_is
+      (run-ends Stream file start.first.offset))
+
+  -- the frames of the stream are the first and the others
+  pub stream-frames : frames_of stream.items ≡ start.first ∷ rest
+  stream-frames =
+      let frame = (start-first file start read.start_is).frame in
+      frames-next Stream file start.first.offset (Frame start.first.header)
+      (first_item file start.first frame.is frame.within)
+
+  -- so are those of all items
+  pub items-frames : frames_of items ≡ start.first ∷ rest
+  items-frames = frames-append front.items stream.items
+      ∙ ap₂ (λ (a b : List PlacedFrame). a ++ b) (front-frames file 0) stream-frames
+
+  -- their blocks are those of the survey
+  pub items-blocks : blocks_of items ≡ s.blocks
+  items-blocks = blocks-append front.items stream.items
+
+  abbrev head : Option Head
+  head = head_of file start.first
+
+  -- its frames are all, or all behind the head
+  pub frames-is : frames_from file start ≡ numbered_frames head (start.first ∷ rest)
+  frames-is = ap (numbered_frames head) stream-frames
+
+  split_by : (o : Option Piece) → tag_block s ≡ o → IsSplit file items 0 (tag_offset s)
+      (tag_offset s + tag_length s) (length file) (option_to_list o)
+  split_by (Some b) is =
+      let place = place-some s b is in
+      let found : find is_tag (blocks_of items) ≡ Some b = ap (find is_tag) items-blocks ∙ is in
+      let split = split-tag file 0 items (length file) b items-end found in
+      subst (λ m. IsSplit file items 0 m (m + tag_length s) (length file) (b ∷ [])) (sym place.0)
+      (subst (λ n. IsSplit file items 0 b.offset (b.offset + n) (length file) (b ∷ []))
+      (sym place.1) split)
+  split_by None is =
+      let none : find is_tag (blocks_of items) ≡ None = ap (find is_tag) items-blocks ∙ is in
+      let split =
+      split-last file (length file) 0 items start.first rest items-end items-frames none in
+      let long : tag_length s ≡ 0 = rw is refl in
+      let last : tag_offset s ≡ stop_of (final start.first rest) =
+      rw is (ap (λ (l : List PlacedFrame). last_end (marked_rows head (rows_of file l))) frames-is
+      ∙ last-told file head start.first rest
+      (λ e. some_frames file (frames_from file start) _ read.end (frames-is ∙ e))) in
+      let next : tag_offset s + tag_length s ≡ stop_of (final start.first rest) =
+      omega (arith, long, last) in
+      subst (λ m. IsSplit file items 0 m (tag_offset s + tag_length s) (length file) []) (sym last)
+      (subst (λ n. IsSplit file items 0 (stop_of (final start.first rest)) n (length file) [])
+      (sym next) split)
+
+  -- they split at the tag
+  pub split : IsSplit file items 0 (tag_offset s) (tag_offset s + tag_length s) (length file)
+      (option_to_list (tag_block s))
+  split = split_by (tag_block s) refl

@@ -1,0 +1,119 @@
+-- The numbers of the frames of a file by their offsets.
+use Rattle.std.proofs.Common.{ap, arith, Bool, cond, get_or, length, List, Ok, refl, slice_get}
+use Rattle.std.proofs.Common.{Some, subst, suc, sym, zero, ℕ, [], ◌+◌, ◌<◌, ◌∙◌, ◌∷◌, ◌≡◌, ◌≤◌}
+use Rattle.std.proofs.lemmas.{Bool.{le-ltb, lt-ltb}, Option.slice_get_read}
+use Rattle.frame_header.proofs.{HeaderLemmas.IsClass-class_of, LengthLemmas.area_some}
+use Rattle.frame_header.specs.{Fields.IsHeader, Tables.{class_of, length_of}}
+use Rattle.moved_gains.proofs.LostOffsetLemmas.{AreRising, marked_rising, rising_get, rising_less}
+use Rattle.moved_gains.proofs.LostOffsetLemmas.{walk_rising}
+use Rattle.moved_gains.specs.Course.{AreRowsNumbered, course_steps, number_at, steps_at_offset}
+use Rattle.moved_gains.specs.{Moving.AreFramesOfClass, declared.course.Course.Course}
+use Rattle.sync_survey.proofs.SurveyLemmas.{surveyed-is, walked}
+use Rattle.sync_survey.specs.{Faults.{survey_fields, SurveyFields}, MainData.{marked_rows, rows_of}}
+use Rattle.sync_survey.specs.{Row.Row, Runs.frames_of, Survey.{FramesAreLaid, IsSurveyLaidOut}}
+use Rattle.sync_survey.specs.Walk.{numbered_frames, stream_run}
+
+-- ---- frames at rising offsets
+
+before : (row : Row) (rows : List Row) (at : ℕ) → row.offset < at
+    → number_at (row ∷ rows) at ≡ suc (number_at rows at)
+before row rows at low = ap (λ (b : Bool). cond b (suc (number_at rows at)) (number_at rows at))
+    (lt-ltb row.offset at low)
+
+behind : (row : Row) (rows : List Row) (at : ℕ) → at ≤ row.offset
+    → number_at (row ∷ rows) at ≡ number_at rows at
+behind row rows at high = ap (λ (b : Bool). cond b (suc (number_at rows at)) (number_at rows at))
+    (le-ltb row.offset at high)
+
+-- no frame is before an offset that isn't after the first
+none_before : (at from : ℕ) (rows : List Row) → at ≤ from → AreRising from rows
+    → number_at rows at ≡ 0
+none_before at from [] low rise = refl
+none_before at from (row ∷ rows) low rise =
+    behind row rows at (omega (arith, low, rise.0))
+    ∙ none_before at (suc row.offset) rows (omega (arith, low, rise.0)) rise.1
+
+-- frames in order have the numbers of their places
+pub rising_numbered : (from : ℕ) (rows : List Row) → AreRising from rows → AreRowsNumbered rows
+rising_numbered from [] rise i row is = absurd cc
+rising_numbered from (q ∷ rows) rise zero row is =
+    let same : q ≡ row = cc in
+    subst (λ (x : Row). number_at (q ∷ rows) x.offset ≡ 0) same (behind q rows
+    q.offset (omega arith) ∙ none_before q.offset (suc q.offset) rows (omega arith) rise.1)
+rising_numbered from (q ∷ rows) rise (suc i) row is =
+    before q rows row.offset (omega (arith, rising_get (suc q.offset) rows i row rise.1 is))
+    ∙ ap (λ n. suc n) (rising_numbered (suc q.offset) rows rise.1 i row is)
+
+-- ---- the frames of a survey
+
+abbrev AreKnown : List Row → Type 0
+AreKnown rows = (i : ℕ) (row : Row) → slice_get rows i ≡ Some row → IsHeader row.header
+
+some_bytes : (row : Row) → IsHeader row.header → 0 < length_of (class_of row.header) row.header.slot
+some_bytes row known = omega (
+  arith,
+  area_some (class_of row.header) row.header.slot (IsClass-class_of row.header known) known.slot,
+)
+
+laid_rising : (from : ℕ) (rows : List Row) (to : ℕ) → AreKnown rows → FramesAreLaid from rows to
+    → AreRising from rows
+laid_rising from [] to known laid = tt
+laid_rising from (row ∷ rows) to known laid =
+    let next = row.offset + length_of (class_of row.header) row.header.slot in (
+      laid.0,
+      rising_less (suc row.offset) next rows (omega (arith, some_bytes row (known 0 row refl)))
+          (laid_rising next rows to (λ i r is. known (suc i) r is) laid.2),
+    )
+
+-- there are no more frames than bytes
+laid_few : (from : ℕ) (rows : List Row) (to : ℕ) → AreKnown rows → FramesAreLaid from rows to
+    → from + length rows ≤ to
+laid_few from [] to known laid = omega (arith, laid)
+laid_few from (row ∷ rows) to known laid =
+    omega (
+      arith,
+      laid.0,
+      some_bytes row (known 0 row refl),
+      laid_few (row.offset + length_of (class_of row.header) row.header.slot) rows to
+          (λ i r is. known (suc i) r is) laid.2,
+    )
+
+-- the frames of a survey that is laid out are in order
+pub out_rising : (s : SurveyFields) → IsSurveyLaidOut s → AreRising s.first s.frames
+out_rising s laid =
+    laid_rising s.first s.frames s.length (λ i row is. (laid.placed i row is).known) laid.frames
+
+-- so they have the numbers of their places
+pub out_numbered : (s : SurveyFields) → IsSurveyLaidOut s → AreRowsNumbered s.frames
+out_numbered s laid = rising_numbered s.first s.frames (out_rising s laid)
+
+-- they are of its class
+pub out_classed : (s : SurveyFields) → IsSurveyLaidOut s → AreFramesOfClass s.class s.frames
+out_classed s laid i row is = (laid.placed i row is).class_is
+
+-- and no more than there are bytes
+pub out_few : (s : SurveyFields) → IsSurveyLaidOut s → length s.frames ≤ s.length
+out_few s laid = omega (
+  arith,
+  laid_few s.first s.frames s.length (λ i row is. (laid.placed i row is).known) laid.frames,
+)
+
+-- the steps of frame i are those of the frame at its offset
+pub frame_steps : (course : Course) (rows : List Row) (i : ℕ) (row : Row) → AreRowsNumbered rows → i
+    < length rows → row ≡ get_or rows i row
+    → steps_at_offset course rows row.offset ≡ course_steps course i
+frame_steps course rows i row numbered_frames within is =
+    ap (course_steps course)
+    (numbered_frames i row (slice_get_read rows (length rows) i row refl within is))
+
+-- the frames of any file that is surveyed
+pub survey_numbered : (file : List ℕ) (allowed : ℕ) (s : SurveyFields)
+    → survey_fields file allowed ≡ Ok s → AreRowsNumbered s.frames
+survey_numbered file allowed s e =
+    let is = surveyed-is file allowed s e in
+    let walk = walked file allowed s is in
+    let frames =
+    rows_of file (numbered_frames s.head (frames_of (stream_run file is.start).items)) in
+    subst AreRowsNumbered (sym walk.frames_are)
+    (rising_numbered is.start.first.offset (marked_rows s.head frames)
+    (marked_rising s.head is.start.first.offset frames (walk_rising file is.start s.head)))

@@ -1,0 +1,345 @@
+-- The runs of the edited file are those of the file, without the junk between them.
+use Rattle.std.proofs.Common.{ap, append-nil, ap₂, arith, Bool, drop, inl, inr, length}
+use Rattle.std.proofs.Common.{length-append, length-drop, List, map, None, Ok, Option, option_map}
+use Rattle.std.proofs.Common.{refl, Some, subst, sym, take, ℕ, [], ◌++◌, ◌+◌, ◌-◌, ◌∙◌, ◌∷◌, ◌≡◌}
+use Rattle.std.proofs.{Common.◌≤◌, Math.Seq.drop-length, lemmas.List.{drop-drop, drop_at, take_at}}
+use Rattle.bit_fields.specs.Bits.{AreBytes}
+use Rattle.frame_header.specs.{Fields.HeaderFields, Tables.{class_of, overhead_of}}
+use Rattle.moved_gains.proofs.EditedItemLemmas.{AreMovedAt, frame_whole, frames_moved, moved-cons}
+use Rattle.moved_gains.proofs.EditedItemLemmas.{moved_are}
+use Rattle.moved_gains.proofs.MovedFrameLemmas.{IsWhole, moved_whole, whole_item}
+use Rattle.moved_gains.proofs.MovedRowLemmas.{numbered-by}
+use Rattle.moved_gains.proofs.WholeFileLemmas.{front_end-is, not_in_front, start_by}
+use Rattle.moved_gains.specs.Edited.{edited_file, is_lost_at, moved_frame_unless_lost, moved_items}
+use Rattle.moved_gains.specs.Edited.{moved_stream}
+use Rattle.requests.specs.declared.shift.Steps.{Steps}
+use Rattle.sync_survey.proofs.ItemBytesLemmas.{IsItem}
+use Rattle.sync_survey.proofs.ItemListLemmas.{AreItems, blocks-nearer, ends-stream, frames-nearer}
+use Rattle.sync_survey.proofs.ItemListLemmas.{item_at-known, items-length, items-run, kept_items}
+use Rattle.sync_survey.proofs.ItemListLemmas.{nearer, nearer-none, nearer_frame, nearer_piece}
+use Rattle.sync_survey.proofs.RunsLemmas.{IsItemOf, item_of-past, run-ends, run-next}
+use Rattle.sync_survey.proofs.SameHeadLemmas.{head_of-nearer, nearer_head}
+use Rattle.sync_survey.proofs.StartLemmas.{start-first, start-front}
+use Rattle.sync_survey.proofs.SurveyPartsLemmas.{frames_from, IsRead, told_from}
+use Rattle.sync_survey.proofs.WalkLemmas.{first_item, reach-end, ReachesTo}
+use Rattle.sync_survey.specs.Items.{item_at, size_of}
+use Rattle.sync_survey.specs.Runs.{AreEndToEnd, blocks_of, bytes_of_items, frames_of, item_run}
+use Rattle.sync_survey.specs.Runs.{ItemRun, PlacedItem, whole_item_at}
+use Rattle.sync_survey.specs.Start.{IsLeastStart, start_of}
+use Rattle.sync_survey.specs.Walk.{all_blocks, frame_bytes, head_of, numbered_frames, stream_run}
+use Rattle.sync_survey.specs.declared.{items.Item.TheVariants.Frame, places.Head.Head}
+use Rattle.sync_survey.specs.declared.places.{Piece.Piece, PlacedFrame.PlacedFrame, Start.Start}
+use Rattle.sync_survey.specs.declared.runs.Region.TheVariants.{Front, Stream}
+
+-- ---- the start of the edited file
+
+-- the bytes of junk
+abbrev pub gap_of : Start → ℕ
+gap_of start = start.first.offset - start.front_end
+
+-- the first frame is where the junk began
+abbrev pub moved_start : Start → Start
+moved_start start = record {
+  front_end = start.front_end;
+  first = record { offset = start.front_end; header = start.first.header };
+}
+
+-- the first frame isn't before the end of the front
+pub low_cases : (file : List ℕ) (start : Start) → IsLeastStart file start
+    → start.front_end ≤ start.first.offset
+low_cases file start (inl same) = omega (arith, same)
+low_cases file start (inr least) = omega (arith, least.0)
+
+-- ---- the bytes of the edited file
+
+-- the bytes of the first frame in the edited file: a head stays
+abbrev pub first_bytes : (ℕ → Steps) → (ℕ → Bool) → List ℕ → PlacedFrame → Option Head → List ℕ
+first_bytes steps lost file first None =
+    moved_frame_unless_lost (lost first.offset)
+    (steps first.offset) first.header (frame_bytes file first)
+first_bytes steps lost file first (Some head) = frame_bytes file first
+
+-- the stream begins with the first frame, moved unless it is a head, and goes on with the other
+-- items
+pub moved_first : (steps : ℕ → Steps) (lost : ℕ → Bool) (file : List ℕ) (first : PlacedFrame)
+    (ps : List PlacedItem) (o : Option Head) → moved_stream steps lost file o (record {
+      offset = first.offset;
+      item = Frame first.header;
+    } ∷ ps) ≡ first_bytes steps lost file first o ++ moved_items steps lost file ps
+moved_first steps lost file first ps None =
+    moved-cons steps lost file (record { offset = first.offset; item = Frame first.header }) ps
+moved_first steps lost file first ps (Some head) =
+    ap (λ l. l ++ moved_items steps lost file ps) (append-nil (frame_bytes file first))
+
+-- the offsets of the lost frames of a file
+abbrev pub lost_from : List ℕ → Start → ℕ → Bool
+lost_from file start = is_lost_at (told_from file start).frames
+
+module _ (steps : ℕ → Steps) (file : List ℕ) (allowed : ℕ) (start : Start) (all : AreBytes file)
+    (read : IsRead file allowed start) where
+  abbrev pub new_file : List ℕ
+  new_file = edited_file steps file (told_from file start)
+
+  abbrev lost : ℕ → Bool
+  lost = lost_from file start
+
+  abbrev first : ℕ
+  first = start.first.offset
+
+  abbrev front_end : ℕ
+  front_end = start.front_end
+
+  abbrev h : HeaderFields
+  h = start.first.header
+
+  abbrev size : ℕ
+  size = size_of (Frame h)
+
+  abbrev gap : ℕ
+  gap = gap_of start
+
+  abbrev head : Option Head
+  head = head_of file start.first
+
+  -- the first frame is a whole item
+  pub first_whole : IsItemOf Stream file first (Frame h)
+  first_whole = (start-first file start read.start_is).frame
+
+  -- the front ends no later than it begins
+  pub front_low : front_end ≤ first
+  front_low = low_cases file start (start-first file start read.start_is).least
+
+  -- ---- the runs of the file
+
+  abbrev front : ItemRun
+  front = item_run Front file 0
+
+  abbrev later : ItemRun
+  later = item_run Stream file (first + size)
+
+  abbrev items : List PlacedItem
+  items = record { offset = first; item = Frame h } ∷ later.items
+
+  -- the run of the front stops where the front ends
+  pub front_stop : front.stop ≡ front_end
+  front_stop = sym (start-front file start read.start_is ∙ front_end-is file)
+
+  first_there : whole_item_at Stream file first ≡ Some (Frame h)
+  first_there = first_item file start.first first_whole.is first_whole.within
+
+  -- the run of the stream is all items up to its stop
+  pub stream_is : stream_run file start ≡ record { items = items; stop = later.stop }
+  stream_is = run-next Stream file first (Frame h) first_there
+
+  -- the items of the front are end to end
+  pub front_ends : AreEndToEnd Front file 0 front.items front.stop
+  front_ends = run-ends Front file 0
+
+  -- those behind the first frame are too
+  pub later_ends : AreEndToEnd Stream file (first + size) later.items later.stop
+  later_ends = run-ends Stream file (first + size)
+
+  ends : AreEndToEnd Stream file first items later.stop
+  ends = (refl, first_there, later_ends)
+
+  -- the items of the stream have all bytes from the first frame on
+  pub items_bytes : bytes_of_items file items ≡ drop first file
+  items_bytes =
+      let reached : ReachesTo file start (length file) =
+      reach-end file start (frames_from file start) (stream_run file start).stop refl read.end in
+      ap (λ (r : ItemRun). bytes_of_items file r.items) (sym stream_is)
+      ∙ sym (append-nil (bytes_of_items file (stream_run file start).items))
+      ∙ ap (λ l. bytes_of_items file (stream_run file start).items ++ l) (sym (drop-length file))
+      ∙ reached
+
+  -- they end with the file
+  pub stop_is : later.stop ≡ length file
+  stop_is =
+      omega (
+        arith,
+        items-length Stream file first items later.stop (bytes_of_items file items) ends
+            (kept_items file first items later.stop ends),
+        ap length items_bytes,
+        length-drop first file,
+        first_whole.within,
+        first_whole.some,
+      )
+
+  -- ---- the bytes
+
+  abbrev before : List ℕ
+  before = bytes_of_items file front.items
+
+  abbrev own : List ℕ
+  own = first_bytes steps lost file start.first head
+
+  abbrev after : List ℕ
+  after = moved_items steps lost file later.items
+
+  -- the first frame is whole
+  pub first_frame : IsWhole h (frame_bytes file start.first)
+  first_frame = frame_whole file first h all first_whole.is first_whole.within
+
+  own_by : (o : Option Head) → IsItem (Frame h) (first_bytes steps lost file start.first o)
+  own_by None = whole_item h (first_bytes steps lost file start.first None)
+      (moved_whole (lost first) (steps first) h (frame_bytes file start.first) first_frame).whole
+  own_by (Some found) = whole_item h (frame_bytes file start.first) first_frame
+
+  before_are : AreItems front.items before
+  before_are = kept_items file 0
+      front.items front.stop (ends-stream Front file 0 front.items front.stop front_ends)
+
+  after_are : AreItems later.items after
+  after_are = moved_are steps lost file (first + size) later.items later.stop all later_ends
+
+  new-is : new_file ≡ before ++ (own ++ after)
+  unfolding edited_file
+  new-is =
+      ap (λ (r : ItemRun). before ++ moved_stream steps lost file head r.items) stream_is
+      ∙ ap (λ l. before ++ l) (moved_first steps lost file start.first later.items head)
+
+  -- the bytes of the front end where the front ends
+  pub before_long : length before ≡ front_end
+  before_long = omega (
+    arith,
+    items-length Front file 0 front.items front.stop before front_ends before_are,
+    front_stop,
+  )
+
+  -- from there on the edited file has the first frame and what is behind it
+  pub new-stands : drop front_end new_file ≡ own ++ after
+  new-stands = ap (drop front_end) new-is ∙ drop_at before (own ++ after) front_end before_long
+
+  -- it is shorter by the junk
+  pub new-length : length new_file ≡ length file - gap
+  new-length =
+      omega (
+        arith,
+        ap length new-is,
+        length-append {A = ℕ},
+        before_long,
+        (own_by head).size,
+        items-length Stream file (first + size) later.items later.stop after later_ends after_are,
+        stop_is,
+        front_low,
+        first_whole.within,
+      )
+
+  -- ---- the runs of the edited file
+
+  new_first : item_at new_file front_end ≡ Frame h
+  new_first = item_at-known new_file front_end front_end (own ++ after) (Frame h) refl new-stands
+      ((own_by head).known after)
+
+  new_room : front_end + size ≤ length new_file
+  new_room = omega (arith, new-length, front_low, first_whole.within)
+
+  -- its front is that of the file
+  pub new-front : item_run Front new_file 0 ≡ record { items = front.items; stop = front_end }
+  new-front =
+      let stop : front.stop - 0 ≡ front_end = omega (arith, front_stop) in
+      items-run Front file new_file 0 0 0 front.items front.stop before (own ++ after) front_ends
+      (omega arith) before_are (omega arith) new-is
+      (not_in_front new_file (front.stop - 0) h (ap (item_at new_file) stop ∙ new_first))
+      ∙ (λ i. record { items = nearer-none front.items i; stop = stop i })
+
+  -- its stream has the same items, nearer by the junk
+  pub new-stream : item_run Stream new_file front_end
+      ≡ record { items = map (nearer gap) items; stop = later.stop - gap }
+  new-stream =
+      items-run Stream file new_file gap first front_end items later.stop (own ++ after) [] ends
+      (omega (arith, front_low))
+      (own, after, refl, own_by head, after_are) (omega (arith, new_room))
+      (new-stands ∙ sym (append-nil (own ++ after)))
+      (item_of-past Stream new_file (later.stop - gap) (omega (arith, new-length, stop_is)))
+
+  -- it starts with the same frame
+  pub new-start : start_of new_file ≡ Ok (moved_start start)
+  new-start = start_by new_file front_end h
+      (front_end-is new_file ∙ ap (λ (r : ItemRun). r.stop) new-front) new_first new_room
+
+  -- ---- frames and blocks
+
+  -- that frame begins where the front ends
+  pub place : first - gap ≡ front_end
+  place = omega (arith, front_low)
+
+  -- it is the first frame, nearer by the junk
+  pub nearer_first : nearer_frame gap start.first ≡ (moved_start start).first
+  nearer_first = ap (λ n. record { offset = n; header = h }) place
+
+  -- behind it is what was behind the first frame
+  pub new-later : drop (front_end + size) new_file ≡ after ++ []
+  new-later = sym (drop-drop size front_end new_file) ∙ ap (drop size) new-stands
+      ∙ drop_at own after size (own_by head).size ∙ sym (append-nil after)
+
+  later_moved : AreMovedAt steps lost file new_file gap (frames_of later.items)
+  later_moved = frames_moved steps lost file new_file gap (first + size) (front_end + size)
+      later.items later.stop [] all later_ends (omega (arith, front_low)) new-later
+
+  moved_by : (o : Option Head)
+      → drop front_end new_file ≡ first_bytes steps lost file start.first o ++ after → AreMovedAt
+      steps lost file new_file gap (numbered_frames o (start.first ∷ frames_of later.items))
+  moved_by None is = (
+    record { whole = first_frame; rest = after; stands = ap (λ n. drop n new_file) place ∙ is },
+    later_moved,
+  )
+  moved_by (Some found) is = later_moved
+
+  -- the frames of the file are in the edited one, with moved gains where they aren't lost
+  pub frames-moved : AreMovedAt steps lost file new_file gap (frames_from file start)
+  frames-moved = subst (λ (r : ItemRun). AreMovedAt steps lost file new_file gap
+      (numbered_frames head (frames_of r.items))) (sym stream_is) (moved_by head new-stands)
+
+  -- the first frame is the same there from two bytes before its area on
+  end_by : (o : Option Head)
+      → drop (overhead_of (class_of h) h.protected - 2) (first_bytes steps lost file start.first o)
+      ≡ drop (overhead_of (class_of h) h.protected - 2) (frame_bytes file start.first)
+  end_by None =
+      (moved_whole (lost first) (steps first) h (frame_bytes file start.first) first_frame).same_end
+  end_by (Some found) = refl
+
+  area_by : (o : Option Head)
+      → drop (overhead_of (class_of h) h.protected) (first_bytes steps lost file start.first o)
+      ≡ drop (overhead_of (class_of h) h.protected) (frame_bytes file start.first)
+  area_by None = (moved_whole (lost first) (steps first) h
+      (frame_bytes file start.first) first_frame).same_area
+  area_by (Some found) = refl
+
+  new_own : frame_bytes new_file (moved_start start).first ≡ own
+  new_own = ap (take size) new-stands ∙ take_at own after size (own_by head).size
+
+  -- its bytes are those of the first frame, moved unless it is a head
+  pub near_own : frame_bytes new_file (nearer_frame gap start.first) ≡ own
+  near_own = ap (frame_bytes new_file) nearer_first ∙ new_own
+
+  -- it is a head if the first frame is one
+  pub new-head : head_of new_file (moved_start start).first ≡ option_map (nearer_head gap) head
+  new-head =
+      ap (head_of new_file) (sym nearer_first)
+      ∙ head_of-nearer file new_file gap
+      start.first (ap (drop (overhead_of (class_of h) h.protected - 2)) near_own ∙ end_by head)
+
+  -- its area stays
+  pub new-area : drop (overhead_of (class_of h) h.protected)
+      (frame_bytes new_file (nearer_frame gap start.first))
+      ≡ drop (overhead_of (class_of h) h.protected) (frame_bytes file start.first)
+  new-area = ap (drop (overhead_of (class_of h) h.protected)) near_own ∙ area_by head
+
+  -- the frames are those of the file, nearer by the junk
+  pub new-frames : frames_from new_file (moved_start start)
+      ≡ map (nearer_frame gap) (frames_from file start)
+  new-frames =
+      ap₂ numbered_frames new-head
+      (ap (λ (r : ItemRun). frames_of r.items) new-stream ∙ frames-nearer gap items)
+      ∙ numbered-by (λ at. at - gap) head (frames_of items)
+      ∙ ap (λ (r : ItemRun). map (nearer_frame gap) (numbered_frames head (frames_of r.items)))
+      (sym stream_is)
+
+  -- the blocks of the front stay, and those of the stream are nearer by the junk
+  pub new-blocks : all_blocks new_file (moved_start start)
+      ≡ blocks_of front.items ++ map (nearer_piece gap) (blocks_of (stream_run file start).items)
+  new-blocks =
+      ap₂ (λ (a b : List Piece). a ++ b) (ap (λ (r : ItemRun). blocks_of r.items) new-front)
+      (ap (λ (r : ItemRun). blocks_of r.items) new-stream ∙ blocks-nearer gap items
+      ∙ ap (λ (r : ItemRun). map (nearer_piece gap) (blocks_of r.items)) (sym stream_is))

@@ -1,0 +1,196 @@
+-- The least and the greatest of gains: of two lists together, and that they are two of the gains.
+use Rattle.std.proofs.Common.{ap, ap₂, arith, Contains, drop, fold, get_or, inl, inr, length, List}
+use Rattle.std.proofs.Common.{max, min, None, Option, refl, Some, subst, suc, sym, zero, ℕ, []}
+use Rattle.std.proofs.{Common.{◌++◌, ◌+◌, ◌<◌, ◌∙◌, ◌∷◌, ◌≡◌, ◌≤◌}, lemmas.Bool.cases_lt}
+use Rattle.std.proofs.lemmas.List.{append-nil, drop_all, drop_more, Sums.fold-append}
+use Rattle.std.specs.Prelude.{IfNone, IfSome, slice_get, slice_index_or}
+use Rattle.moved_gains.proofs.CourseLemmas.{out_classed}
+use Rattle.moved_gains.specs.GainExtremes.{AreExtremes, extremes, extremes_of, HasChannel}
+use Rattle.moved_gains.specs.GainExtremes.{joined_extremes, moving_gains, row_gains}
+use Rattle.moved_gains.specs.declared.gain_extremes.Gains.{Gains}
+use Rattle.sync_survey.specs.{Faults.SurveyFields, Row.Row, Survey.IsSurveyLaidOut}
+
+-- ---- of two lists together
+
+fold-min : (a b : ℕ) (xs : List ℕ) → fold min (min a b) xs ≡ min a (fold min b xs)
+fold-min a b [] = refl
+fold-min a b (x ∷ xs) =
+    let one : min (min a b) x ≡ min a (min b x) = omega arith in
+    ap (λ n. fold min n xs) one ∙ fold-min a (min b x) xs
+
+fold-max : (a b : ℕ) (xs : List ℕ) → fold max (max a b) xs ≡ max a (fold max b xs)
+fold-max a b [] = refl
+fold-max a b (x ∷ xs) =
+    let one : max (max a b) x ≡ max a (max b x) = omega arith in
+    ap (λ n. fold max n xs) one ∙ fold-max a (max b x) xs
+
+-- the extreme gains of two lists are those of both together
+pub joined-extremes : (xs ys : List ℕ)
+    → joined_extremes (extremes xs) (extremes ys) ≡ extremes (xs ++ ys)
+unfolding extremes
+joined-extremes [] ys = refl
+joined-extremes (x ∷ xs) [] = ap extremes (sym (append-nil (x ∷ xs)))
+joined-extremes (x ∷ xs) (y ∷ ys) =
+    let least = sym (fold-append min x xs (y ∷ ys) ∙ fold-min (fold min x xs) y ys) in
+    let greatest = sym (fold-append max x xs (y ∷ ys) ∙ fold-max (fold max x xs) y ys) in
+    ap₂ (λ (a b : ℕ). Some (record { least = a; greatest = b })) least greatest
+
+-- of three the first two may be joined first
+pub joined-assoc : (f g h : Option Gains)
+    → joined_extremes (joined_extremes f g) h ≡ joined_extremes f (joined_extremes g h)
+joined-assoc None g h = refl
+joined-assoc (Some f) None h = refl
+joined-assoc (Some f) (Some g) None = refl
+joined-assoc (Some f) (Some g) (Some h) =
+    let least : min (min f.least g.least) h.least ≡ min f.least (min g.least h.least) =
+    omega arith in
+    let greatest : max (max f.greatest g.greatest) h.greatest
+    ≡ max f.greatest (max g.greatest h.greatest) = omega arith in
+    ap₂ (λ (a b : ℕ). Some (record { least = a; greatest = b })) least greatest
+
+-- none beside them change nothing
+pub joined-None : (g : Option Gains) → joined_extremes g None ≡ g
+joined-None None = refl
+joined-None (Some g) = refl
+
+-- ---- of frames
+
+-- without frames no gain moves
+pub moving-nil : (channel : ℕ) → moving_gains channel [] ≡ []
+unfolding moving_gains
+moving-nil channel = refl
+
+-- the gains of frames are those of the first and those of the others
+pub moving-cons : (channel : ℕ) (row : Row) (rows : List Row)
+    → moving_gains channel (row ∷ rows) ≡ row_gains channel row ++ moving_gains channel rows
+unfolding moving_gains
+moving-cons channel row rows = refl
+
+-- no gains have no least and no greatest
+pub extremes-nil : extremes [] ≡ None
+unfolding extremes
+extremes-nil = refl
+
+-- and so are the least and the greatest of them
+pub extremes-cons : (channel : ℕ) (row : Row) (rows : List Row) → extremes_of channel (row ∷ rows)
+    ≡ joined_extremes (extremes (row_gains channel row)) (extremes_of channel rows)
+extremes-cons channel row rows = ap extremes (moving-cons channel row rows)
+    ∙ sym (joined-extremes (row_gains channel row) (moving_gains channel rows))
+
+-- ---- what they are
+
+-- where there are none, there are no gains
+pub extremes-None : (xs : List ℕ) → extremes xs ≡ None → xs ≡ []
+unfolding extremes
+extremes-None [] e = refl
+extremes-None (x ∷ xs) e = absurd cc
+
+min_there : (a x : ℕ) (xs : List ℕ) (n k : ℕ) → k < length (min a x ∷ xs)
+    → slice_index_or (min a x ∷ xs) k n ≡ n → Contains (a ∷ x ∷ xs) n
+min_there a x xs n zero lt is =
+    elim (cases_lt a x) as (λ _. Contains (a ∷ x ∷ xs) n) [
+      | inl less ↦ (0, omega arith, omega (arith, less, is))
+      | inr more ↦ (1, omega arith, omega (arith, more, is))
+    ]
+min_there a x xs n (suc k) lt is = (suc (suc k), omega (arith, lt), is)
+
+max_there : (a x : ℕ) (xs : List ℕ) (n k : ℕ) → k < length (max a x ∷ xs)
+    → slice_index_or (max a x ∷ xs) k n ≡ n → Contains (a ∷ x ∷ xs) n
+max_there a x xs n zero lt is =
+    elim (cases_lt a x) as (λ _. Contains (a ∷ x ∷ xs) n) [
+      | inl less ↦ (1, omega arith, omega (arith, less, is))
+      | inr more ↦ (0, omega arith, omega (arith, more, is))
+    ]
+max_there a x xs n (suc k) lt is = (suc (suc k), omega (arith, lt), is)
+
+least_there : (a : ℕ) (xs : List ℕ) → Contains (a ∷ xs) (fold min a xs)
+least_there a [] = (0, omega arith, refl)
+least_there a (x ∷ xs) =
+    let there = least_there (min a x) xs in
+    min_there a x xs (fold min (min a x) xs) there.0 there.1 there.2
+
+greatest_there : (a : ℕ) (xs : List ℕ) → Contains (a ∷ xs) (fold max a xs)
+greatest_there a [] = (0, omega arith, refl)
+greatest_there a (x ∷ xs) =
+    let there = greatest_there (max a x) xs in
+    max_there a x xs (fold max (max a x) xs) there.0 there.1 there.2
+
+least_first : (a : ℕ) (xs : List ℕ) → fold min a xs ≤ a
+least_first a [] = omega arith
+least_first a (x ∷ xs) = omega (arith, least_first (min a x) xs)
+
+greatest_first : (a : ℕ) (xs : List ℕ) → a ≤ fold max a xs
+greatest_first a [] = omega arith
+greatest_first a (x ∷ xs) = omega (arith, greatest_first (max a x) xs)
+
+between : (a : ℕ) (xs : List ℕ) (k d : ℕ) → k < length (a ∷ xs)
+    → (fold min a xs ≤ slice_index_or (a ∷ xs) k d) × (slice_index_or (a ∷ xs) k d ≤ fold max a xs)
+between a xs zero d lt = (least_first a xs, greatest_first a xs)
+between a [] (suc k) d lt = absurd (omega (arith, lt))
+between a (x ∷ xs) (suc zero) d lt =
+    (omega (arith, least_first (min a x) xs), omega (arith, greatest_first (max a x) xs))
+between a (x ∷ xs) (suc (suc k)) d lt =
+    let less : suc k < suc (length xs) = omega (arith, lt) in
+    ((between (min a x) xs (suc k) d less).0, (between (max a x) xs (suc k) d less).1)
+
+are_extremes : (a : ℕ) (xs : List ℕ)
+    → AreExtremes (a ∷ xs) (record { least = fold min a xs; greatest = fold max a xs })
+are_extremes a xs = record {
+  least = least_there a xs;
+  greatest = greatest_there a xs;
+  between = λ k d lt. between a xs k d lt;
+}
+
+-- where there are some, they are the least and the greatest
+pub extremes-Some : (xs : List ℕ) (g : Gains) → extremes xs ≡ Some g → AreExtremes xs g
+unfolding extremes
+extremes-Some [] g e = absurd cc
+extremes-Some (x ∷ xs) g e =
+    let same : record { least = fold min x xs; greatest = fold max x xs } ≡ g = cc in
+    subst (AreExtremes (x ∷ xs)) same (are_extremes x xs)
+
+-- so are the two that a call answers
+pub some_extremes : (xs : List ℕ) (o : Option Gains) → o ≡ extremes xs → IfSome o (AreExtremes xs)
+some_extremes xs None is = tt
+some_extremes xs (Some g) is = extremes-Some xs g (sym is)
+
+-- where it answers none there are no gains
+pub no_extremes : (xs : List ℕ) (o : Option Gains) → o ≡ extremes xs → IfNone o (xs ≡ [])
+no_extremes xs None is = extremes-None xs (sym is)
+no_extremes xs (Some g) is = tt
+
+-- ---- frame by frame
+
+-- what has no first frame has no frame
+pub no_first : (rows : List Row) → None ≡ slice_get rows 0 → rows ≡ []
+no_first [] is = refl
+no_first (row ∷ rows) is = absurd cc
+
+-- there is none without a frame
+pub extremes-empty : (channel : ℕ) (rows : List Row) → None ≡ slice_get rows 0
+    → None ≡ extremes_of channel rows
+extremes-empty channel rows is = sym (ap (extremes_of channel) (no_first rows is)
+    ∙ ap extremes (moving-nil channel) ∙ extremes-nil)
+
+-- those of the frames from one on are that one's and those of the frames behind it
+pub extremes-from : (channel : ℕ) (rows : List Row) (i : ℕ) (row : Row) → i < length rows
+    → row ≡ get_or rows i row → extremes_of channel (drop i rows)
+    ≡ joined_extremes (extremes (row_gains channel row)) (extremes_of channel (drop (i + 1) rows))
+extremes-from channel rows i row lt is =
+    ap (extremes_of channel)
+    (drop_more rows i row lt ∙ ap (λ (r : Row). r ∷ drop (i + 1) rows) (sym is))
+    ∙ extremes-cons channel row (drop (i + 1) rows)
+
+-- behind the last frame there are none
+pub extremes-behind : (channel : ℕ) (rows : List Row) (i : ℕ) → length rows ≤ i
+    → extremes_of channel (drop i rows) ≡ None
+extremes-behind channel rows i end =
+    ap (extremes_of channel) (drop_all i rows end) ∙ ap extremes (moving-nil channel) ∙ extremes-nil
+
+-- ---- the channels of frames
+
+-- those of a survey are of its class
+pub has_channel : (channel : ℕ) (s : SurveyFields) → IsSurveyLaidOut s → channel < s.class.channels
+    → HasChannel channel s.frames
+has_channel channel s laid below =
+    record { class = s.class; same = out_classed s laid; below = below }

@@ -1,0 +1,195 @@
+-- The tag's block that a survey tells: it is an APEv2 block, within the file, and is there.
+use Rattle.std.proofs.Common.{ap, arith, Bool, cond, drop, Err, false, length, length-drop, List}
+use Rattle.std.proofs.Common.{None, Ok, Option, refl, Some, subst, suc, sym, take, true, ℕ, [], ◌+◌}
+use Rattle.std.proofs.{Common.{◌-◌, ◌∙◌, ◌∷◌, ◌≡◌, ◌≤◌}, lemmas.Bool.false≢true}
+use Rattle.std.proofs.lemmas.List.{append-nil, length-take-le, Folds.find-append}
+use Rattle.std.specs.{List.{cons_option, find}, Option.option_or}
+use Rattle.moved_gains.specs.TagPlace.{frame_end, is_tag, last_end, tag_block}
+use Rattle.sync_survey.proofs.{ItemBytesLemmas.kept_item, ItemsLemmas.stands}
+use Rattle.sync_survey.proofs.{RunsLemmas.{item_of-is, run-ends}, SurveyPartsLemmas.surveyed-parts}
+use Rattle.sync_survey.specs.Faults.{longest_file, survey_fields, SurveyFields}
+use Rattle.sync_survey.specs.{Items.{IsItemFront, item_front, size_of}, Row.Row}
+use Rattle.sync_survey.specs.Runs.{AreEndToEnd, block_of_item, blocks_of, item_run, PlacedItem}
+use Rattle.sync_survey.specs.Runs.{whole_item_at}
+use Rattle.sync_survey.specs.Survey.{BlocksAreLaid, FramesAreLaid, IsSurveyLaidOut, survey_of}
+use Rattle.sync_survey.specs.{Walk.{all_blocks, stream_run}, declared.items.Item.Item}
+use Rattle.sync_survey.specs.declared.{items.Item.TheVariants.Block, places.Piece.Piece}
+use Rattle.sync_survey.specs.declared.{places.Start.Start, runs.Region.Region}
+use Rattle.sync_survey.specs.declared.runs.Region.TheVariants.{Front, Stream}
+use Rattle.sync_survey.specs.declared.survey_fault.SurveyFault.{SurveyFault}
+use Rattle.tag_blocks.specs.{Blocks.block_front, declared.block.Block.Block as TagBlock}
+use Rattle.tag_blocks.specs.declared.block.Kind.{Kind, TheVariants.Ape}
+
+-- ---- the first of several blocks
+
+ape_by : (at size : ℕ) (kind : Kind)
+    → is_tag (record { offset = at; block = record { kind = kind; length = size } }) ≡ true
+    → kind ≡ Ape
+ape_by at size Ape is = refl
+ape_by at size _ is = absurd (false≢true is)
+
+-- a tag is an APEv2 block
+pub tag_kind : (b : Piece) → is_tag b ≡ true
+    → b.block ≡ record { kind = Ape; length = b.block.length }
+tag_kind b is = ap (λ k. record { kind = k; length = b.block.length })
+    (ape_by b.offset b.block.length b.block.kind is)
+
+found_by : (x b : Piece) (xs : List Piece) (P : Type 0) (t : Bool) → is_tag x ≡ t
+    → cond t (Some x) (find is_tag xs) ≡ Some b → (is_tag x ≡ true → x ≡ b → P)
+    → (is_tag x ≡ false → find is_tag xs ≡ Some b → P) → P
+found_by x b xs P true is e here later = here is cc
+found_by x b xs P false is e here later = later is e
+
+-- the first that is a tag is the first of all, or the first of those after it
+pub found_case : (x b : Piece) (xs : List Piece) (P : Type 0) → find is_tag (x ∷ xs) ≡ Some b
+    → (is_tag x ≡ true → x ≡ b → P) → (is_tag x ≡ false → find is_tag xs ≡ Some b → P) → P
+found_case x b xs P e here later = found_by x b xs P (is_tag x) refl e here later
+
+-- what is found is a tag
+pub found_tag : (xs : List Piece) (b : Piece) → find is_tag xs ≡ Some b → is_tag b ≡ true
+found_tag [] b e = absurd cc
+found_tag (x ∷ xs) b e = found_case x b xs (is_tag b ≡ true) e
+    (λ is same. subst (λ y. is_tag y ≡ true) same is) (λ none rest. found_tag xs b rest)
+
+-- ---- where it is
+
+laid_from : (from : ℕ) (xs : List Piece) (to : ℕ) → BlocksAreLaid from xs to → from ≤ to
+laid_from from [] to laid = laid
+laid_from from (x ∷ xs) to laid =
+    omega (arith, laid.0, laid_from (x.offset + x.block.length) xs to laid.1)
+
+tag_laid : (from : ℕ) (xs : List Piece) (to : ℕ) (b : Piece) → BlocksAreLaid from xs to
+    → find is_tag xs ≡ Some b → b.offset + b.block.length ≤ to
+tag_laid from [] to b laid e = absurd cc
+tag_laid from (x ∷ xs) to b laid e =
+    found_case x b xs (b.offset + b.block.length ≤ to) e
+    (λ is same. subst (λ (y : Piece). y.offset + y.block.length ≤ to) same
+    (laid_from (x.offset + x.block.length) xs to laid.1))
+    (λ none rest. tag_laid (x.offset + x.block.length) xs to b laid.1 rest)
+
+-- it is within the length
+pub tag-within : (s : SurveyFields) (b : Piece) → IsSurveyLaidOut s → tag_block s ≡ Some b
+    → b.offset + b.block.length ≤ s.length
+tag-within s b laid e = tag_laid 0 s.blocks s.length b laid.blocks e
+
+-- ---- it is in the file
+
+module _ (part : Region) (file : List ℕ) where
+  one_found : (at : ℕ) (item : Item) (bs : List Piece) (b : Piece) → whole_item_at part file at
+      ≡ Some item
+      → (find is_tag bs ≡ Some b → whole_item_at part file b.offset ≡ Some (Block b.block))
+      → find is_tag (cons_option (block_of_item at item) bs) ≡ Some b
+      → whole_item_at part file b.offset ≡ Some (Block b.block)
+  one_found at (Block x) bs b here later e =
+      found_case (record { offset = at; block = x }) b bs
+      (whole_item_at part file b.offset ≡ Some (Block b.block)) e
+      (λ is same. subst (λ (y : Piece). whole_item_at part file y.offset ≡ Some (Block y.block))
+      same
+      here)
+      (λ none rest. later rest)
+  one_found at _ bs b here later e = later e
+
+  -- among items that follow end to end
+  pub found_item : (from : ℕ) (ps : List PlacedItem) (to : ℕ) (b : Piece)
+      → AreEndToEnd part file from ps to → find is_tag (blocks_of ps) ≡ Some b
+      → whole_item_at part file b.offset ≡ Some (Block b.block)
+  found_item from [] to b ends e = absurd cc
+  found_item from (p ∷ ps) to b ends e = one_found p.offset p.item (blocks_of ps) b
+      ends.1 (found_item (p.offset + size_of p.item) ps to b ends.2) e
+
+-- the bytes of a whole block are that block
+pub own_block : (part : Region) (file : List ℕ) (at : ℕ) (b : TagBlock)
+    → whole_item_at part file at ≡ Some (Block b)
+    → (at + b.length ≤ length file) × (block_front (take b.length (drop at file)) ≡ Some b)
+own_block part file at b is =
+    let here = item_of-is part file at (Block b) is in
+    let own = take b.length (drop at file) in
+    let kept = kept_item file at (Block b) here.is refl here.within in
+    let front : item_front own ≡ Block b = ap item_front (sym (append-nil own)) ∙ kept.known [] in
+    (here.within, subst (IsItemFront own) front (stands own))
+
+-- the bytes of a tag, and how long they are
+pub record IsTagThere (file : List ℕ) (b : Piece) : Type 0 where
+  pub within : b.offset + b.block.length ≤ length file
+  pub long : length (take b.block.length (drop b.offset file)) ≡ b.block.length
+  pub front : block_front (take b.block.length (drop b.offset file))
+      ≡ Some (record { kind = Ape; length = length (take b.block.length (drop b.offset file)) })
+
+there_by : (part : Region) (file : List ℕ) (b : Piece) → is_tag b ≡ true
+    → whole_item_at part file b.offset ≡ Some (Block b.block) → IsTagThere file b
+there_by part file b tag is =
+    let own = own_block part file b.offset b.block is in
+    let size = b.block.length in
+    let long : length (take size (drop b.offset file)) ≡ size =
+    length-take-le size (drop b.offset file) (omega (arith, own.0, length-drop b.offset file)) in
+    record {
+      within = own.0;
+      long = long;
+      front = own.1 ∙ ap Some (tag_kind b tag)
+          ∙ ap (λ n. Some (record { kind = Ape; length = n })) (sym long);
+    }
+
+all_cases : (file : List ℕ) (start : Start) (b : Piece) (o : Option Piece)
+    → find is_tag (all_blocks file start) ≡ Some b
+    → find is_tag (blocks_of (item_run Front file 0).items) ≡ o
+    → option_or o (find is_tag (blocks_of (stream_run file start).items)) ≡ Some b
+    → IsTagThere file b
+all_cases file start b None found is e = there_by Stream file b (found_tag (all_blocks file start) b
+    found) (found_item Stream file start.first.offset (stream_run file start).items
+    (stream_run file start).stop b (run-ends Stream file start.first.offset) e)
+all_cases file start b (Some x) found is e =
+    there_by Front file b (found_tag (all_blocks file start) b found) (found_item Front file 0
+    (item_run Front file 0).items (item_run Front file 0).stop b (run-ends Front file 0) (is ∙ e))
+
+-- the tag's block that a survey has is an APEv2 block in the file
+pub tag-there : (file : List ℕ) (allowed : ℕ) (s : SurveyFields) (b : Piece)
+    → survey_fields file allowed ≡ Ok s → tag_block s ≡ Some b → IsTagThere file b
+tag-there file allowed s b e found =
+    let parts = surveyed-parts file allowed s e in
+    let start = parts.0 in
+    let told : find is_tag (all_blocks file start) ≡ Some b =
+    ap (λ (t : SurveyFields). find is_tag t.blocks) parts.2 ∙ found in
+    all_cases file start b (find is_tag (blocks_of (item_run Front file 0).items)) told refl
+    (sym (find-append is_tag (blocks_of (item_run Front file 0).items)
+    (blocks_of (stream_run file start).items)) ∙ told)
+
+-- ---- the survey of a file that isn't too long
+
+survey_cases : (file : List ℕ) (allowed : ℕ) (fault : SurveyFault) (s : SurveyFields) (long : Bool)
+    → cond long (Err fault) (survey_fields file allowed) ≡ Ok s → survey_fields file allowed ≡ Ok s
+survey_cases file allowed fault s true e = absurd cc
+survey_cases file allowed fault s false e = e
+
+-- the survey of a file that isn't too long is that of its bytes
+pub survey_of-surveyed : (file : List ℕ) (allowed : ℕ) (s : SurveyFields)
+    → survey_of file allowed ≡ Ok s → survey_fields file allowed ≡ Ok s
+unfolding survey_of
+survey_of-surveyed file allowed s e = survey_cases file allowed _ s _ e
+
+-- and says how long the file is
+pub surveyed-length : (file : List ℕ) (allowed : ℕ) (s : SurveyFields)
+    → survey_fields file allowed ≡ Ok s → length file ≡ s.length
+surveyed-length file allowed s e = let parts = surveyed-parts file allowed s e in
+    ap (λ (t : SurveyFields). t.length) parts.2
+
+-- ---- the end of the last frame
+
+-- the last frame's end is the same with one frame more in front
+pub last_more : (r q : Row) (rows : List Row) → last_end (r ∷ q ∷ rows) ≡ last_end (q ∷ rows)
+last_more r q rows =
+    let m : length (r ∷ q ∷ rows) - 1 ≡ suc (length (q ∷ rows) - 1) = omega arith in
+    rw m refl
+
+-- of one frame it is its own
+pub last_one : (r : Row) → last_end (r ∷ []) ≡ frame_end r
+last_one r = refl
+
+last_laid : (from : ℕ) (rows : List Row) (to : ℕ) → FramesAreLaid from rows to → last_end rows ≤ to
+last_laid from [] to laid = omega arith
+last_laid from (r ∷ []) to laid = omega (arith, last_one r, laid.2)
+last_laid from (r ∷ q ∷ rows) to laid =
+    omega (arith, last_more r q rows, last_laid (frame_end r) (q ∷ rows) to laid.2)
+
+-- it isn't past the greatest length of a file
+pub last-within : (s : SurveyFields) → IsSurveyLaidOut s → last_end s.frames ≤ longest_file
+last-within s laid = omega (arith, last_laid s.first s.frames s.length laid.frames, laid.few)

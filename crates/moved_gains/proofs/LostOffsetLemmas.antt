@@ -1,0 +1,213 @@
+-- Frames are in order. So a frame is lost if a lost frame
+-- is at its offset, since no two frames are at one offset.
+use Rattle.std.proofs.Common.{ap, ap₂, arith, Bool, false, List, map, Option, refl, slice_get, Some}
+use Rattle.std.proofs.Common.{subst, suc, sym, true, zero, zero-add, ℕ, [], ◌&&◌, ◌+◌, ◌<◌, ◌==◌}
+use Rattle.std.proofs.{Common.{◌||◌, ◌∙◌, ◌∷◌, ◌≡◌, ◌≤◌}, lemmas.Bool.{eq-eqb, ne_eqb}}
+use Rattle.std.specs.List.{cons_option, enumerate_from}
+use Rattle.moved_gains.specs.{Edited.is_lost_at, Moving.row_end}
+use Rattle.sync_survey.{proofs.RunsLemmas.{item_of-is, run-ends}, specs.Items.size_of}
+use Rattle.sync_survey.specs.{MainData.{is_lost, marked_row, marked_rows, row_of, rows_of}, Row.Row}
+use Rattle.sync_survey.specs.Runs.{AreEndToEnd, frame_of_item, frames_of, PlacedItem}
+use Rattle.sync_survey.specs.{Walk.{numbered_frames, stream_run}, declared.items.Item.Item}
+use Rattle.sync_survey.specs.declared.items.Item.TheVariants.{Block, Frame, Zero}
+use Rattle.sync_survey.specs.declared.places.{Head.Head, PlacedFrame.PlacedFrame, Start.Start}
+use Rattle.sync_survey.specs.declared.runs.Region.{Region, TheVariants.Stream}
+
+-- ---- frames at rising offsets
+
+-- the offsets of these frames rise, from one on
+abbrev pub AreRising : ℕ → List Row → Type 0
+AreRising at [] = Unit {0}
+AreRising at (r ∷ rows) = (at ≤ r.offset) × AreRising (suc r.offset) rows
+
+-- frames in order from an offset on are so from any earlier one
+pub rising_less : (low high : ℕ) (rows : List Row) → low ≤ high → AreRising high rows
+    → AreRising low rows
+rising_less low high [] le rise = tt
+rising_less low high (r ∷ rows) le rise = (omega (arith, le, rise.0), rise.1)
+
+-- none of them is before it
+pub rising_get : (from : ℕ) (rows : List Row) (i : ℕ) (r : Row) → AreRising from rows
+    → slice_get rows i ≡ Some r → from ≤ r.offset
+rising_get from [] i r rise is = absurd cc
+rising_get from (q ∷ rows) zero r rise is = let same : q ≡ r = cc in
+    subst (λ (x : Row). from ≤ x.offset) same rise.0
+rising_get from (q ∷ rows) (suc i) r rise is =
+    omega (arith, rise.0, rising_get (suc q.offset) rows i r rise.1 is)
+
+-- ---- frames between two offsets
+
+-- these frames, none of which is empty, are in their order between two offsets
+abbrev pub EndBy : ℕ → List Row → ℕ → Type 0
+EndBy from [] to = from ≤ to
+EndBy from (row ∷ rows) to =
+    (from ≤ row.offset) × (row.offset < row_end row) × EndBy (row_end row) rows to
+
+-- they end no earlier than it
+pub end_rises : (from : ℕ) (rows : List Row) (to : ℕ) → EndBy from rows to → from ≤ to
+end_rises from [] to ends = ends
+end_rises from (row ∷ rows) to ends =
+    omega (arith, ends.0, ends.1, end_rises (row_end row) rows to ends.2)
+
+-- frames that follow each other from an offset on do from any earlier one
+pub end_earlier : (from later : ℕ) (rows : List Row) (to : ℕ) → from ≤ later → EndBy later rows to
+    → EndBy from rows to
+end_earlier from later [] to low ends = omega (arith, low, ends)
+end_earlier from later (row ∷ rows) to low ends = (omega (arith, low, ends.0), ends.1, ends.2)
+
+-- and end before any later one
+pub end_later : (from : ℕ) (rows : List Row) (to later : ℕ) → to ≤ later → EndBy from rows to
+    → EndBy from rows later
+end_later from [] to later up ends = omega (arith, ends, up)
+end_later from (row ∷ rows) to later up ends =
+    (ends.0, ends.1, end_later (row_end row) rows to later up ends.2)
+
+end_rising : (from : ℕ) (rows : List Row) (to : ℕ) → EndBy from rows to → AreRising from rows
+end_rising from [] to ends = tt
+end_rising from (row ∷ rows) to ends = (
+  ends.0,
+  rising_less (suc row.offset) (row_end row) rows (omega (arith, ends.1))
+      (end_rising (row_end row) rows to ends.2),
+)
+
+-- placed frames, marked by their offsets
+abbrev pub rows_by : (ℕ → Bool) → List ℕ → List PlacedFrame → List Row
+rows_by lost file ps = map (λ (p : PlacedFrame). record (row_of file p) { lost = lost p.offset }) ps
+
+module _ (lost : ℕ → Bool) (file : List ℕ) where
+  end_more : (at : ℕ) (item : Item) (frames : List PlacedFrame) (to : ℕ) → 0 < size_of item
+      → EndBy (at + size_of item) (rows_by lost file frames) to
+      → EndBy at (rows_by lost file (cons_option (frame_of_item at item) frames)) to
+  end_more at (Frame h) frames to some ends = (omega arith, omega (arith, some), ends)
+  end_more at (Block b) frames to some ends =
+      end_earlier at (at + b.length) (rows_by lost file frames) to (omega arith) ends
+  end_more at Zero frames to some ends =
+      end_earlier at (at + 1) (rows_by lost file frames) to (omega arith) ends
+  end_more at _ frames to some ends =
+      end_earlier at (at + 0) (rows_by lost file frames) to (omega arith) ends
+
+  -- the frames of items that follow end to end
+  pub items_end : (part : Region) (from : ℕ) (ps : List PlacedItem) (to : ℕ)
+      → AreEndToEnd part file from ps to → EndBy from (rows_by lost file (frames_of ps)) to
+  items_end part from [] to ends = omega (arith, ends)
+  items_end part from (p ∷ ps) to ends =
+      subst (λ n. EndBy n (rows_by lost file (frames_of (p ∷ ps))) to) ends.0
+      (end_more p.offset p.item (frames_of ps) to (item_of-is part file p.offset p.item ends.1).some
+      (items_end part (p.offset + size_of p.item) ps to ends.2))
+
+-- ---- the lost frame at an offset
+
+not_there : (lost other same : Bool) → same ≡ false → ((lost && same) || other) ≡ other
+not_there true other same is = ap (λ b. b || other) is
+not_there false other same is = refl
+
+there_alone : (lost other same : Bool) → same ≡ true → other ≡ false
+    → ((lost && same) || other) ≡ lost
+there_alone true other same is none = ap (λ b. b || other) is
+there_alone false other same is none = none
+
+none_lost : (rows : List Row) (at : ℕ) → AreRising (suc at) rows → is_lost_at rows at ≡ false
+none_lost [] at rise = refl
+none_lost (r ∷ rows) at rise =
+    not_there r.lost (is_lost_at rows at) (r.offset == at)
+    (ne_eqb r.offset at (λ e. omega (arith, e, rise.0)))
+    ∙ none_lost rows at (rising_less (suc at) (suc r.offset) rows (omega (arith, rise.0)) rise.1)
+
+lost_get : (from : ℕ) (rows : List Row) (i : ℕ) (r : Row) → AreRising from rows
+    → slice_get rows i ≡ Some r → is_lost_at rows r.offset ≡ r.lost
+lost_get from [] i r rise is = absurd cc
+lost_get from (q ∷ rows) zero r rise is =
+    let same : q ≡ r = cc in
+    subst (λ (x : Row). is_lost_at (q ∷ rows) x.offset ≡ x.lost) same
+    (there_alone q.lost (is_lost_at rows q.offset) (q.offset == q.offset)
+    (eq-eqb q.offset q.offset refl) (none_lost rows q.offset rise.1))
+lost_get from (q ∷ rows) (suc i) r rise is =
+    let behind = rising_get (suc q.offset) rows i r rise.1 is in
+    not_there q.lost (is_lost_at rows r.offset) (q.offset == r.offset)
+    (ne_eqb q.offset r.offset (λ e. omega (arith, e, behind)))
+    ∙ lost_get (suc q.offset) rows i r rise.1 is
+
+-- ---- marked frames
+
+each_rising : (head : Option Head) (all : List Row) (n from : ℕ) (rows : List Row)
+    → AreRising from rows
+    → AreRising from (map (λ (p : ℕ × Row). marked_row head all p.0 p.1) (enumerate_from n rows))
+each_rising head all n from [] rise = tt
+each_rising head all n from (r ∷ rows) rise =
+    (rise.0, each_rising head all (n + 1) (suc r.offset) rows rise.1)
+
+-- marks don't change their order
+pub marked_rising : (head : Option Head) (from : ℕ) (rows : List Row) → AreRising from rows
+    → AreRising from (marked_rows head rows)
+unfolding marked_rows
+marked_rising head from rows rise = each_rising head rows 0 from rows rise
+
+each_get : (head : Option Head) (all : List Row) (n : ℕ) (rows : List Row) (i : ℕ) (r : Row)
+    → slice_get rows i ≡ Some r
+    → slice_get (map (λ (p : ℕ × Row). marked_row head all p.0 p.1) (enumerate_from n rows)) i
+    ≡ Some (marked_row head all (n + i) r)
+each_get head all n [] i r is = absurd cc
+each_get head all n (q ∷ rows) zero r is =
+    let same : q ≡ r = cc in
+    ap₂ (λ m (x : Row). Some (marked_row head all m x)) (omega arith) same
+each_get head all n (q ∷ rows) (suc i) r is =
+    each_get head all (n + 1) rows i r is ∙ ap (λ m. Some (marked_row head all m r)) (omega arith)
+
+marked_get : (head : Option Head) (rows : List Row) (i : ℕ) (r : Row) → slice_get rows i ≡ Some r
+    → slice_get (marked_rows head rows) i ≡ Some (marked_row head rows i r)
+unfolding marked_rows
+marked_get head rows i r is =
+    each_get head rows 0 rows i r is ∙ ap (λ m. Some (marked_row head rows m r)) (zero-add i)
+
+-- frame i is lost exactly if a lost frame of them is at its offset
+pub lost-at : (head : Option Head) (from : ℕ) (rows : List Row) → AreRising from rows
+    → (i : ℕ) (r : Row) → slice_get rows i ≡ Some r
+    → is_lost_at (marked_rows head rows) r.offset ≡ is_lost head rows i r
+lost-at head from rows rise i r is =
+    lost_get from (marked_rows head rows) i (marked_row head rows i r)
+    (marked_rising head from rows rise) (marked_get head rows i r is)
+
+by_each : (lost : ℕ → Bool) (file : List ℕ) (head : Option Head) (all : List Row) (n : ℕ)
+    (ps : List PlacedFrame) → ((i : ℕ) (r : Row) → slice_get (rows_of file ps) i ≡ Some r
+    → lost r.offset ≡ is_lost head all (n + i) r)
+    → map (λ (p : ℕ × Row). marked_row head all p.0 p.1) (enumerate_from n (rows_of file ps))
+    ≡ rows_by lost file ps
+by_each lost file head all n [] each = refl
+by_each lost file head all n (p ∷ ps) each =
+    let none : n + 0 ≡ n = omega arith in
+    let here : lost p.offset ≡ is_lost head all n (row_of file p) =
+    each 0 (row_of file p) refl ∙ ap (λ m. is_lost head all m (row_of file p)) none in
+    ap₂ (λ (b : Bool) (l : List Row). record (row_of file p) { lost = b } ∷ l) (sym here)
+    (by_each lost file head all (n + 1) ps
+    (λ i r is. each (suc i) r is ∙ ap (λ m. is_lost head all m r) (omega arith)))
+
+-- the marks of the rows are those of the offsets of lost frames
+pub marked-by : (file : List ℕ) (head : Option Head) (from : ℕ) (ps : List PlacedFrame)
+    → AreRising from (rows_of file ps) → marked_rows head (rows_of file ps)
+    ≡ rows_by (is_lost_at (marked_rows head (rows_of file ps))) file ps
+unfolding marked_rows
+marked-by file head from ps rise =
+    by_each (is_lost_at (marked_rows head (rows_of file ps))) file head (rows_of file ps) 0 ps
+    (λ i r is. lost-at head from (rows_of file ps) rise i r is
+    ∙ ap (λ m. is_lost head (rows_of file ps) m r) (sym (zero-add i)))
+
+-- ---- the frames of a walk
+
+items_rising : (file : List ℕ) (part : Region) (from : ℕ) (ps : List PlacedItem) (to : ℕ)
+    → AreEndToEnd part file from ps to → AreRising from (rows_of file (frames_of ps))
+items_rising file part from ps to ends = end_rising from (rows_of file (frames_of ps)) to
+    (items_end (λ at. false) file part from ps to ends)
+
+numbered_rising : (file : List ℕ) (from : ℕ) (o : Option Head) (ps : List PlacedFrame)
+    → AreRising from (rows_of file ps) → AreRising from (rows_of file (numbered_frames o ps))
+numbered_rising file from (Some head) (p ∷ ps) rise =
+    rising_less from (suc p.offset) (rows_of file ps) (omega (arith, rise.0)) rise.1
+numbered_rising file from _ _ rise = rise
+
+-- the frames of a walk are in order
+pub walk_rising : (file : List ℕ) (start : Start) (o : Option Head) → AreRising start.first.offset
+    (rows_of file (numbered_frames o (frames_of (stream_run file start).items)))
+walk_rising file start o =
+    let stream = stream_run file start in
+    numbered_rising file start.first.offset o (frames_of stream.items) (items_rising file Stream
+    start.first.offset stream.items stream.stop (run-ends Stream file start.first.offset))

@@ -1,0 +1,205 @@
+-- A frame with moved gains: what it has in common with the frame, moved twice, and not at all.
+use Rattle.std.proofs.Common.{ap, arith, Bool, cond, drop, false, length, List, MatchBool, Ok, refl}
+use Rattle.std.proofs.Common.{suc, sym, take, true, zero, ℕ, ℤ, [], ◌++◌, ◌+◌, ◌-◌, ◌<◌, ◌∙◌, ◌≡◌}
+use Rattle.bit_fields.proofs.BitsLemmas.{AreBelow-append, AreBelow-drop, AreBelow-take}
+use Rattle.bit_fields.proofs.BitsLemmas.{AreBits-bits_of, AreBytes-bytes}
+use Rattle.bit_fields.specs.Bits.{AreBytes, bits_of, bytes}
+use Rattle.frame_header.proofs.{HeaderLemmas.IsClass-class_of, LengthLemmas.area_some}
+use Rattle.frame_header.specs.Fields.{ClassFields, HeaderFields, IsClass}
+use Rattle.frame_header.specs.Tables.{class_of, length_of, overhead_of, side_size_of}
+use Rattle.moved_gains.proofs.GainsLemmas.{SideFits-moved_side}
+use Rattle.moved_gains.proofs.MovedGainLemmas.{GainsFit, IsNoStep, IsShaped-moved, side_none}
+use Rattle.moved_gains.specs.Edited.{moved_frame, moved_frame_unless_lost}
+use Rattle.moved_gains.specs.Gains.{is_silent_granule, moved_gain, moved_granule, moved_side}
+use Rattle.moved_gains.specs.Gains.{moved_side_unless_lost}
+use Rattle.requests.specs.declared.shift.Steps.{Steps}
+use Rattle.side_info.proofs.FrameLemmas.{area-frame_with, fits-side_in, frame_with-own, HasRoom}
+use Rattle.side_info.proofs.FrameLemmas.{header-frame_with, IsRight, length-frame_with}
+use Rattle.side_info.proofs.FrameLemmas.{overhead-most, shaped-side_in, side_in-frame_with}
+use Rattle.side_info.proofs.FrameLemmas.{word_said-frame_with}
+use Rattle.side_info.proofs.LastBytesLemmas.{AreGranulesAlike, last_bytes-frame_with, last_granule}
+use Rattle.side_info.proofs.SideLemmas.{AreBits-side_bits, each_class, each_shaped, IsShaped}
+use Rattle.side_info.{proofs.SideLemmas.side_with, specs.CheckWord.check_word_of}
+use Rattle.side_info.specs.Frame.{crc_part, frame_with_side, side_in}
+use Rattle.side_info.specs.Granule.{GranuleFits, no_granule}
+use Rattle.side_info.specs.Side.{granule_in, has_granule, HasOtherGains, side_bits, SideFits}
+use Rattle.side_info.specs.declared.{granule.Granule.Granule, side.Side.Side}
+use Rattle.sync_survey.proofs.ItemBytesLemmas.{frame_item, header_front-four, IsItem}
+use Rattle.sync_survey.{proofs.ItemsLemmas.header_front-in_range, specs.Items.header_front}
+use Rattle.sync_survey.specs.declared.items.Item.TheVariants.{Frame}
+
+-- ---- the last two bytes of the side information
+
+-- a moved granule differs in no field but global_gain
+moved-alike : (steps : ℤ) (g : Granule) → AreGranulesAlike g (moved_granule steps g)
+moved-alike steps g = elim (is_silent_granule g) as (λ b. AreGranulesAlike g (cond b g
+    (record g { global_gain = moved_gain steps g.global_gain }))) [ true ↦ refl | false ↦ refl ]
+
+moved_granules : (steps : Steps) (m p a b : ℕ) (g h k l : Granule) (granule channel : ℕ)
+    → AreGranulesAlike (granule_in (side_with m p a b g h k l) granule channel)
+    (granule_in (moved_side steps (side_with m p a b g h k l)) granule channel)
+unfolding moved_side
+moved_granules steps m p a b g h k l zero zero = moved-alike steps.left g
+moved_granules steps m p a b g h k l zero (suc zero) = moved-alike steps.right h
+moved_granules steps m p a b g h k l zero (suc (suc channel)) = refl
+moved_granules steps m p a b g h k l (suc zero) zero = moved-alike steps.left k
+moved_granules steps m p a b g h k l (suc zero) (suc zero) = moved-alike steps.right l
+moved_granules steps m p a b g h k l (suc zero) (suc (suc channel)) = refl
+moved_granules steps m p a b g h k l (suc (suc granule)) channel = refl
+
+-- moved side information differs from its own in gains alone
+pub other_gains : (steps : Steps) (s : Side) → IsShaped s → HasOtherGains s (moved_side steps s)
+unfolding moved_side
+other_gains steps =
+    each_shaped (λ s. HasOtherGains s (moved_side steps s))
+    (λ m p a b g h k l. record {
+      main_data_begin = refl;
+      private_bits = refl;
+      scfsi = refl;
+      granules = moved_granules steps m p a b g h k l;
+    })
+
+-- nor does the last granule and channel of moved side information
+last_granule-moved : (steps : Steps) (c : ClassFields) → IsClass c → (s : Side)
+    → AreGranulesAlike (last_granule c s) (last_granule c (moved_side steps s))
+unfolding moved_side
+last_granule-moved steps =
+    each_class (λ c. (s : Side)
+    → AreGranulesAlike (last_granule c s) (last_granule c (moved_side steps s)))
+    (λ f s. moved-alike steps.left (granule_in s 1 0))
+    (λ f s. moved-alike steps.right (granule_in s 1 1))
+    (λ f s. moved-alike steps.left (granule_in s 0 0))
+    (λ f s. moved-alike steps.right (granule_in s 0 1))
+    (λ f channels two. two)
+
+-- moved gains leave a frame as it is from two bytes before its area on
+last_bytes-moved : (steps : Steps) (h : HeaderFields) (frame : List ℕ) → IsClass (class_of h)
+    → AreBytes frame → HasRoom h frame
+    → drop (overhead_of (class_of h) h.protected - 2) (moved_frame steps h frame)
+    ≡ drop (overhead_of (class_of h) h.protected - 2) frame
+last_bytes-moved steps h frame class all room =
+    let s = side_in h frame in
+    last_bytes-frame_with h (moved_side steps s) frame class all (IsShaped-moved steps s
+    (shaped-side_in h frame)) room (last_granule-moved steps (class_of h) class s)
+
+-- ---- a frame with other side information is bytes
+
+word_bytes : (h : HeaderFields) (s : Side) (b : Bool)
+    → AreBytes (cond b (bytes (bits_of 16 (check_word_of h s))) [])
+word_bytes h s true =
+    AreBytes-bytes (bits_of 16 (check_word_of h s)) (AreBits-bits_of 16 (check_word_of h s))
+word_bytes h s false = tt
+
+frame_bytes : (h : HeaderFields) (s : Side) (frame : List ℕ) → AreBytes frame
+    → AreBytes (frame_with_side h s frame)
+unfolding frame_with_side
+frame_bytes h s frame all =
+    let side = bytes (side_bits (class_of h) s) in
+    let rest = drop (overhead_of (class_of h) h.protected) frame in
+    AreBelow-append 256 (take 4 frame) (crc_part h s ++ (side ++ rest))
+    (AreBelow-take 256 4 frame all)
+    (AreBelow-append 256 (crc_part h s) (side ++ rest) (word_bytes h s h.protected)
+    (AreBelow-append 256 side rest
+    (AreBytes-bytes (side_bits (class_of h) s) (AreBits-side_bits (class_of h) s))
+    (AreBelow-drop 256 (overhead_of (class_of h) h.protected) frame all)))
+
+-- ---- a whole frame
+
+-- a frame with this header that is whole
+pub record IsWhole (h : HeaderFields) (frame : List ℕ) : Type 0 where
+  pub header : header_front frame ≡ Ok h
+  pub size : length frame ≡ length_of (class_of h) h.slot
+  pub all : AreBytes frame
+
+-- a whole frame is of a class of the standard
+pub whole_class : (h : HeaderFields) (frame : List ℕ) → IsWhole h frame → IsClass (class_of h)
+whole_class h frame whole = IsClass-class_of h (header_front-in_range frame h whole.header)
+
+-- it has room for side information, and more behind it
+pub whole_room : (h : HeaderFields) (frame : List ℕ) → IsWhole h frame
+    → (HasRoom h frame) × (6 + side_size_of (class_of h) < length frame)
+whole_room h frame whole =
+    let fields = header_front-in_range frame h whole.header in
+    let some = area_some (class_of h) h.slot (IsClass-class_of h fields) fields.slot in (
+      omega (arith, some, whole.size, overhead-most (class_of h) h.protected),
+      omega (arith, some, whole.size),
+    )
+
+-- ---- with moved gains
+
+-- what it has in common with the frame, its side information, and that its
+-- check word is right, if a lost frame, which stays, has the right one
+pub record IsMoved (lost : Bool) (steps : Steps) (h : HeaderFields)
+    (frame new : List ℕ) : Type 0 where
+  pub whole : IsWhole h new
+  pub same_end : drop (overhead_of (class_of h) h.protected - 2) new
+      ≡ drop (overhead_of (class_of h) h.protected - 2) frame
+  pub same_area : drop (overhead_of (class_of h) h.protected) new
+      ≡ drop (overhead_of (class_of h) h.protected) frame
+  pub side : side_in h new ≡ moved_side_unless_lost lost steps (side_in h frame)
+  pub right : (lost ≡ true → IsRight h frame) → IsRight h new
+
+-- with moved gains it is whole, and has its header, its length and its area
+pub moved_whole : (lost : Bool) (steps : Steps) (h : HeaderFields) (frame : List ℕ)
+    → IsWhole h frame → IsMoved lost steps h frame (moved_frame_unless_lost lost steps h frame)
+moved_whole true steps h frame whole = record {
+  whole = whole;
+  same_end = refl;
+  same_area = refl;
+  side = refl;
+  right = λ was. was refl;
+}
+moved_whole false steps h frame whole =
+    let s = moved_side steps (side_in h frame) in
+    let class = whole_class h frame whole in
+    let room = (whole_room h frame whole).0 in
+    let shaped = IsShaped-moved steps (side_in h frame) (shaped-side_in h frame) in
+    let fits =
+    SideFits-moved_side (class_of h) steps (side_in h frame) (fits-side_in h frame class) in
+    let side : side_in h (frame_with_side h s frame) ≡ s =
+    side_in-frame_with h s frame class shaped fits room in
+    record {
+      whole = record {
+        header =
+            header_front-four (frame_with_side h s frame) frame (header-frame_with h s frame room)
+            ∙ whole.header;
+        size = length-frame_with h s frame class shaped room ∙ whole.size;
+        all = frame_bytes h s frame whole.all;
+      };
+      same_end = last_bytes-moved steps h frame class whole.all room;
+      same_area = area-frame_with h s frame class shaped room;
+      side = side;
+      right = λ was protected. word_said-frame_with h s frame protected room
+          ∙ ap (check_word_of h) (sym side);
+    }
+
+-- it is an item of its own
+pub whole_item : (h : HeaderFields) (frame : List ℕ) → IsWhole h frame → IsItem (Frame h) frame
+whole_item h frame whole =
+    frame_item h frame whole.header whole.size (omega (arith, (whole_room h frame whole).1))
+
+-- a gain that fits is below 256
+pub gain_fits : (c : ClassFields) (has : Bool) (g : Granule)
+    → MatchBool has (GranuleFits c.version g) (g ≡ no_granule) → g.global_gain < 256
+gain_fits c true g fits = omega (arith, fits.global_gain)
+gain_fits c false g none = omega (arith, ap (λ (h : Granule). h.global_gain) none)
+
+-- so are all gains of side information that fits
+pub gains_fit : (c : ClassFields) (s : Side) → SideFits c s → GainsFit s
+gains_fit c s fits = record {
+  first = gain_fits c (has_granule c 0 0) (granule_in s 0 0) (fits.granules 0 0);
+  second = gain_fits c (has_granule c 0 1) (granule_in s 0 1) (fits.granules 0 1);
+  third = gain_fits c (has_granule c 1 0) (granule_in s 1 0) (fits.granules 1 0);
+  fourth = gain_fits c (has_granule c 1 1) (granule_in s 1 1) (fits.granules 1 1);
+}
+
+-- moved by no step, a frame with the right check word stays
+pub frame_none : (steps : Steps) → IsNoStep steps → (h : HeaderFields) (frame : List ℕ)
+    → IsWhole h frame → IsRight h frame → moved_frame steps h frame ≡ frame
+frame_none steps none h frame whole right =
+    let s = side_in h frame in
+    let class = whole_class h frame whole in
+    let room = (whole_room h frame whole).0 in
+    ap (λ t. frame_with_side h t frame) (side_none steps none s (shaped-side_in h frame)
+    (gains_fit (class_of h) s (fits-side_in h frame class)))
+    ∙ frame_with-own h frame class whole.all room right

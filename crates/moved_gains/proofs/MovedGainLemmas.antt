@@ -1,0 +1,383 @@
+-- Gains that are moved: twice, not at all, and what they leave.
+use Rattle.std.proofs.Common.{ap, ap₂, arith, Bool, cond, false, flat_map, List, map, negsuc, None}
+use Rattle.std.proofs.Common.{not, Option, pos, refl, Some, suc, sym, take, true, unsigned_abs, ℕ}
+use Rattle.std.proofs.Common.{ℤ, ◌+ℤ◌, [], ◌%◌, ◌&&◌, ◌*◌, ◌+◌, ◌-◌, ◌/◌, ◌<◌, ◌==◌, ◌||◌, ◌∙◌, ◌∷◌}
+use Rattle.std.proofs.{Common.◌≡◌, Math.IntN.{+ℤ_assoc, +ℤ_idr}}
+use Rattle.std.proofs.lemmas.{Bool.{false≢true, ltb-false}, Int.{int_rem_euclid_is, ints}}
+use Rattle.std.specs.{Int.int_rem_euclid, Option.option_or}
+use Rattle.frame_header.specs.{Fields.HeaderFields, Tables.granules_of}
+use Rattle.frame_header.specs.declared.version.Version.{Version, TheVariants.{One, Two, TwoFive}}
+use Rattle.moved_gains.specs.Gains.{gain_out_of_range, is_out_of_range, is_silent_granule}
+use Rattle.moved_gains.specs.Gains.{moved_gain, moved_granule, moved_side, moved_side_unless_lost}
+use Rattle.moved_gains.specs.{Gains.side_out_of_range, declared.gains.OutOfRange.OutOfRange}
+use Rattle.requests.specs.declared.shift.Steps.{Steps}
+use Rattle.side_info.proofs.SideLemmas.{each_shaped, IsShaped, side_with}
+use Rattle.side_info.specs.Side.{granule_in, granules_in, payload_bits, payload_bytes}
+use Rattle.side_info.specs.declared.{granule.Granule.Granule, side.Side.Side}
+use Rattle.sync_survey.specs.MainData.{granule_lengths}
+
+-- ---- one gain
+
+abbrev pub rem : ℤ → ℕ
+rem z = unsigned_abs (int_rem_euclid z (pos 256))
+
+-- the remainder of a sum depends on that of its first part
+rem_sum : (z b : ℤ) → rem (pos (rem z) +ℤ b) ≡ rem (z +ℤ b)
+rem_sum (pos n) (pos m) = omega arith
+rem_sum (pos n) (negsuc m) =
+    ap unsigned_abs (int_rem_euclid_is (pos (n % 256) +ℤ negsuc m) (pos 256) 256 (suc m)
+    (n % 256 + 255 * suc m) (omega arith) refl (omega (arith, ints)))
+    ∙ omega arith
+    ∙ ap unsigned_abs (sym (int_rem_euclid_is (pos n +ℤ negsuc m) (pos 256) 256 (suc m)
+    (n + 255 * suc m) (omega arith) refl (omega (arith, ints))))
+rem_sum (negsuc n) (pos m) =
+    omega arith
+    ∙ ap unsigned_abs (sym (int_rem_euclid_is (negsuc n +ℤ pos m) (pos 256) 256 (suc n)
+    (m + 255 * suc n) (omega arith) refl (omega (arith, ints))))
+rem_sum (negsuc n) (negsuc m) =
+    ap unsigned_abs (int_rem_euclid_is (pos (255 - n % 256) +ℤ negsuc m) (pos 256) 256 (suc m)
+    (255 - n % 256 + 255 * suc m) (omega arith) refl (omega (arith, ints)))
+    ∙ omega arith
+    ∙ ap unsigned_abs (sym (int_rem_euclid_is (negsuc n +ℤ negsuc m) (pos 256) 256
+    (suc (suc (n + m))) (254 + 255 * (n + m) + 256) (omega arith) refl (omega (arith, ints))))
+
+-- moved twice is moved by the sum
+gain_twice : (a b : ℤ) (gain : ℕ) → moved_gain b (moved_gain a gain) ≡ moved_gain (a +ℤ b) gain
+gain_twice a b gain = rem_sum (pos gain +ℤ a) b ∙ ap rem (+ℤ_assoc (pos gain) a b)
+
+-- a gain is its own remainder of 256
+pub gain_as_is : (n : ℕ) → n < 256 → rem (pos n) ≡ n
+gain_as_is n small = omega arith
+
+gain_none : (gain : ℕ) → gain < 256 → moved_gain (pos 0) gain ≡ gain
+gain_none gain small = ap rem (+ℤ_idr (pos gain)) ∙ gain_as_is gain small
+
+-- a sum within the range is a gain
+pub record IsGain (sum : ℤ) : Type 0 where
+  pub gain : ℕ
+  pub is : sum ≡ pos gain
+  pub small : gain < 256
+
+-- a sum that isn't outside the range is a gain
+pub within : (sum : ℤ) → is_out_of_range sum ≡ false → IsGain sum
+within (pos n) inside =
+    record { gain = n; is = refl; small = omega (arith, ltb-false 255 n inside) }
+within (negsuc n) inside = absurd (false≢true (sym inside))
+
+-- if the first sum is within the range, the second is the sum of all
+gain_next : (a b : ℤ) (gain : ℕ) → is_out_of_range (pos gain +ℤ a) ≡ false
+    → is_out_of_range (pos (moved_gain a gain) +ℤ b) ≡ is_out_of_range (pos gain +ℤ (a +ℤ b))
+gain_next a b gain inside =
+    let sum = within (pos gain +ℤ a) inside in
+    let to : pos (moved_gain a gain) ≡ pos gain +ℤ a =
+    ap (λ z. pos (rem z)) sum.is ∙ ap pos (gain_as_is sum.gain sum.small) ∙ sym sum.is in
+    ap (λ z. is_out_of_range (z +ℤ b)) to ∙ ap is_out_of_range (+ℤ_assoc (pos gain) a b)
+
+-- ---- one granule
+
+moved-silent : (steps : ℤ) (g : Granule) → is_silent_granule g ≡ true → moved_granule steps g ≡ g
+moved-silent steps g silent =
+    ap (λ b. cond b g (record g { global_gain = moved_gain steps g.global_gain })) silent
+
+-- a granule that isn't silent gets the moved gain, and keeps all other fields
+pub moved-loud : (steps : ℤ) (g : Granule) → is_silent_granule g ≡ false
+    → moved_granule steps g ≡ record g { global_gain = moved_gain steps g.global_gain }
+moved-loud steps g loud =
+    ap (λ b. cond b g (record g { global_gain = moved_gain steps g.global_gain })) loud
+
+-- the gain would leave the range
+abbrev pub is_stuck : ℤ → Granule → Bool
+is_stuck steps g = not (is_silent_granule g) && is_out_of_range (pos g.global_gain +ℤ steps)
+
+granule_twice : (a b : ℤ) (g : Granule)
+    → moved_granule b (moved_granule a g) ≡ moved_granule (a +ℤ b) g
+granule_twice a b g = by_silence (is_silent_granule g) refl
+  where
+    by_silence : (silent : Bool) → is_silent_granule g ≡ silent
+        → moved_granule b (moved_granule a g) ≡ moved_granule (a +ℤ b) g
+    by_silence true silent =
+        ap (moved_granule b) (moved-silent a g silent) ∙ moved-silent b g silent
+        ∙ sym (moved-silent (a +ℤ b) g silent)
+    by_silence false loud =
+        let h : Granule = record g { global_gain = moved_gain a g.global_gain } in
+        ap (moved_granule b) (moved-loud a g loud)
+        ∙ moved-loud b h loud
+        ∙ ap (λ n. record g { global_gain = n }) (gain_twice a b g.global_gain)
+        ∙ sym (moved-loud (a +ℤ b) g loud)
+
+granule_none : (g : Granule) → g.global_gain < 256 → moved_granule (pos 0) g ≡ g
+granule_none g small = by_silence (is_silent_granule g) refl
+  where
+    by_silence : (silent : Bool) → is_silent_granule g ≡ silent → moved_granule (pos 0) g ≡ g
+    by_silence true silent = moved-silent (pos 0) g silent
+    by_silence false loud = moved-loud (pos 0) g loud
+        ∙ ap (λ n. record g { global_gain = n }) (gain_none g.global_gain small)
+
+-- after a change by which it doesn't leave the range, a gain
+-- leaves it by another exactly if it does by both together
+pub granule_next : (a b all : ℤ) → all ≡ a +ℤ b → (g : Granule) → is_stuck a g ≡ false
+    → is_stuck b (moved_granule a g) ≡ is_stuck all g
+granule_next a b all sum g first =
+    by_silence (is_silent_granule g) refl ∙ ap (λ z. is_stuck z g) (sym sum)
+  where
+    by_silence : (silent : Bool) → is_silent_granule g ≡ silent
+        → is_stuck b (moved_granule a g) ≡ is_stuck (a +ℤ b) g
+    by_silence true silent =
+        ap (is_stuck b) (moved-silent a g silent)
+        ∙ ap (λ s. not s && is_out_of_range (pos g.global_gain +ℤ b)) silent
+        ∙ sym (ap (λ s. not s && is_out_of_range (pos g.global_gain +ℤ (a +ℤ b))) silent)
+    by_silence false loud =
+        let h : Granule = record g { global_gain = moved_gain a g.global_gain } in
+        ap (is_stuck b) (moved-loud a g loud)
+        ∙ ap (λ s. not s && is_out_of_range (pos h.global_gain +ℤ b)) loud
+        ∙ gain_next a b
+        g.global_gain (sym (ap (λ s. not s && is_out_of_range (pos g.global_gain +ℤ a)) loud)
+        ∙ first)
+        ∙ sym (ap (λ s. not s && is_out_of_range (pos g.global_gain +ℤ (a +ℤ b))) loud)
+
+moved-payload : (steps : ℤ) (g : Granule)
+    → (moved_granule steps g).part2_3_length ≡ g.part2_3_length
+moved-payload steps g = elim (is_silent_granule g) as (λ b. (cond b g (record g {
+  global_gain = moved_gain steps g.global_gain;
+})).part2_3_length ≡ g.part2_3_length) [ true ↦ refl | false ↦ refl ]
+
+-- ---- the gains of a frame
+
+-- one change and then another
+abbrev pub sum_of : Steps → Steps → Steps
+sum_of a b = record { left = a.left +ℤ b.left; right = a.right +ℤ b.right; wrap = a.wrap || b.wrap }
+
+twice-with : (one two : Steps) (m p a b : ℕ) (g h k l : Granule)
+    → moved_side two (moved_side one (side_with m p a b g h k l))
+    ≡ moved_side (sum_of one two) (side_with m p a b g h k l)
+unfolding moved_side
+twice-with one two m p a b g h k l =
+    let gt = granule_twice one.left two.left g in
+    let ht = granule_twice one.right two.right h in
+    let kt = granule_twice one.left two.left k in
+    let lt = granule_twice one.right two.right l in
+    λ i. side_with m p a b (gt i) (ht i) (kt i) (lt i)
+
+-- moved by one change and then by another is moved by their sum
+pub side_twice : (one two : Steps) (s : Side) → IsShaped s
+    → moved_side two (moved_side one s) ≡ moved_side (sum_of one two) s
+side_twice one two s shaped = each_shaped (λ t. moved_side two (moved_side one t)
+    ≡ moved_side (sum_of one two) t) (twice-with one two) s shaped
+
+-- the gains are within their bits
+pub record GainsFit (s : Side) : Type 0 where
+  pub first : (granule_in s 0 0).global_gain < 256
+  pub second : (granule_in s 0 1).global_gain < 256
+  pub third : (granule_in s 1 0).global_gain < 256
+  pub fourth : (granule_in s 1 1).global_gain < 256
+
+-- no step at all
+abbrev pub IsNoStep : Steps → Type 0
+IsNoStep steps = (steps.left ≡ pos 0) × (steps.right ≡ pos 0)
+
+abbrev NoneGoal : Steps → Side → Type 0
+NoneGoal steps s = GainsFit s → moved_side steps s ≡ s
+
+none-with : (steps : Steps) → IsNoStep steps → (m p a b : ℕ) (g h k l : Granule)
+    → NoneGoal steps (side_with m p a b g h k l)
+unfolding moved_side
+none-with steps none m p a b g h k l fits =
+    let left : (x : Granule) → x.global_gain < 256 → moved_granule steps.left x ≡ x =
+    λ x small. ap (λ z. moved_granule z x) none.0 ∙ granule_none x small in
+    let right : (x : Granule) → x.global_gain < 256 → moved_granule steps.right x ≡ x =
+    λ x small. ap (λ z. moved_granule z x) none.1 ∙ granule_none x small in
+    λ i. side_with m p a b (left g fits.first i) (right h fits.second i) (left k fits.third i)
+    (right l fits.fourth i)
+
+-- moved by no step, it stays
+pub side_none : (steps : Steps) → IsNoStep steps → (s : Side) → IsShaped s → GainsFit s
+    → moved_side steps s ≡ s
+side_none steps none s shaped = each_shaped (NoneGoal steps) (none-with steps none) s shaped
+
+free_of : (b : Bool) (stuck : OutOfRange) → cond b (Some stuck) None ≡ None → b ≡ false
+free_of true stuck e = absurd cc
+free_of false stuck e = refl
+
+none_of : (b : Bool) (stuck : OutOfRange) → b ≡ false → cond b (Some stuck) None ≡ None
+none_of b stuck e = ap (λ a. cond a (Some stuck) None) e
+
+none_each : (a b : Option OutOfRange) → option_or a b ≡ None → (a ≡ None) × (b ≡ None)
+none_each None b e = (refl, e)
+none_each (Some x) b e = absurd cc
+
+none_both : (a b : Option OutOfRange) → a ≡ None → b ≡ None → option_or a b ≡ None
+none_both a b p q = ap₂ option_or p q
+
+-- the four gains stay within the range
+pub record AreFree (left right : ℤ) (g h k l : Granule) : Type 0 where
+  pub first : is_stuck left g ≡ false
+  pub second : is_stuck right h ≡ false
+  pub third : is_stuck left k ≡ false
+  pub fourth : is_stuck right l ≡ false
+
+module _ (steps : Steps) (m p a b : ℕ) (g h k l : Granule) where
+  -- where no gain is stuck, each of the four is free to move
+  pub free-parts : steps.wrap ≡ false → side_out_of_range steps (side_with m p a b g h k l) ≡ None
+      → AreFree steps.left steps.right g h k l
+  unfolding side_out_of_range
+  free-parts strict free =
+      let s = side_with m p a b g h k l in
+      let all = none_each (gain_out_of_range steps.left s 0 0)
+      (option_or (gain_out_of_range steps.right s 0 1)
+      (option_or (gain_out_of_range steps.left s 1 0) (gain_out_of_range steps.right s 1 1)))
+      (sym (ap (λ w. cond w None
+      (option_or (gain_out_of_range steps.left s 0 0)
+      (option_or (gain_out_of_range steps.right s 0 1)
+      (option_or (gain_out_of_range steps.left s 1 0) (gain_out_of_range steps.right s 1 1)))))
+      strict) ∙ free) in
+      let behind = none_each (gain_out_of_range steps.right s 0 1)
+      (option_or (gain_out_of_range steps.left s 1 0) (gain_out_of_range steps.right s 1 1))
+      all.1 in
+      let last = none_each (gain_out_of_range steps.left s 1 0)
+      (gain_out_of_range steps.right s 1 1) behind.1 in
+      record {
+        first = free_of _ _ all.0;
+        second = free_of _ _ behind.0;
+        third = free_of _ _ last.0;
+        fourth = free_of _ _ last.1;
+      }
+
+  -- and where each of the four is free, none is stuck
+  pub free-whole : AreFree steps.left steps.right g h k l → steps.wrap ≡ false
+      → side_out_of_range steps (side_with m p a b g h k l) ≡ None
+  unfolding side_out_of_range
+  free-whole free strict =
+      let s = side_with m p a b g h k l in
+      ap (λ w. cond w None
+      (option_or (gain_out_of_range steps.left s 0 0)
+      (option_or (gain_out_of_range steps.right s 0 1)
+      (option_or (gain_out_of_range steps.left s 1 0) (gain_out_of_range steps.right s 1 1)))))
+      strict
+      ∙ none_both _ _ (none_of _ _ free.first) (none_both _ _ (none_of _ _ free.second)
+      (none_both _ _ (none_of _ _ free.third) (none_of _ _ free.fourth)))
+
+  -- the gains of each granule and channel move by the steps of the channel
+  pub moved_with : moved_side steps (side_with m p a b g h k l) ≡ side_with m p a b
+      (moved_granule steps.left g) (moved_granule steps.right h) (moved_granule steps.left k)
+      (moved_granule steps.right l)
+  unfolding moved_side
+  moved_with = refl
+
+  payload-with : payload_bits (moved_side steps (side_with m p a b g h k l))
+      ≡ payload_bits (side_with m p a b g h k l)
+  unfolding payload_bits moved_side
+  payload-with =
+      let gp = moved-payload steps.left g in
+      let hp = moved-payload steps.right h in
+      let kp = moved-payload steps.left k in
+      let lp = moved-payload steps.right l in
+      λ i. 0 + (0 + gp i + hp i) + (0 + kp i + lp i)
+
+-- with wrapping none is ever stuck
+pub wrapped-free : (steps : Steps) (s : Side) → steps.wrap ≡ true → side_out_of_range steps s ≡ None
+unfolding side_out_of_range
+wrapped-free steps s wraps =
+    ap (λ w. cond w None
+    (option_or (gain_out_of_range steps.left s 0 0) (option_or (gain_out_of_range steps.right s 0
+    1)
+    (option_or (gain_out_of_range steps.left s 1 0) (gain_out_of_range steps.right s 1 1))))) wraps
+
+abbrev ThenGoal : Steps → Steps → Steps → Side → Type 0
+ThenGoal one two all s =
+    side_out_of_range one s ≡ None → side_out_of_range all s ≡ None
+    → side_out_of_range two (moved_side one s) ≡ None
+
+then-with : (one two all : Steps) → one.wrap ≡ false → two.wrap ≡ false → all.wrap ≡ false
+    → all.left ≡ one.left +ℤ two.left → all.right ≡ one.right +ℤ two.right
+    → (m p a b : ℕ) (g h k l : Granule) → ThenGoal one two all (side_with m p a b g h k l)
+then-with one two all strict_one strict_two strict_all left right m p a b g h k l first whole =
+    let f = free-parts one m p a b g h k l strict_one first in
+    let w = free-parts all m p a b g h k l strict_all whole in
+    let on_left = granule_next one.left two.left all.left left in
+    let on_right = granule_next one.right two.right all.right right in
+    ap (side_out_of_range two) (moved_with one m p a b g h k l)
+    ∙ free-whole two m p a b (moved_granule one.left g) (moved_granule one.right h)
+    (moved_granule one.left k)
+    (moved_granule one.right l)
+    (record {
+      first = on_left g f.first ∙ w.first;
+      second = on_right h f.second ∙ w.second;
+      third = on_left k f.third ∙ w.third;
+      fourth = on_right l f.fourth ∙ w.fourth;
+    })
+    strict_two
+
+-- if no gain leaves the range by one change nor by both together, none
+-- leaves it by the other change after the one; with wrap none ever does
+pub side_then : (one two all : Steps) (s : Side) → IsShaped s → two.wrap ≡ one.wrap || all.wrap
+    → all.left ≡ one.left +ℤ two.left → all.right ≡ one.right +ℤ two.right → side_out_of_range one s
+    ≡ None → side_out_of_range all s ≡ None → side_out_of_range two (moved_side one s) ≡ None
+side_then one two all s shaped wraps left right first whole = by_wrap one.wrap all.wrap refl refl
+  where
+    by_wrap : (v w : Bool) → one.wrap ≡ v → all.wrap ≡ w
+        → side_out_of_range two (moved_side one s) ≡ None
+    by_wrap false false e d =
+        each_shaped (ThenGoal one two all) (then-with one two all e
+        (wraps ∙ ap₂ (λ (x y : Bool). x || y) e d) d left right) s shaped first whole
+    by_wrap _ _ e d = wrapped-free two (moved_side one s) (wraps ∙ ap₂ (λ (x y : Bool). x || y) e d)
+
+-- ---- what moved gains leave
+
+-- the main data have as many bits as before
+pub payload_bits-moved : (steps : Steps) (s : Side) → IsShaped s
+    → payload_bits (moved_side steps s) ≡ payload_bits s
+payload_bits-moved steps s shaped = each_shaped (λ t. payload_bits (moved_side steps t)
+    ≡ payload_bits t) (payload-with steps) s shaped
+
+-- the lists are as long as before
+pub IsShaped-moved : (steps : Steps) (s : Side) → IsShaped s → IsShaped (moved_side steps s)
+unfolding moved_side
+IsShaped-moved steps s shaped =
+    record { scfsi = shaped.scfsi; granules = refl; first = refl; second = refl }
+
+-- the same where a lost frame stays
+pub payload_bits-unless : (lost : Bool) (steps : Steps) (s : Side) → IsShaped s
+    → payload_bits (moved_side_unless_lost lost steps s) ≡ payload_bits s
+payload_bits-unless true steps s shaped = refl
+payload_bits-unless false steps s shaped = payload_bits-moved steps s shaped
+
+-- the main data have as many bytes as before, moved or lost
+pub payload-unless : (lost : Bool) (steps : Steps) (s : Side) → IsShaped s
+    → payload_bytes (moved_side_unless_lost lost steps s) ≡ payload_bytes s
+unfolding payload_bytes
+payload-unless lost steps s shaped = ap (λ n. (n + 7) / 8) (payload_bits-unless lost steps s shaped)
+
+-- and begin where they did
+pub begin-unless : (lost : Bool) (steps : Steps) (s : Side)
+    → (moved_side_unless_lost lost steps s).main_data_begin ≡ s.main_data_begin
+unfolding moved_side
+begin-unless true steps s = refl
+begin-unless false steps s = refl
+
+-- the lengths of the main data of each granule and channel that a class has
+abbrev lengths_of : Version → Bool → Side → List ℕ
+lengths_of version mono s = map (λ (g : Granule). g.part2_3_length)
+    (flat_map (take (cond mono 1 2)) (take (granules_of version) s.granules))
+
+lengths-with : (steps : Steps) (version : Version) (mono : Bool) (m p a b : ℕ) (g h k l : Granule)
+    → lengths_of version mono (moved_side steps (side_with m p a b g h k l))
+    ≡ lengths_of version mono (side_with m p a b g h k l)
+unfolding moved_side
+lengths-with steps One true m p a b g h k l =
+    λ i. moved-payload steps.left g i ∷ moved-payload steps.left k i ∷ []
+lengths-with steps One false m p a b g h k l =
+    λ i. moved-payload steps.left g i ∷ moved-payload steps.right h i ∷ moved-payload steps.left k i
+    ∷ moved-payload steps.right l i ∷ []
+lengths-with steps Two false m p a b g h k l =
+    λ i. moved-payload steps.left g i ∷ moved-payload steps.right h i ∷ []
+lengths-with steps TwoFive false m p a b g h k l =
+    λ i. moved-payload steps.left g i ∷ moved-payload steps.right h i ∷ []
+lengths-with steps _ true m p a b g h k l = λ i. moved-payload steps.left g i ∷ []
+
+-- the lengths of all parts of main data stay
+pub lengths-moved : (steps : Steps) (h : HeaderFields) (s : Side) → IsShaped s
+    → granule_lengths h (moved_side steps s) ≡ granule_lengths h s
+unfolding granules_in
+lengths-moved steps h s shaped =
+    each_shaped (λ t. lengths_of h.version (h.mode == 3) (moved_side steps t)
+    ≡ lengths_of h.version (h.mode == 3) t) (lengths-with steps h.version (h.mode == 3)) s shaped

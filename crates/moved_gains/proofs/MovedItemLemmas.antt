@@ -1,0 +1,147 @@
+-- Items of a file that are in another one, each at an offset that its own decides.
+use Rattle.std.proofs.Common.{ap, arith, drop, length, length-drop, List, map, Some, subst, sym}
+use Rattle.std.proofs.Common.{take, ℕ, [], ◌++◌, ◌+◌, ◌-◌, ◌<◌, ◌∙◌, ◌∷◌, ◌≡◌, ◌≤◌}
+use Rattle.std.{proofs.lemmas.List.{length-take, take-append-drop}, specs.List.cons_option}
+use Rattle.frame_header.specs.Fields.{IsHeader}
+use Rattle.sync_survey.proofs.ItemBytesLemmas.{IsItem, kept_item}
+use Rattle.sync_survey.proofs.ItemListLemmas.{frame_by, placed_by}
+use Rattle.sync_survey.proofs.ItemsLemmas.{header_front-in_range, stands-at}
+use Rattle.sync_survey.proofs.RunsLemmas.{item_of-is, item_of-whole}
+use Rattle.sync_survey.specs.Items.{item_at, item_front, size_of}
+use Rattle.sync_survey.specs.Runs.{AreEndToEnd, frame_of_item, frames_of, PlacedItem, whole_item_at}
+use Rattle.sync_survey.specs.{Walk.frame_bytes, declared.items.Item.Item}
+use Rattle.sync_survey.specs.declared.items.Item.TheVariants.{Frame, Free}
+use Rattle.sync_survey.specs.declared.{places.PlacedFrame.PlacedFrame, runs.Region.Region}
+use Rattle.sync_survey.specs.declared.runs.Region.TheVariants.{Stream}
+
+-- ---- one item
+
+there : (own at : ℕ) (item : Item) (file : List ℕ) (bytes : List ℕ) → IsItem item bytes
+    → take own (drop at file) ≡ bytes → item_at file at ≡ item
+unfolding item_at
+there own at item file bytes is same =
+    ap item_front (sym (take-append-drop own (drop at file))
+    ∙ ap (λ l. l ++ drop own (drop at file)) same) ∙ is.known (drop own (drop at file))
+
+-- a whole item is where its bytes are
+pub item-moved : (file new : List ℕ) (at place : ℕ) (item : Item) → whole_item_at Stream file at
+    ≡ Some item → take (size_of item) (drop place new) ≡ take (size_of item) (drop at file)
+    → whole_item_at Stream new place ≡ Some item
+item-moved file new at place item is same =
+    let here = item_of-is Stream file at item is in
+    let size = size_of item in
+    let own = take size (drop at file) in
+    let kept : IsItem item own = kept_item file at item here.is here.belongs here.within in
+    item_of-whole Stream new place item (there size place item new own kept same) here.belongs
+    (omega (
+      arith,
+      ap length same,
+      kept.size,
+      here.some,
+      length-take size (drop place new),
+      length-drop place new,
+    ))
+
+-- ---- several
+
+-- the bytes of the file between two offsets are in the other one, where their offsets are then
+pub record IsMovedTo (to : ℕ → ℕ) (file new : List ℕ) (from end at : ℕ) : Type 0 where
+  pub place : (x : ℕ) → from ≤ x → x < end → to x ≡ at + (x - from)
+  pub same : (x k : ℕ) → from ≤ x → x < end → x + k ≤ end
+      → take k (drop (to x) new) ≡ take k (drop x file)
+
+module _ (to : ℕ → ℕ) (file new : List ℕ) where
+  -- so far after the first offset
+  behind : (from end at size : ℕ) → IsMovedTo to file new from end at
+      → IsMovedTo to file new (from + size) end (at + size)
+  behind from end at size moved = record {
+    place = λ x low high. omega (arith, moved.place x (omega (arith, low)) high, low);
+    same = λ x k low high within. moved.same x k (omega (arith, low)) high within;
+  }
+
+  rises : (from : ℕ) (ps : List PlacedItem) (end : ℕ) → AreEndToEnd Stream file from ps end
+      → from ≤ end
+  rises from [] end ends = omega (arith, ends)
+  rises from (p ∷ ps) end ends =
+      omega (arith, ends.0, rises (p.offset + size_of p.item) ps end ends.2)
+
+  -- items end to end are so there
+  pub ends-moved : (from : ℕ) (ps : List PlacedItem) (end at : ℕ)
+      → AreEndToEnd Stream file from ps end → IsMovedTo to file new from end at
+      → AreEndToEnd Stream new at (map (placed_by to) ps) (at + (end - from))
+  ends-moved from [] end at ends moved = omega (arith, ends)
+  ends-moved from (p ∷ ps) end at ends moved =
+      let size = size_of p.item in
+      let some = (item_of-is Stream file p.offset p.item ends.1).some in
+      let rise = rises (p.offset + size) ps end ends.2 in
+      let high : p.offset < end = omega (arith, some, rise) in
+      let place : to p.offset ≡ at =
+      omega (arith, moved.place p.offset (omega (arith, ends.0)) high, ends.0) in
+      let here = item-moved file new p.offset (to p.offset)
+      p.item ends.1 (moved.same p.offset size (omega (arith, ends.0)) high rise) in
+      let next : IsMovedTo to file new (p.offset + size) end (at + size) = subst (λ n. IsMovedTo to
+      file new (n + size) end (at + size)) (sym ends.0) (behind from end at size moved) in
+      let last : (at + size) + (end - (p.offset + size)) ≡ at + (end - from) =
+      omega (arith, ends.0, rise) in (
+        place,
+        here,
+        subst (λ n. AreEndToEnd Stream new (to p.offset + size) (map (placed_by to) ps) n) last
+            (subst (λ n. AreEndToEnd Stream new (n + size) (map (placed_by to) ps)
+            ((at + size) + (end - (p.offset + size)))) (sym place)
+            (ends-moved (p.offset + size) ps end (at + size) ends.2 next)),
+      )
+
+  -- the bytes of a frame are the same there
+  pub record IsKept (p : PlacedFrame) : Type 0 where
+    pub header : IsHeader p.header
+    pub bytes : frame_bytes new (frame_by to p) ≡ frame_bytes file p
+
+  abbrev pub AreKept : List PlacedFrame → Type 0
+  AreKept [] = Unit {0}
+  AreKept (p ∷ ps) = IsKept p × AreKept ps
+
+  -- frames that are kept, and others, are kept together
+  pub kept-append : (ps qs : List PlacedFrame) → AreKept ps → AreKept qs → AreKept (ps ++ qs)
+  kept-append [] qs kept more = more
+  kept-append (p ∷ ps) qs kept more = (kept.0, kept-append ps qs kept.1 more)
+
+  kept_more : (at : ℕ) (item : Item) (frames : List PlacedFrame) → whole_item_at Stream file at
+      ≡ Some item → take (size_of item) (drop (to at) new) ≡ take (size_of item) (drop at file)
+      → AreKept frames → AreKept (cons_option (frame_of_item at item) frames)
+  kept_more at (Frame h) frames is same kept =
+      let here = item_of-is Stream file at (Frame h) is in (
+        record {
+          header = header_front-in_range (drop at file) h (stands-at file at (Frame h) here.is);
+          bytes = same;
+        },
+        kept,
+      )
+  kept_more at Free frames is same kept = kept
+  kept_more at _ frames is same kept = kept
+
+  -- the frames of items that are elsewhere in another file are kept there
+  pub frames-kept : (from : ℕ) (ps : List PlacedItem) (end at : ℕ)
+      → AreEndToEnd Stream file from ps end → IsMovedTo to file new from end at
+      → AreKept (frames_of ps)
+  frames-kept from [] end at ends moved = tt
+  frames-kept from (p ∷ ps) end at ends moved =
+      let size = size_of p.item in
+      let some = (item_of-is Stream file p.offset p.item ends.1).some in
+      let rise = rises (p.offset + size) ps end ends.2 in
+      let high : p.offset < end = omega (arith, some, rise) in
+      let next : IsMovedTo to file new (p.offset + size) end (at + size) = subst (λ n. IsMovedTo to
+      file new (n + size) end (at + size)) (sym ends.0) (behind from end at size moved) in
+      kept_more p.offset p.item (frames_of ps)
+      ends.1 (moved.same p.offset size (omega (arith, ends.0)) high rise)
+      (frames-kept (p.offset + size) ps end (at + size) ends.2 next)
+
+-- ---- one list after another
+
+-- items end to end, and more from their end on, are end to end together
+pub ends-append : (part : Region) (file : List ℕ) (from : ℕ) (ps : List PlacedItem) (mid : ℕ)
+    (qs : List PlacedItem) (end : ℕ) → AreEndToEnd part file from ps mid
+    → AreEndToEnd part file mid qs end → AreEndToEnd part file from (ps ++ qs) end
+ends-append part file from [] mid qs end ends more =
+    subst (λ n. AreEndToEnd part file n qs end) (sym ends) more
+ends-append part file from (p ∷ ps) mid qs end ends more =
+    (ends.0, ends.1, ends-append part file (p.offset + size_of p.item) ps mid qs end ends.2 more)

@@ -1,0 +1,272 @@
+-- What is written is the edited file.
+use Rattle.std.proofs.Common.{ap, append-nil, append_assoc, ap₂, arith, Bool, cond, drop, length}
+use Rattle.std.proofs.Common.{length-append, length-drop, List, None, Ok, Option, option_to_list}
+use Rattle.std.proofs.Common.{refl, Some, subst, sym, take, take-append-drop, ℕ, [], ◌++◌, ◌+◌, ◌-◌}
+use Rattle.std.proofs.{Common.{◌∙◌, ◌∷◌, ◌≡◌, ◌≤◌}, Math.Seq.take-add}
+use Rattle.std.proofs.lemmas.List.{drop-drop, take_all, take_at}
+use Rattle.frame_header.specs.{Fields.HeaderFields, Tables.{class_of, length_of}}
+use Rattle.moved_gains.proofs.EditedItemLemmas.{moved-cons, moved-nil}
+use Rattle.moved_gains.proofs.FoundTagLemmas.{survey_of-surveyed}
+use Rattle.moved_gains.proofs.LostOffsetLemmas.{EndBy, items_end, marked-by, rows_by, walk_rising}
+use Rattle.moved_gains.proofs.WholeFileLemmas.{front_end-is}
+use Rattle.moved_gains.specs.Edited.{edited_file, is_lost_at, moved_frame_unless_lost, moved_item}
+use Rattle.moved_gains.specs.{Edited.{moved_items, moved_stream}, Gains.moved_side}
+use Rattle.moved_gains.specs.Moving.{AreRowsOf, moved_row_bytes, row_end}
+use Rattle.outside.specs.Pass.{bytes_between}
+use Rattle.requests.specs.declared.shift.Steps.{Steps}
+use Rattle.side_info.{proofs.FrameLemmas.side_in-take, specs.Frame.{frame_with_side, side_in}}
+use Rattle.side_info.specs.declared.side.Side.{Side}
+use Rattle.sync_survey.proofs.ItemListLemmas.{ends-within}
+use Rattle.sync_survey.proofs.ItemsLemmas.{header_front-in_range, stands-at}
+use Rattle.sync_survey.proofs.RunsLemmas.{bytes-ends, cons_list, IsItemOf, item_of-is, run-ends}
+use Rattle.sync_survey.proofs.StartLemmas.{start-first, start-front}
+use Rattle.sync_survey.proofs.SurveyLemmas.{overhead-within, surveyed-is, walked}
+use Rattle.sync_survey.specs.Faults.{fields_from, survey_fields, SurveyFields}
+use Rattle.sync_survey.specs.{Items.{item_at, size_of}, MainData.{marked_rows, rows_of}, Row.Row}
+use Rattle.sync_survey.specs.Runs.{AreEndToEnd, bytes_of_items, frame_of_item, frames_of}
+use Rattle.sync_survey.specs.{Runs.{item_bytes_in, item_run, PlacedItem}, Survey.survey_of}
+use Rattle.sync_survey.specs.{Walk.{numbered_frames, stream_run}, declared.items.Item.Item}
+use Rattle.sync_survey.specs.declared.{items.Item.TheVariants.Frame, places.Head.Head}
+use Rattle.sync_survey.specs.declared.places.{PlacedFrame.PlacedFrame, Start.Start}
+use Rattle.sync_survey.specs.declared.runs.Region.{Region, TheVariants.{Front, Stream}}
+
+-- the bytes of the file from one offset up to another, with the gains
+-- of these frames moved, which are between the two in their order
+abbrev pub moved_to : (ℕ → Steps) → List ℕ → ℕ → ℕ → List Row → List ℕ
+moved_to steps file at to [] = bytes_between file at to
+moved_to steps file at to (row ∷ rows) = bytes_between file at row.offset
+    ++ (moved_row_bytes (steps row.offset) file row ++ moved_to steps file (row_end row) to rows)
+
+-- those up to the end of the file
+abbrev pub moved_from : (ℕ → Steps) → List ℕ → ℕ → List Row → List ℕ
+moved_from steps file at rows = moved_to steps file at (length file) rows
+
+-- without more frames the rest of the file is left
+pub moved_from-nil : (steps : ℕ → Steps) (file : List ℕ) (at : ℕ)
+    → moved_from steps file at [] ≡ drop at file
+moved_from-nil steps file at =
+    take_all (length file - at) (drop at file) (omega (arith, length-drop at file))
+
+-- the first of these frames is at this offset or after it
+abbrev pub IsBehind : ℕ → List Row → Type 0
+IsBehind at [] = Unit {0}
+IsBehind at (row ∷ rows) = at ≤ row.offset
+
+-- bytes before the first frame stay
+pub moved_from-later : (steps : ℕ → Steps) (file : List ℕ) (at size : ℕ) (rows : List Row)
+    → IsBehind (at + size) rows → moved_from steps file at rows
+    ≡ take size (drop at file) ++ moved_from steps file (at + size) rows
+moved_from-later steps file at size [] behind =
+    moved_from-nil steps file at
+    ∙ sym (take-append-drop size (drop at file))
+    ∙ ap (λ (l : List ℕ). take size (drop at file) ++ l)
+    (drop-drop size at file ∙ sym (moved_from-nil steps file (at + size)))
+moved_from-later steps file at size (row ∷ rows) behind =
+    let rest =
+    moved_row_bytes (steps row.offset) file row ++ moved_from steps file (row_end row) rows in
+    let sum : row.offset - at ≡ size + (row.offset - (at + size)) = omega (arith, behind) in
+    ap (λ n. take n (drop at file) ++ rest) sum
+    ∙ ap (λ (l : List ℕ). l ++ rest) (take-add size (row.offset - (at + size)) (drop at file)
+    ∙ ap (λ (l : List ℕ). take size (drop at file) ++ take (row.offset - (at + size)) l)
+    (drop-drop size at file))
+    ∙ append_assoc (take size (drop at file)) (bytes_between file (at + size) row.offset) rest
+
+-- ---- the items one after another
+
+-- frames behind an offset are behind any earlier one
+pub behind_earlier : (at later : ℕ) (rows : List Row) → at ≤ later → IsBehind later rows
+    → IsBehind at rows
+behind_earlier at later [] le behind = tt
+behind_earlier at later (row ∷ rows) le behind = omega (arith, le, behind)
+
+-- frames that follow each other from an offset on are behind it
+pub is_behind : (at : ℕ) (rows : List Row) (to : ℕ) → EndBy at rows to → IsBehind at rows
+is_behind at [] to ends = tt
+is_behind at (row ∷ rows) to ends = ends.0
+
+-- the frames of items that follow end to end
+frames_behind : (lost : ℕ → Bool) (file : List ℕ) (part : Region) (ps : List PlacedItem)
+    (from to : ℕ) → AreEndToEnd part file from ps to
+    → IsBehind from (rows_by lost file (frames_of ps))
+frames_behind lost file part ps from to e =
+    is_behind from (rows_by lost file (frames_of ps)) to (items_end lost file part from ps to e)
+
+abbrev item_bytes : List ℕ → ℕ → Item → List ℕ
+item_bytes file at item = take (size_of item) (drop at file)
+
+-- an item that isn't a frame
+kept : (steps : ℕ → Steps) (lost : ℕ → Bool) (file : List ℕ) (frames : List PlacedFrame) (at : ℕ)
+    (item : Item) → IsBehind (at + size_of item) (rows_by lost file frames)
+    → moved_from steps file at (rows_by lost file frames) ≡ item_bytes file at item
+    ++ moved_from steps file (at + size_of item) (rows_by lost file frames)
+kept steps lost file frames at item behind =
+    moved_from-later steps file at (size_of item) (rows_by lost file frames) behind
+
+module _ (steps : ℕ → Steps) (lost : ℕ → Bool) (part : Region) (file : List ℕ)
+    (frames : List PlacedFrame) (at : ℕ) where
+  -- a frame
+  frame_step : (h : HeaderFields) → IsItemOf part file at (Frame h)
+      → moved_from steps file at (rows_by lost file (record { offset = at; header = h } ∷ frames))
+      ≡ moved_frame_unless_lost (lost at) (steps at) h (item_bytes file at (Frame h))
+      ++ moved_from steps file (at + size_of (Frame h)) (rows_by lost file frames)
+  frame_step h here =
+      let row : Row =
+      record { offset = at; header = h; side = side_in h (drop at file); lost = lost at } in
+      let len = length_of (class_of h) h.slot in
+      let room = overhead-within h
+      (header_front-in_range (drop at file) h (stands-at file at (Frame h) here.is)) in
+      let none : at - at ≡ 0 = omega arith in
+      ap (λ n. take n (drop at file) ++ (moved_row_bytes (steps row.offset) file row
+      ++ moved_from steps file (row_end row) (rows_by lost file frames))) none
+      ∙ ap (λ (s : Side). cond (lost at) (item_bytes file at (Frame h))
+      (frame_with_side h (moved_side (steps at) s) (item_bytes file at (Frame h)))
+      ++ moved_from steps file (at + len) (rows_by lost file frames))
+      (sym (side_in-take h len (drop at file) room))
+
+  item_step : (item : Item) → IsItemOf part file at item
+      → IsBehind (at + size_of item) (rows_by lost file frames) → moved_from steps file at
+      (rows_by lost file (option_to_list (frame_of_item at item) ++ frames))
+      ≡ moved_item (steps at) (lost at) item (item_bytes file at item)
+      ++ moved_from steps file (at + size_of item) (rows_by lost file frames)
+  item_step (Frame h) here behind = frame_step h here
+  item_step item here behind = kept steps lost file frames at item behind
+
+-- items that follow end to end are written as the moved items
+pub moved_from-items : (steps : ℕ → Steps) (lost : ℕ → Bool) (part : Region) (file : List ℕ)
+    (ps : List PlacedItem) (from to : ℕ) → AreEndToEnd part file from ps to
+    → moved_from steps file from (rows_by lost file (frames_of ps))
+    ≡ moved_items steps lost file ps ++ drop to file
+moved_from-items steps lost part file [] from to e =
+    moved_from-nil steps file from ∙ ap (λ n. drop n file) e
+    ∙ ap (λ (l : List ℕ). l ++ drop to file) (sym (moved-nil steps lost file))
+moved_from-items steps lost part file (p ∷ ps) from to e =
+    let here = item_of-is part file p.offset p.item e.1 in
+    let next = p.offset + size_of p.item in
+    ap₂ (λ n (l : List PlacedFrame). moved_from steps file n (rows_by lost file l)) (sym e.0)
+    (cons_list (frame_of_item p.offset p.item) (frames_of ps))
+    ∙ item_step steps lost part file (frames_of ps) p.offset p.item here
+    (frames_behind lost file part ps next to e.2)
+    ∙ ap (λ (l : List ℕ). moved_item (steps p.offset) (lost p.offset) p.item (item_bytes_in file p)
+    ++ l)
+    (moved_from-items steps lost part file ps next to e.2)
+    ∙ sym (append_assoc (moved_item (steps p.offset) (lost p.offset) p.item (item_bytes_in file p))
+    (moved_items steps lost file ps) (drop to file))
+    ∙ ap (λ (l : List ℕ). l ++ drop to file) (sym (moved-cons steps lost file p ps))
+
+-- ---- the stream
+
+whole : (steps : ℕ → Steps) (lost : ℕ → Bool) (file : List ℕ) (ps : List PlacedItem) (from to : ℕ)
+    → AreEndToEnd Stream file from ps to → drop to file ≡ []
+    → moved_from steps file from (rows_by lost file (frames_of ps)) ≡ moved_items steps lost file ps
+whole steps lost file ps from to e nothing =
+    moved_from-items steps lost Stream file ps from to e
+    ∙ ap (λ (l : List ℕ). moved_items steps lost file ps ++ l) nothing
+    ∙ append-nil (moved_items steps lost file ps)
+
+-- after the head, where the first frame is one
+behind_head : (steps : ℕ → Steps) (lost : ℕ → Bool) (file : List ℕ) (head : Option Head)
+    (ps : List PlacedItem) (from to : ℕ) (h : HeaderFields) → AreEndToEnd Stream file from ps to
+    → drop to file ≡ [] → item_at file from ≡ Frame h
+    → moved_from steps file from (rows_by lost file (numbered_frames head (frames_of ps)))
+    ≡ moved_stream steps lost file head ps
+behind_head steps lost file None ps from to h e nothing first =
+    whole steps lost file ps from to e nothing
+behind_head steps lost file (Some head) [] from to h e nothing first =
+    moved_from-nil steps file from ∙ ap (λ n. drop n file) e ∙ nothing
+    ∙ sym (moved-nil steps lost file)
+behind_head steps lost file (Some head) (p ∷ ps) from to h e nothing first =
+    let here = item_of-is Stream file p.offset p.item e.1 in
+    let is : p.item ≡ Frame h = sym here.is ∙ ap (item_at file) e.0 ∙ first in
+    let size = size_of p.item in
+    let one : drop 1 (frames_of (p ∷ ps)) ≡ frames_of ps =
+    ap (drop 1) (cons_list (frame_of_item p.offset p.item) (frames_of ps)
+    ∙ ap (λ i. option_to_list (frame_of_item p.offset i) ++ frames_of ps) is) in
+    ap₂ (λ n l. moved_from steps file n (rows_by lost file l)) (sym e.0) one
+    ∙ moved_from-later steps file p.offset size (rows_by lost file (frames_of ps))
+    (frames_behind lost file Stream ps (p.offset + size) to e.2)
+    ∙ ap₂ (λ (l m : List ℕ). l ++ m) (sym (append-nil (item_bytes_in file p)))
+    (whole steps lost file ps (p.offset + size) to e.2 nothing)
+
+-- ---- the front
+
+-- the items of the front are the bytes up to their end
+front_bytes : (file : List ℕ)
+    → bytes_of_items file (item_run Front file 0).items ≡ take (item_run Front file 0).stop file
+front_bytes file =
+    let r = item_run Front file 0 in
+    let all = bytes-ends Front file 0 r.items r.stop (run-ends Front file 0) in
+    let within = ends-within Front file 0 r.items r.stop (run-ends Front file 0) (omega arith) in
+    let long : length (bytes_of_items file r.items) ≡ r.stop = omega (
+      arith,
+      ap length all,
+      length-append (bytes_of_items file r.items) (drop r.stop file),
+      length-drop r.stop file,
+      within,
+    ) in
+    sym (take_at (bytes_of_items file r.items) (drop r.stop file) r.stop long)
+    ∙ ap (take r.stop) all
+
+-- ---- the whole file
+
+-- the bytes up to the junk, and those from the first frame on with moved gains, are the edited file
+pub written-edited : (steps : ℕ → Steps) (file : List ℕ) (allowed : ℕ) (s : SurveyFields)
+    → survey_fields file allowed ≡ Ok s
+    → take s.junk file ++ moved_from steps file s.first s.frames ≡ edited_file steps file s
+unfolding edited_file
+written-edited steps file allowed s e =
+    let is = surveyed-is file allowed s e in
+    let walk = walked file allowed s is in
+    let first = start-first file is.start is.begins in
+    let junk : s.junk ≡ (item_run Front file 0).stop =
+    walk.junk_is ∙ start-front file is.start is.begins ∙ front_end-is file in
+    let lost = is_lost_at s.frames in
+    let marks : s.frames
+    ≡ rows_by lost file (numbered_frames s.head (frames_of (stream_run file is.start).items)) =
+    walk.frames_are
+    ∙ marked-by file s.head is.start.first.offset (numbered_frames s.head
+    (frames_of (stream_run file is.start).items)) (walk_rising file is.start s.head)
+    ∙ ap (λ rs. rows_by (is_lost_at rs) file
+    (numbered_frames s.head (frames_of (stream_run file is.start).items))) (sym walk.frames_are) in
+    let moved : moved_from steps file s.first s.frames
+    ≡ moved_stream steps lost file s.head (item_run Stream file s.first).items =
+    ap₂ (moved_from steps file) walk.first_is marks
+    ∙ behind_head steps lost file s.head (stream_run file is.start).items is.start.first.offset
+    (stream_run file is.start).stop is.start.first.header
+    (run-ends Stream file is.start.first.offset) walk.nothing_behind first.frame.is
+    ∙ ap (λ n. moved_stream steps lost file s.head (item_run Stream file n).items)
+    (sym walk.first_is) in
+    ap₂ (λ (l m : List ℕ). l ++ m) (ap (λ n. take n file) junk ∙ sym (front_bytes file)) moved
+
+-- ---- frames one after the other
+
+-- ---- a survey over a folder
+
+fields-length : (file : List ℕ) (start : Start) → (fields_from file start).length ≡ length file
+unfolding fields_from
+fields-length file start = refl
+
+-- a survey says how long the file is
+pub survey_of-length : (file : List ℕ) (allowed : ℕ) (s : SurveyFields)
+    → survey_of file allowed ≡ Ok s → length file ≡ s.length
+survey_of-length file allowed s e =
+    let is = surveyed-is file allowed s (survey_of-surveyed file allowed s e) in
+    sym (fields-length file is.start) ∙ ap (λ (t : SurveyFields). t.length) is.fields_are
+
+-- ---- the rows are those of the file
+
+are_rows : (lost : ℕ → Bool) (file : List ℕ) (frames : List PlacedFrame)
+    → AreRowsOf file (rows_by lost file frames)
+are_rows lost file [] = tt
+are_rows lost file (p ∷ ps) = (refl, are_rows lost file ps)
+
+-- and its rows are those of frames in the file
+pub survey_of-rows : (file : List ℕ) (allowed : ℕ) (s : SurveyFields)
+    → survey_of file allowed ≡ Ok s → AreRowsOf file s.frames
+survey_of-rows file allowed s e =
+    let is = surveyed-is file allowed s (survey_of-surveyed file allowed s e) in
+    let walk = walked file allowed s is in
+    let frames = numbered_frames s.head (frames_of (stream_run file is.start).items) in
+    let marks =
+    marked-by file s.head is.start.first.offset frames (walk_rising file is.start s.head) in
+    subst (AreRowsOf file) (sym (walk.frames_are ∙ marks))
+    (are_rows (is_lost_at (marked_rows s.head (rows_of file frames))) file frames)

@@ -1,0 +1,321 @@
+-- The survey of a file with another tag, and its stream.
+use Rattle.std.proofs.Common.{ap, ap₂, arith, cond, drop, false, filter, inl, inr, length, List}
+use Rattle.std.proofs.Common.{map, None, Ok, Option, option_map, option_to_list, refl, Some, subst}
+use Rattle.std.proofs.Common.{sym, take, ℕ, [], ◌++◌, ◌+◌, ◌-◌, ◌==◌, ◌∙◌, ◌∷◌, ◌≡◌, ◌≤◌}
+use Rattle.std.proofs.lemmas.{Bool.ne_eqb, List.{drop_all, map-append, take_all}}
+use Rattle.moved_gains.proofs.CleanFileLemmas.{blocks-append, frames-is, items, items-blocks}
+use Rattle.moved_gains.proofs.CleanFileLemmas.{items-frames, rest, split}
+use Rattle.moved_gains.proofs.FoundTagLemmas.{tag-there}
+use Rattle.moved_gains.proofs.MovedItemLemmas.{AreKept, ends-append, ends-moved, frames-kept}
+use Rattle.moved_gains.proofs.MovedItemLemmas.{item-moved, kept-append}
+use Rattle.moved_gains.proofs.MovedRowLemmas.{end_fault-by, head-by, head_by, main-by, marked-by}
+use Rattle.moved_gains.proofs.MovedRowLemmas.{no_faults-by, numbered-by, row_by, rows-by, stream-by}
+use Rattle.moved_gains.proofs.SplitBlockLemmas.{blocks-before, blocks-behind, blocks-stay, IsOld}
+use Rattle.moved_gains.proofs.{SplitBlockLemmas.items-begin, SplitItemLemmas.IsSplit}
+use Rattle.moved_gains.proofs.TagReadingLemmas.{place-some}
+use Rattle.moved_gains.proofs.TaggedByteLemmas.{front-moved, later-moved, new-length, new-own}
+use Rattle.moved_gains.proofs.TaggedByteLemmas.{stays}
+use Rattle.moved_gains.proofs.WholeFileLemmas.{clean, clean-start, IsClean, start_with}
+use Rattle.moved_gains.specs.TagPlace.{file_with_tag, IsTagBytes, new_blocks, retagged_fields}
+use Rattle.moved_gains.specs.TagPlace.{retagged_offset, stands_before, stands_behind, tag_block}
+use Rattle.moved_gains.specs.TagPlace.{tag_length, tag_offset}
+use Rattle.sync_survey.proofs.ItemListLemmas.{blocks-by, ends-rise, frame_by, frames-by, piece_by}
+use Rattle.sync_survey.proofs.{ItemListLemmas.placed_by, OneItemLemmas.stands-only_at}
+use Rattle.sync_survey.proofs.RunsLemmas.{frames-append, item_of-whole}
+use Rattle.sync_survey.proofs.SurveyPartsLemmas.{frames_from, IsRead, surveyed-parts, surveyed-told}
+use Rattle.sync_survey.proofs.SurveyPartsLemmas.{told_from}
+use Rattle.sync_survey.specs.Faults.{all_faults, class_from, stream_of_survey, survey_fields}
+use Rattle.sync_survey.specs.{Faults.SurveyFields, Items.item_at}
+use Rattle.sync_survey.specs.{MainData.{main_bytes, marked_rows, rows_of, stream_frames}, Row.Row}
+use Rattle.sync_survey.specs.Runs.{AreEndToEnd, blocks_of, frames_of, PlacedItem, whole_item_at}
+use Rattle.sync_survey.specs.Walk.{all_blocks, end_fault, fault_at, head_of, numbered_frames}
+use Rattle.sync_survey.specs.{Walk.stream_run, declared.items.Item.TheVariants.{Block, End}}
+use Rattle.sync_survey.specs.declared.places.{Head.Head, Piece.Piece, PlacedFrame.PlacedFrame}
+use Rattle.sync_survey.specs.declared.{places.Start.Start, runs.Region.TheVariants.Stream}
+use Rattle.tag_blocks.proofs.BlocksLemmas.{block_front-least}
+use Rattle.tag_blocks.specs.declared.block.{Block.Block as TagBlock, Kind.TheVariants.Ape}
+
+numbered-kept : (to : ℕ → ℕ) (file new : List ℕ) (o : Option Head) (frames : List PlacedFrame)
+    → AreKept to file new frames → AreKept to file new (numbered_frames o frames)
+numbered-kept to file new (Some head) (p ∷ ps) kept = kept.1
+numbered-kept to file new _ _ kept = kept
+
+-- ---- the new tag among the items
+
+-- the block of the new tag
+abbrev ape : ℕ → TagBlock
+ape n = record { kind = Ape; length = n }
+
+-- the new tag's items at an offset, their blocks, and that they have no frames
+record IsNewTag (new : List ℕ) (at n : ℕ) (blocks : List Piece) : Type 0 where
+  own : List PlacedItem
+  ends : AreEndToEnd Stream new at own (at + n)
+  frames_none : frames_of own ≡ []
+  blocks_are : blocks_of own ≡ blocks
+
+abbrev blocks_at : ℕ → ℕ → List Piece
+blocks_at at n = cond (n == 0) [] (record { offset = at; block = ape n } ∷ [])
+
+new_tag : (new bytes : List ℕ) (at : ℕ) → take (length bytes) (drop at new) ≡ bytes
+    → IsTagBytes bytes → IsNewTag new at (length bytes) (blocks_at at (length bytes))
+new_tag new bytes at there (inl none) =
+    let long : length bytes ≡ 0 = ap length none in
+    subst (λ n. IsNewTag new at n (blocks_at at n)) (sym long)
+    (record { own = []; ends = omega arith; frames_none = refl; blocks_are = refl })
+new_tag new bytes at there (inr is) =
+    let n = length bytes in
+    let least = block_front-least bytes (ape n) is in
+    let whole : whole_item_at Stream bytes 0 ≡ Some (Block (ape n)) = item_of-whole Stream bytes 0
+    (Block (ape n)) (sym (stands-only_at bytes 0 (Block (ape n)) is)) refl (omega arith) in
+    let all : take n (drop 0 bytes) ≡ bytes = take_all n bytes (omega arith) in
+    let here = item-moved bytes new 0 at (Block (ape n)) whole (there ∙ sym all) in
+    let some : (n == 0) ≡ false = ne_eqb n 0 (λ e. omega (arith, e, least)) in
+    record {
+      own = record { offset = at; item = Block (ape n) } ∷ [];
+      ends = (refl, here, refl);
+      frames_none = refl;
+      blocks_are = sym (rw some refl);
+    }
+
+module _ (file : List ℕ) (allowed : ℕ) (start : Start) (read : IsRead file allowed start)
+    (no_junk : start.front_end ≡ start.first.offset) (bytes : List ℕ) (are : IsTagBytes bytes) where
+  abbrev s : SurveyFields
+  s = told_from file start
+
+  abbrev n : ℕ
+  n = length bytes
+
+  abbrev new : List ℕ
+  new = file_with_tag bytes s file
+
+  abbrev to : ℕ → ℕ
+  to = retagged_offset n s
+
+  abbrev cut : ℕ
+  cut = tag_offset s
+
+  abbrev gone : ℕ
+  gone = tag_length s
+
+  abbrev head : Option Head
+  head = head_of file start.first
+
+  abbrev all : List PlacedFrame
+  all = start.first ∷ rest file allowed start read no_junk
+
+  abbrev parts : IsSplit file (items file allowed start read no_junk) 0 cut (cut + gone)
+      (length file) (option_to_list (tag_block s))
+  parts = split file allowed start read no_junk
+
+  -- the tag is within the file
+  pub room : cut + gone ≤ length file
+  room = ends-rise Stream file (cut + gone) parts.rest (length file) parts.behind
+
+  tag : IsNewTag new cut n (blocks_at cut n)
+  tag = new_tag new bytes cut (new-own bytes file s room) are
+
+  -- ---- the items of the new file
+
+  abbrev before : List PlacedItem
+  before = map (placed_by to) parts.front
+
+  abbrev behind : List PlacedItem
+  behind = map (placed_by to) parts.rest
+
+  abbrev new_items : List PlacedItem
+  new_items = before ++ (tag.own ++ behind)
+
+  new_ends : AreEndToEnd Stream new 0 new_items (length new)
+  new_ends =
+      let low =
+      ends-moved to file new 0 parts.front cut 0 parts.before (front-moved bytes file s room) in
+      let high = ends-moved to file new (cut + gone) parts.rest (length file)
+      (cut + n) parts.behind (later-moved bytes file s room) in
+      let mid : 0 + (cut - 0) ≡ cut = omega arith in
+      let end : (cut + n) + (length file - (cut + gone)) ≡ length new =
+      omega (arith, new-length bytes file s room, room) in
+      ends-append Stream new 0 before cut (tag.own ++ behind) (length new)
+      (subst (λ m. AreEndToEnd Stream new 0 before m) mid low)
+      (ends-append Stream new cut tag.own (cut + n) behind
+      (length new) tag.ends (subst (λ m. AreEndToEnd Stream new (cut + n) behind m) end high))
+
+  old_frames : frames_of parts.front ++ frames_of parts.rest ≡ all
+  old_frames = sym parts.frames ∙ items-frames file allowed start read no_junk
+
+  new_frames : frames_of new_items ≡ map (frame_by to) all
+  new_frames =
+      frames-append before (tag.own ++ behind)
+      ∙ ap₂ (λ (a b : List PlacedFrame). a ++ b) (frames-by to parts.front) (frames-append tag.own
+      behind ∙ ap₂ (λ (a b : List PlacedFrame). a ++ b) tag.frames_none (frames-by to parts.rest))
+      ∙ sym (map-append (frame_by to) (frames_of parts.front) (frames_of parts.rest))
+      ∙ ap (map (frame_by to)) old_frames
+
+  kept : AreKept to file new all
+  kept =
+      subst (AreKept to file new) old_frames
+      (kept-append to file new (frames_of parts.front) (frames_of parts.rest)
+      (frames-kept to file new 0 parts.front cut 0 parts.before (front-moved bytes file s room))
+      (frames-kept to file new (cut + gone) parts.rest (length file)
+      (cut + n) parts.behind (later-moved bytes file s room)))
+
+  -- ---- the blocks
+
+  is_old : (o : Option Piece) → tag_block s ≡ o → IsOld s o
+  is_old None is = tt
+  is_old (Some b) is =
+      let place = place-some s b is in
+      let there = tag-there file allowed s b (surveyed-told file allowed start read) is in
+      let least = block_front-least _ _ there.front in
+      (sym place.0, omega (arith, place.1, least, there.long))
+
+  old_blocks : s.blocks
+      ≡ blocks_of parts.front ++ (option_to_list (tag_block s) ++ blocks_of parts.rest)
+  old_blocks = sym (items-blocks file allowed start read no_junk) ∙ parts.blocks
+
+  -- the blocks before the tag are those of the first items
+  pub before_is : filter (stands_before s) s.blocks ≡ blocks_of parts.front
+  before_is =
+      ap (filter (stands_before s)) old_blocks
+      ∙ blocks-before s (blocks_of parts.front) (blocks_of parts.rest) (tag_block s) (length file)
+      (items-begin file 0 parts.front cut parts.before) (items-begin file
+      (cut + gone) parts.rest (length file) parts.behind) (is_old (tag_block s) refl)
+
+  behind_is : filter (stands_behind s) s.blocks ≡ blocks_of parts.rest
+  behind_is =
+      ap (filter (stands_behind s)) old_blocks
+      ∙ blocks-behind s (blocks_of parts.front) (blocks_of parts.rest) (tag_block s) (length file)
+      (items-begin file 0 parts.front cut parts.before) (items-begin file
+      (cut + gone) parts.rest (length file) parts.behind) (is_old (tag_block s) refl)
+
+  new_blocks_are : blocks_of new_items ≡ filter (stands_before s) s.blocks
+      ++ (new_blocks n s ++ map (piece_by to) (filter (stands_behind s) s.blocks))
+  new_blocks_are =
+      let front = blocks-by to parts.front ∙ blocks-stay to 0 cut (blocks_of parts.front)
+      (items-begin file 0 parts.front cut parts.before) (stays bytes file s room) in
+      blocks-append before (tag.own ++ behind)
+      ∙ ap₂ (λ (a b : List Piece). a ++ b) (front ∙ sym before_is)
+      (blocks-append tag.own behind ∙ ap₂ (λ (a b : List Piece). a ++ b)
+      tag.blocks_are (blocks-by to parts.rest ∙ ap (map (piece_by to)) (sym behind_is)))
+
+  -- ---- the walk over the new file
+
+  abbrev first : PlacedFrame
+  first = frame_by to start.first
+
+  abbrev new_start : Start
+  new_start = start_with first
+
+  new_clean : IsClean new 0 first (map (frame_by to) (rest file allowed start read no_junk))
+      (blocks_of new_items)
+  new_clean = clean new 0 new_items first
+      (map (frame_by to) (rest file allowed start read no_junk)) new_ends new_frames
+
+  new_head : head_of new first ≡ option_map (head_by to) head
+  new_head = head-by to file new start.first kept.0
+
+  new_numbered : frames_from new new_start ≡ map (frame_by to) (frames_from file start)
+  new_numbered =
+      ap₂ numbered_frames new_head new_clean.frames
+      ∙ numbered-by to head all
+      ∙ ap (map (frame_by to)) (sym (frames-is file allowed start read no_junk))
+
+  numbered_kept : AreKept to file new (frames_from file start)
+  numbered_kept = subst (AreKept to file new) (sym (frames-is file allowed start read no_junk))
+      (numbered-kept to file new head all kept)
+
+  new_rows : rows_of new (frames_from new new_start)
+      ≡ map (row_by to) (rows_of file (frames_from file start))
+  new_rows =
+      ap (rows_of new) new_numbered ∙ rows-by to file new (frames_from file start) numbered_kept
+
+  no_faults : all_faults new (head_of new first) (class_from new_start) allowed
+      (rows_of new (frames_from new new_start)) ≡ []
+  no_faults =
+      ap₂ (λ (o : Option Head) (rs : List Row). all_faults new o (class_from start) allowed rs)
+      new_head new_rows
+      ∙ no_faults-by to file new head (class_from start) allowed
+      (frames_from file start) numbered_kept read.frames
+
+  whole_end : end_fault new (frames_from new new_start)
+      (fault_at (stream_run new new_start).stop (item_at new (stream_run new new_start).stop))
+      ≡ None
+  whole_end =
+      let stop : (stream_run new new_start).stop ≡ length new = new_clean.stop in
+      let nothing : drop (stream_run new new_start).stop new ≡ [] =
+      drop_all (stream_run new new_start).stop new (omega (arith, stop)) in
+      let ended : fault_at
+      (stream_run new new_start).stop (item_at new (stream_run new new_start).stop) ≡ None =
+      ap (fault_at (stream_run new new_start).stop)
+      (sym (stands-only_at new (stream_run new new_start).stop End nothing)) in
+      ap₂ (end_fault new) new_numbered ended
+      ∙ end_fault-by file new to (frames_from file start) _ read.end
+
+  new_read : IsRead new allowed new_start
+  new_read =
+      record { start_is = clean-start new first _ _ new_clean; frames = no_faults; end = whole_end }
+
+  -- ---- what its survey tells
+
+  new_told : told_from new new_start ≡ retagged_fields n s
+  unfolding retagged_fields
+  new_told =
+      let rows : marked_rows (head_of new first) (rows_of new (frames_from new new_start))
+      ≡ map (row_by to) (marked_rows head (rows_of file (frames_from file start))) =
+      ap₂ marked_rows new_head new_rows
+      ∙ marked-by to head (rows_of file (frames_from file start)) in
+      let blocks : all_blocks new new_start ≡ filter (stands_before s) s.blocks
+      ++ (new_blocks n s ++ map (piece_by to) (filter (stands_behind s) s.blocks)) =
+      new_clean.blocks_are ∙ new_blocks_are in
+      let junk : to start.first.offset ≡ to start.front_end = ap to (sym no_junk) in
+      let long = new-length bytes file s room in
+      λ i. record {
+        frames = rows i;
+        blocks = blocks i;
+        head = new_head i;
+        junk = junk i;
+        first = to start.first.offset;
+        class = class_from start;
+        length = long i;
+      }
+
+  -- the survey is that of the file with another tag
+  pub survey-from : survey_fields new allowed ≡ Ok (retagged_fields n s)
+  survey-from = surveyed-told new allowed new_start new_read ∙ ap Ok new_told
+
+  -- its stream is the same
+  pub stream-from : stream_of_survey new (retagged_fields n s) ≡ stream_of_survey file s
+  unfolding stream_of_survey retagged_fields
+  stream-from =
+      ap (λ main. stream_frames main (option_map (head_by to) head) (map (row_by to) s.frames))
+      (main-by to file new start.first head (frames_from file start) refl kept.0 numbered_kept)
+      ∙ stream-by to head s.frames (main_bytes file head s.frames)
+
+-- ---- from the survey
+
+-- the start of a file without junk
+pub no_junk-start : (s : SurveyFields) (file : List ℕ) (start : Start) → told_from file start ≡ s
+    → s.junk ≡ s.first → start.front_end ≡ start.first.offset
+no_junk-start s file start told clean =
+    ap (λ (t : SurveyFields). t.junk) told ∙ clean ∙ ap (λ (t : SurveyFields). t.first) (sym told)
+
+-- a file with another tag has the survey of the file, with that tag
+pub surveyed-retagged : (file bytes : List ℕ) (allowed : ℕ) (s : SurveyFields)
+    → survey_fields file allowed ≡ Ok s → s.junk ≡ s.first → IsTagBytes bytes
+    → survey_fields (file_with_tag bytes s file) allowed ≡ Ok (retagged_fields (length bytes) s)
+surveyed-retagged file bytes allowed s e clean are =
+    let parts = surveyed-parts file allowed s e in
+    subst (λ t. survey_fields (file_with_tag bytes t file) allowed
+    ≡ Ok (retagged_fields (length bytes) t))
+    parts.2 (survey-from file allowed parts.0 parts.1 (no_junk-start s file parts.0 parts.2 clean)
+    bytes are)
+
+-- Its stream is the same.
+pub stream-retagged : (file bytes : List ℕ) (allowed : ℕ) (s : SurveyFields)
+    → survey_fields file allowed ≡ Ok s → s.junk ≡ s.first → IsTagBytes bytes
+    → stream_of_survey (file_with_tag bytes s file) (retagged_fields (length bytes) s)
+    ≡ stream_of_survey file s
+stream-retagged file bytes allowed s e clean are =
+    let parts = surveyed-parts file allowed s e in
+    subst (λ t. stream_of_survey (file_with_tag bytes t file) (retagged_fields (length bytes) t)
+    ≡ stream_of_survey file t) parts.2 (stream-from file allowed
+    parts.0 parts.1 (no_junk-start s file parts.0 parts.2 clean) bytes are)

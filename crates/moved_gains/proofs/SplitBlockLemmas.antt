@@ -1,0 +1,117 @@
+-- The blocks before the tag of a file, and those after it, by their offsets.
+use Rattle.std.proofs.Common.{ap, append-nil, ap₂, arith, Bool, false, filter, List, map, None}
+use Rattle.std.proofs.Common.{Option, option_to_list, refl, Some, true, ℕ, [], ◌++◌, ◌+◌, ◌<◌, ◌∙◌}
+use Rattle.std.proofs.{Common.{◌∷◌, ◌≡◌, ◌≤◌}, lemmas.Bool.{le-leb, le-ltb, lt-leb, lt-ltb}}
+use Rattle.std.{proofs.lemmas.List.Elements.filter-append, specs.List.cons_option}
+use Rattle.moved_gains.specs.TagPlace.{stands_before, stands_behind, tag_length, tag_offset}
+use Rattle.sync_survey.proofs.{ItemListLemmas.{ends-rise, piece_by}, RunsLemmas.item_of-is}
+use Rattle.sync_survey.specs.{Faults.SurveyFields, Items.size_of}
+use Rattle.sync_survey.specs.Runs.{AreEndToEnd, block_of_item, blocks_of, PlacedItem}
+use Rattle.sync_survey.specs.declared.{items.Item.{Item, TheVariants.Block}, places.Piece.Piece}
+use Rattle.sync_survey.specs.declared.runs.Region.TheVariants.{Stream}
+
+-- these blocks begin between two offsets
+abbrev pub BeginBetween : ℕ → ℕ → List Piece → Type 0
+BeginBetween from to [] = Unit {0}
+BeginBetween from to (b ∷ bs) = (from ≤ b.offset) × (b.offset < to) × BeginBetween from to bs
+
+begin_lower : (low from to : ℕ) (bs : List Piece) → low ≤ from → BeginBetween from to bs
+    → BeginBetween low to bs
+begin_lower low from to [] le begin = tt
+begin_lower low from to (b ∷ bs) le begin =
+    (omega (arith, le, begin.0), begin.1, begin_lower low from to bs le begin.2)
+
+begin_more : (from to at : ℕ) (item : Item) (bs : List Piece) → from ≤ at → at < to
+    → BeginBetween from to bs → BeginBetween from to (cons_option (block_of_item at item) bs)
+begin_more from to at (Block b) bs low high begin = (low, high, begin)
+begin_more from to at _ bs low high begin = begin
+
+-- each block of items between two offsets begins between them
+pub items-begin : (file : List ℕ) (from : ℕ) (ps : List PlacedItem) (to : ℕ)
+    → AreEndToEnd Stream file from ps to → BeginBetween from to (blocks_of ps)
+items-begin file from [] to ends = tt
+items-begin file from (p ∷ ps) to ends =
+    let size = size_of p.item in
+    let some = (item_of-is Stream file p.offset p.item ends.1).some in
+    let rise = ends-rise Stream file (p.offset + size) ps to ends.2 in
+    begin_more from to p.offset p.item (blocks_of ps) (omega (arith, ends.0))
+    (omega (arith, some, rise))
+    (begin_lower from (p.offset + size) to (blocks_of ps) (omega (arith, ends.0))
+    (items-begin file (p.offset + size) ps to ends.2))
+
+-- ---- a test that all of them pass, or none
+
+keeps_all : (test : Piece → Bool) (from to : ℕ) (bs : List Piece) → BeginBetween from to bs
+    → ((b : Piece) → from ≤ b.offset → b.offset < to → test b ≡ true) → filter test bs ≡ bs
+keeps_all test from to [] begin passes = refl
+keeps_all test from to (b ∷ bs) begin passes =
+    rw (passes b begin.0 begin.1) (ap (λ l. b ∷ l) (keeps_all test from to bs begin.2 passes))
+
+keeps_none : (test : Piece → Bool) (from to : ℕ) (bs : List Piece) → BeginBetween from to bs
+    → ((b : Piece) → from ≤ b.offset → b.offset < to → test b ≡ false) → filter test bs ≡ []
+keeps_none test from to [] begin fails = refl
+keeps_none test from to (b ∷ bs) begin fails =
+    rw (fails b begin.0 begin.1) (keeps_none test from to bs begin.2 fails)
+
+-- blocks that don't move
+pub blocks-stay : (to : ℕ → ℕ) (from end : ℕ) (bs : List Piece) → BeginBetween from end bs
+    → ((x : ℕ) → x < end → to x ≡ x) → map (piece_by to) bs ≡ bs
+blocks-stay to from end [] begin stays = refl
+blocks-stay to from end (b ∷ bs) begin stays =
+    ap₂ (λ x (l : List Piece). record { offset = x; block = b.block } ∷ l) (stays b.offset begin.1)
+    (blocks-stay to from end bs begin.2 stays)
+
+-- ---- at the tag
+
+-- the tag's own block, where there is one
+abbrev pub IsOld : SurveyFields → Option Piece → Type 0
+IsOld s None = Unit {0}
+IsOld s (Some b) = (b.offset ≡ tag_offset s) × (0 < tag_length s)
+
+module _ (s : SurveyFields) (before behind : List Piece) (old : Option Piece) (end : ℕ)
+    (low : BeginBetween 0 (tag_offset s) before)
+    (high : BeginBetween (tag_offset s + tag_length s) end behind) (is : IsOld s old) where
+  abbrev blocks : List Piece
+  blocks = before ++ (option_to_list old ++ behind)
+
+  three : (test : Piece → Bool) (xs ys zs : List Piece) → filter test before ≡ xs
+      → filter test (option_to_list old) ≡ ys → filter test behind ≡ zs
+      → filter test blocks ≡ xs ++ (ys ++ zs)
+  three test xs ys zs first second third =
+      filter-append test before (option_to_list old ++ behind)
+      ∙ ap₂ (λ (a b : List Piece). a ++ b) first (filter-append test (option_to_list old) behind
+      ∙ ap₂ (λ (a b : List Piece). a ++ b) second third)
+
+  one_false : (test : Piece → Bool) (b : Piece) → test b ≡ false → filter test (b ∷ []) ≡ []
+  one_false test b fails = rw fails refl
+
+  old_before : (o : Option Piece) → IsOld s o → filter (stands_before s) (option_to_list o) ≡ []
+  old_before None old_is = refl
+  old_before (Some b) old_is =
+      one_false (stands_before s) b (le-ltb b.offset (tag_offset s) (omega (arith, old_is.0)))
+
+  old_behind : (o : Option Piece) → IsOld s o → filter (stands_behind s) (option_to_list o) ≡ []
+  old_behind None old_is = refl
+  old_behind (Some b) old_is = one_false (stands_behind s) b
+      (lt-leb (tag_offset s + tag_length s) b.offset (omega (arith, old_is.0, old_is.1)))
+
+  -- those that are before it
+  pub blocks-before : filter (stands_before s) blocks ≡ before
+  blocks-before =
+      three (stands_before s) before [] []
+      (keeps_all (stands_before s) 0 (tag_offset s) before low
+      (λ b above below. lt-ltb b.offset (tag_offset s) below))
+      (old_before old is)
+      (keeps_none (stands_before s) (tag_offset s + tag_length s) end behind high
+      (λ b above below. le-ltb b.offset (tag_offset s) (omega (arith, above))))
+      ∙ append-nil before
+
+  -- those that are after it
+  pub blocks-behind : filter (stands_behind s) blocks ≡ behind
+  blocks-behind =
+      three (stands_behind s) [] [] behind
+      (keeps_none (stands_behind s) 0 (tag_offset s) before low
+      (λ b above below. lt-leb (tag_offset s + tag_length s) b.offset (omega (arith, below))))
+      (old_behind old is)
+      (keeps_all (stands_behind s) (tag_offset s + tag_length s) end behind high
+      (λ b above below. le-leb (tag_offset s + tag_length s) b.offset above))

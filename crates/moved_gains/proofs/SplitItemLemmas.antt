@@ -1,0 +1,224 @@
+-- The items of a file, split at its tag, or after the last frame if it has none.
+use Rattle.std.proofs.Common.{ap, arith, Bool, cond, false, List, map, None, Option, refl, Some}
+use Rattle.std.proofs.Common.{subst, sym, true, ℕ, [], ◌++◌, ◌+◌, ◌∙◌, ◌∷◌, ◌≡◌}
+use Rattle.std.specs.List.{cons_option, enumerate_from, find}
+use Rattle.frame_header.specs.Tables.{class_of, length_of}
+use Rattle.moved_gains.proofs.FoundTagLemmas.{found_case, last_more}
+use Rattle.moved_gains.specs.TagPlace.{is_tag, last_end}
+use Rattle.sync_survey.specs.{Items.size_of, MainData.{marked_row, marked_rows, row_of, rows_of}}
+use Rattle.sync_survey.specs.Row.{Row}
+use Rattle.sync_survey.specs.Runs.{AreEndToEnd, block_of_item, blocks_of, frame_of_item, frames_of}
+use Rattle.sync_survey.specs.{Runs.{PlacedItem, whole_item_at}, Walk.numbered_frames}
+use Rattle.sync_survey.specs.declared.items.Item.{Item, TheVariants.{Block, Frame}}
+use Rattle.sync_survey.specs.declared.places.{Head.Head, Piece.Piece, PlacedFrame.PlacedFrame}
+use Rattle.sync_survey.specs.declared.runs.Region.TheVariants.{Stream}
+
+-- an item that may be there, in front of the first list, is in front of both
+pub cons-append : {X : Type 0} (o : Option X) (xs ys : List X)
+    → cons_option o xs ++ ys ≡ cons_option o (xs ++ ys)
+cons-append None xs ys = refl
+cons-append (Some x) xs ys = refl
+
+-- The items of a file are those up to an offset, these blocks,
+-- and those from a later offset on; no tag is before them.
+pub record IsSplit (file : List ℕ) (ps : List PlacedItem) (from cut next to : ℕ)
+    (old : List Piece) : Type 0 where
+  pub front : List PlacedItem
+  pub rest : List PlacedItem
+  pub before : AreEndToEnd Stream file from front cut
+  pub behind : AreEndToEnd Stream file next rest to
+  pub frames : frames_of ps ≡ frames_of front ++ frames_of rest
+  pub blocks : blocks_of ps ≡ blocks_of front ++ (old ++ blocks_of rest)
+  pub none : find is_tag (blocks_of front) ≡ None
+
+none_more : (o : Option Piece) (xs : List Piece) → ((x : Piece) → o ≡ Some x → is_tag x ≡ false)
+    → find is_tag xs ≡ None → find is_tag (cons_option o xs) ≡ None
+none_more None xs other none = none
+none_more (Some x) xs other none = rw (other x refl) none
+
+-- one item more before them, which is no tag
+push : (file : List ℕ) (at : ℕ) (item : Item) (ps : List PlacedItem) (cut next to : ℕ)
+    (old : List Piece) → whole_item_at Stream file at ≡ Some item
+    → ((x : Piece) → block_of_item at item ≡ Some x → is_tag x ≡ false)
+    → IsSplit file ps (at + size_of item) cut next to old
+    → IsSplit file (record { offset = at; item = item } ∷ ps) at cut next to old
+push file at item ps cut next to old is other split = record {
+  front = record { offset = at; item = item } ∷ split.front;
+  rest = split.rest;
+  before = (refl, is, split.before);
+  behind = split.behind;
+  frames = ap (cons_option (frame_of_item at item)) split.frames
+      ∙ sym (cons-append (frame_of_item at item) (frames_of split.front) (frames_of split.rest));
+  blocks = ap (cons_option (block_of_item at item)) split.blocks
+      ∙ sym (cons-append (block_of_item at item) (blocks_of split.front)
+      (old ++ blocks_of split.rest));
+  none = none_more (block_of_item at item) (blocks_of split.front) other split.none;
+}
+
+-- ---- at the tag
+
+abbrev IsSplitAt : List ℕ → ℕ → List PlacedItem → ℕ → Piece → Type 0
+IsSplitAt file from ps to b = IsSplit file ps from b.offset (b.offset + b.block.length) to (b ∷ [])
+
+tag_more : (file : List ℕ) (at : ℕ) (item : Item) (ps : List PlacedItem) (to : ℕ) (b : Piece)
+    → whole_item_at Stream file at ≡ Some item → AreEndToEnd Stream file (at + size_of item) ps to
+    → (find is_tag (blocks_of ps) ≡ Some b → IsSplitAt file (at + size_of item) ps to b)
+    → find is_tag (cons_option (block_of_item at item) (blocks_of ps)) ≡ Some b
+    → IsSplitAt file at (record { offset = at; item = item } ∷ ps) to b
+tag_more file at (Block x) ps to b is ends later e =
+    let here : Piece = record { offset = at; block = x } in
+    found_case here b (blocks_of ps)
+    (IsSplitAt file at (record { offset = at; item = Block x } ∷ ps) to b) e
+    (λ tag same. subst (IsSplitAt file at (record { offset = at; item = Block x } ∷ ps) to) same
+    (record {
+      front = [];
+      rest = ps;
+      before = refl;
+      behind = ends;
+      frames = refl;
+      blocks = refl;
+      none =
+          refl;
+    }))
+    (λ none rest. push file at (Block x) ps b.offset (b.offset + b.block.length) to (b ∷ []) is
+    (λ y same. let one : here ≡ y = cc in subst (λ (z : Piece). is_tag z ≡ false) one none)
+    (later rest))
+tag_more file at item ps to b is ends later e = push file at item ps
+    b.offset (b.offset + b.block.length) to (b ∷ []) is (λ y same. absurd cc) (later e)
+
+-- the items are those before the tag, the tag, and those after it
+pub split-tag : (file : List ℕ) (from : ℕ) (ps : List PlacedItem) (to : ℕ) (b : Piece)
+    → AreEndToEnd Stream file from ps to → find is_tag (blocks_of ps) ≡ Some b
+    → IsSplitAt file from ps to b
+split-tag file from [] to b ends e = absurd cc
+split-tag file from (q ∷ ps) to b ends e =
+    subst (λ n. IsSplitAt file n (q ∷ ps) to b) ends.0
+    (tag_more file q.offset q.item ps to b
+    ends.1 ends.2 (split-tag file (q.offset + size_of q.item) ps to b ends.2) e)
+
+-- ---- after the last frame
+
+-- the last of a frame and those after it
+abbrev pub final : PlacedFrame → List PlacedFrame → PlacedFrame
+final p [] = p
+final p (q ∷ qs) = final q qs
+
+abbrev pub stop_of : PlacedFrame → ℕ
+stop_of p = p.offset + length_of (class_of p.header) p.header.slot
+
+abbrev IsSplitBehind : List ℕ → ℕ → List PlacedItem → ℕ → ℕ → Type 0
+IsSplitBehind file from ps to cut = IsSplit file ps from cut cut to []
+
+none_first : (x : Piece) (xs : List Piece) → find is_tag (x ∷ xs) ≡ None
+    → (is_tag x ≡ false) × (find is_tag xs ≡ None)
+none_first x xs e = cases (is_tag x) refl e
+  where
+    cases : (t : Bool) → is_tag x ≡ t → cond t (Some x) (find is_tag xs) ≡ None
+        → (is_tag x ≡ false) × (find is_tag xs ≡ None)
+    cases true is e = absurd cc
+    cases false is e = (is, e)
+
+module _ (file : List ℕ) (to : ℕ) where
+  last_frame : (at : ℕ) (item : Item) (ps : List PlacedItem) (p : PlacedFrame)
+      (rest fs : List PlacedFrame) → whole_item_at Stream file at ≡ Some item
+      → AreEndToEnd Stream file (at + size_of item) ps to
+      → ((x : Piece) → block_of_item at item ≡ Some x → is_tag x ≡ false)
+      → size_of item ≡ length_of (class_of p.header) p.header.slot → at ≡ p.offset
+      → find is_tag (blocks_of ps) ≡ None → block_of_item at item ≡ None → frame_of_item at item
+      ≡ Some p → frames_of ps ≡ fs → fs ≡ rest → ((q : PlacedFrame) (qs : List PlacedFrame)
+      → frames_of ps ≡ q ∷ qs → IsSplitBehind file (at + size_of item) ps to (stop_of (final q qs)))
+      → IsSplitBehind file at (record { offset = at; item = item } ∷ ps) to (stop_of (final p rest))
+  last_frame at item ps p rest [] is ends other size place none block frame are same later =
+      let cut : at + size_of item ≡ stop_of (final p rest) =
+      omega (arith, size, place) ∙ ap (λ (l : List PlacedFrame). stop_of (final p l)) same in
+      subst (IsSplitBehind file at (record { offset = at; item = item } ∷ ps) to) cut
+      (push file at item ps (at + size_of item) (at + size_of item) to [] is other (record {
+        front = [];
+        rest = ps;
+        before = refl;
+        behind = ends;
+        frames = refl;
+        blocks = refl;
+        none =
+            refl;
+      }))
+  last_frame at item ps p rest (q ∷ qs) is ends other size place none block frame are same later =
+      let cut : stop_of (final q qs) ≡ stop_of (final p rest) =
+      ap (λ (l : List PlacedFrame). stop_of (final p l)) same in
+      subst (IsSplitBehind file at (record { offset = at; item = item } ∷ ps) to) cut
+      (push file at item ps (stop_of (final q qs)) (stop_of (final q qs)) to [] is other
+      (later q qs are))
+
+  last_item : (at : ℕ) (item : Item) (ps : List PlacedItem) (p : PlacedFrame)
+      (rest : List PlacedFrame) → whole_item_at Stream file at ≡ Some item
+      → AreEndToEnd Stream file (at + size_of item) ps to
+      → ((q : PlacedFrame) (qs : List PlacedFrame) → frames_of ps ≡ q ∷ qs → find is_tag
+      (blocks_of ps) ≡ None → IsSplitBehind file (at + size_of item) ps to (stop_of (final q qs)))
+      → cons_option (frame_of_item at item) (frames_of ps) ≡ p ∷ rest
+      → find is_tag (cons_option (block_of_item at item) (blocks_of ps)) ≡ None
+      → IsSplitBehind file at (record { offset = at; item = item } ∷ ps) to (stop_of (final p rest))
+  last_item at (Frame h) ps p rest is ends later e none =
+      let own : PlacedFrame = record { offset = at; header = h } in
+      let placed : PlacedItem = record { offset = at; item = Frame h } in
+      let here : own ≡ p = cc in
+      let others : frames_of ps ≡ rest = cc in
+      subst (λ (x : PlacedFrame). IsSplitBehind file at (placed ∷ ps) to (stop_of (final x rest)))
+      here
+      (last_frame at (Frame h) ps own rest (frames_of ps) is ends
+      (λ y same. absurd cc) refl refl none refl refl refl others (λ q qs are. later q qs are none))
+  last_item at (Block x) ps p rest is ends later e none =
+      let here : Piece = record { offset = at; block = x } in
+      let parts = none_first here (blocks_of ps) none in
+      push file at (Block x) ps (stop_of (final p rest)) (stop_of (final p rest)) to [] is
+      (λ y same. let one : here ≡ y = cc in subst (λ (z : Piece). is_tag z ≡ false) one parts.0)
+      (later p rest e parts.1)
+  last_item at item ps p rest is ends later e none = push file at item ps (stop_of (final p rest))
+      (stop_of (final p rest)) to [] is (λ y same. absurd cc) (later p rest e none)
+
+  -- without a tag the items are those up to the last frame and those behind it
+  pub split-last : (from : ℕ) (ps : List PlacedItem) (p : PlacedFrame) (rest : List PlacedFrame)
+      → AreEndToEnd Stream file from ps to → frames_of ps ≡ p ∷ rest
+      → find is_tag (blocks_of ps) ≡ None → IsSplitBehind file from ps to (stop_of (final p rest))
+  split-last from [] p rest ends e none = absurd cc
+  split-last from (x ∷ ps) p rest ends e none =
+      subst (λ n. IsSplitBehind file n (x ∷ ps) to (stop_of (final p rest))) ends.0
+      (last_item x.offset x.item ps p rest ends.1 ends.2 (λ q qs are nothing.
+      split-last (x.offset + size_of x.item) ps q qs ends.2 are nothing) e none)
+
+-- ---- the last frame that a survey tells
+
+last_placed : (file : List ℕ) (p : PlacedFrame) (rest : List PlacedFrame)
+    → last_end (rows_of file (p ∷ rest)) ≡ stop_of (final p rest)
+last_placed file p [] = refl
+last_placed file p (q ∷ qs) =
+    last_more (row_of file p) (row_of file q) (rows_of file qs) ∙ last_placed file q qs
+
+last_each : (head : Option Head) (all : List Row) (n : ℕ) (rows : List Row)
+    → last_end (map (λ (p : ℕ × Row). marked_row head all p.0 p.1) (enumerate_from n rows))
+    ≡ last_end rows
+last_each head all n (r ∷ q ∷ rows) =
+    last_more (marked_row head all n r) (marked_row head all (n + 1) q)
+    (map (λ (p : ℕ × Row). marked_row head all p.0 p.1) (enumerate_from (n + 1 + 1) rows))
+    ∙ last_each head all (n + 1) (q ∷ rows) ∙ sym (last_more r q rows)
+last_each head all n _ = refl
+
+last_marked : (head : Option Head) (rows : List Row)
+    → last_end (marked_rows head rows) ≡ last_end rows
+unfolding marked_rows
+last_marked head rows = last_each head rows 0 rows
+
+last_numbered : (file : List ℕ) (head : Option Head) (p : PlacedFrame) (rest : List PlacedFrame)
+    → ((numbered_frames head (p ∷ rest) ≡ []) → ⊥)
+    → last_end (rows_of file (numbered_frames head (p ∷ rest))) ≡ stop_of (final p rest)
+last_numbered file None p rest some = last_placed file p rest
+last_numbered file (Some head) p [] some = absurd (some refl)
+last_numbered file (Some head) p (q ∷ qs) some = last_placed file q qs
+
+-- it is the last of all, which may be after a head
+pub last-told : (file : List ℕ) (head : Option Head) (p : PlacedFrame) (rest : List PlacedFrame)
+    → ((numbered_frames head (p ∷ rest) ≡ []) → ⊥)
+    → last_end (marked_rows head (rows_of file (numbered_frames head (p ∷ rest))))
+    ≡ stop_of (final p rest)
+last-told file head p rest some =
+    last_marked head (rows_of file (numbered_frames head (p ∷ rest)))
+    ∙ last_numbered file head p rest some

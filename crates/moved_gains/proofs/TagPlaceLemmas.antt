@@ -1,0 +1,407 @@
+-- Where the tag of a file is among its frames: before
+-- all of them, or after some and before the others.
+use Rattle.std.proofs.Common.{ap, append-nil, ap₂, arith, Bool, cond, drop, false, inl, inr, length}
+use Rattle.std.proofs.Common.{length-drop, List, map, None, Ok, Option, refl, Some, subst, suc, sym}
+use Rattle.std.proofs.Common.{take, true, ℕ, [], ◌++◌, ◌+◌, ◌<◌, ◌∙◌, ◌∷◌, ◌≡◌, ◌≤◌, ◌⊎◌}
+use Rattle.std.proofs.lemmas.List.{length-map, length-take-le, map-append, Folds.find-append}
+use Rattle.std.specs.{List.{cons_option, enumerate_from, find}, Option.option_or}
+use Rattle.frame_header.{proofs.HeaderLemmas.IsClass-class_of, specs.Fields.HeaderFields}
+use Rattle.frame_header.specs.Tables.{class_of, length_of}
+use Rattle.moved_gains.proofs.{EditedRunLemmas.low_cases, FoundTagLemmas.{found_item, last_more}}
+use Rattle.moved_gains.proofs.LostOffsetLemmas.{end_earlier, end_later, end_rises, EndBy, items_end}
+use Rattle.moved_gains.proofs.LostOffsetLemmas.{marked-by, rows_by, walk_rising}
+use Rattle.moved_gains.proofs.{MovedGainLemmas.IsShaped-moved, SplitItemLemmas.split-tag}
+use Rattle.moved_gains.proofs.{TagReadingLemmas.place-some, WholeFileLemmas.front_end-is}
+use Rattle.moved_gains.{proofs.WrittenLemmas.AreSized, specs.{Edited.is_lost_at, Gains.moved_side}}
+use Rattle.moved_gains.specs.Moving.{row_end}
+use Rattle.moved_gains.specs.TagPlace.{is_tag, last_end, tag_block, tag_length, tag_offset}
+use Rattle.requests.specs.declared.shift.Steps.{Steps}
+use Rattle.side_info.proofs.FrameLemmas.{length-frame_with, shaped-side_in}
+use Rattle.side_info.specs.Frame.{frame_with_side, side_in}
+use Rattle.sync_survey.proofs.ItemListLemmas.{ends-stream, ends-within}
+use Rattle.sync_survey.proofs.ItemsLemmas.{header_front-in_range, stands-at}
+use Rattle.sync_survey.proofs.RunsLemmas.{IsItemOf, item_of-is, run-ends, run-next}
+use Rattle.sync_survey.proofs.{StartLemmas.{start-first, start-front}, SurveyLemmas.overhead-within}
+use Rattle.sync_survey.proofs.SurveyPartsLemmas.{frames_from, IsRead, surveyed-parts, told_from}
+use Rattle.sync_survey.{proofs.WalkLemmas.first_item, specs.Faults.{survey_fields, SurveyFields}}
+use Rattle.sync_survey.specs.Items.{item_at, size_of}
+use Rattle.sync_survey.specs.{MainData.{marked_row, marked_rows, row_of, rows_of}, Row.Row}
+use Rattle.sync_survey.specs.Runs.{AreEndToEnd, blocks_of, frame_of_item, frames_of, item_run}
+use Rattle.sync_survey.specs.Runs.{ItemRun, PlacedItem}
+use Rattle.sync_survey.specs.Walk.{end_fault, fault_at, head_of, numbered_frames, stream_run}
+use Rattle.sync_survey.specs.declared.items.Item.{Item, TheVariants.{Block, Frame}}
+use Rattle.sync_survey.specs.declared.places.{Head.Head, Piece.Piece, PlacedFrame.PlacedFrame}
+use Rattle.sync_survey.specs.declared.{places.Start.Start, runs.Region.Region}
+use Rattle.sync_survey.specs.declared.runs.Region.TheVariants.{Front, Stream}
+use Rattle.sync_survey.specs.declared.survey_fault.SurveyFault.{SurveyFault}
+
+module _ (lost : ℕ → Bool) (file : List ℕ) where
+  abbrev pub by : List PlacedFrame → List Row
+  by frames = rows_by lost file frames
+
+  -- ---- a moved frame keeps its length
+
+  module _ (steps : ℕ → Steps) where
+    one_sized : (part : Region) (at : ℕ) (h : HeaderFields) → IsItemOf part file at (Frame h)
+        → (b : Bool) → length (cond b (take (length_of (class_of h) h.slot) (drop at file))
+        (frame_with_side h (moved_side (steps at) (side_in h (drop at file)))
+        (take (length_of (class_of h) h.slot) (drop at file)))) ≡ length_of (class_of h) h.slot
+    one_sized part at h here b =
+        let size = length_of (class_of h) h.slot in
+        let frame = take size (drop at file) in
+        let fields = header_front-in_range (drop at file) h (stands-at file at (Frame h) here.is) in
+        let long : length frame ≡ size =
+        length-take-le size (drop at file) (omega (arith, here.within, length-drop at file)) in
+        let s = side_in h (drop at file) in
+        let kept : length (frame_with_side h (moved_side (steps at) s) frame) ≡ length frame =
+        length-frame_with h (moved_side (steps at) s) frame (IsClass-class_of h fields)
+        (IsShaped-moved (steps at) s (shaped-side_in h (drop at file)))
+        (omega (arith, overhead-within h fields, long)) in
+        by_lost b frame (frame_with_side h (moved_side (steps at) s) frame) size long (kept ∙ long)
+      where
+        by_lost : (b : Bool) (l m : List ℕ) (n : ℕ) → length l ≡ n → length m ≡ n
+            → length (cond b l m) ≡ n
+        by_lost true l m n a c = a
+        by_lost false l m n a c = c
+
+    sized_more : (part : Region) (at : ℕ) (item : Item) (frames : List PlacedFrame)
+        → IsItemOf part file at item → AreSized steps file (by frames)
+        → AreSized steps file (by (cons_option (frame_of_item at item) frames))
+    sized_more part at (Frame h) frames here sized = (one_sized part at h here (lost at), sized)
+    sized_more part at _ frames here sized = sized
+
+    -- with moved gains the frames of items end to end are as long as before
+    pub items_sized : (part : Region) (from : ℕ) (ps : List PlacedItem) (to : ℕ)
+        → AreEndToEnd part file from ps to → AreSized steps file (by (frames_of ps))
+    items_sized part from [] to ends = tt
+    items_sized part from (p ∷ ps) to ends =
+        sized_more part p.offset p.item (frames_of ps) (item_of-is part file p.offset p.item ends.1)
+        (items_sized part (p.offset + size_of p.item) ps to ends.2)
+
+  -- ---- the frames before a block, and those after it
+
+  -- a block is behind some frames and before the others
+  pub record IsCut (from : ℕ) (frames : List PlacedFrame) (b : Piece) (to : ℕ) : Type 0 where
+    pub before : List PlacedFrame
+    pub behind : List PlacedFrame
+    pub all : frames ≡ before ++ behind
+    pub front : EndBy from (by before) b.offset
+    pub rest : EndBy (b.offset + b.block.length) (by behind) to
+    pub some : 0 < b.block.length
+
+  cut_later : (from at : ℕ) (frames : List PlacedFrame) (b : Piece) (to : ℕ) → from ≤ at
+      → IsCut at frames b to → IsCut from frames b to
+  cut_later from at frames b to low cut = record {
+    before = cut.before;
+    behind = cut.behind;
+    all = cut.all;
+    front = end_earlier from at (by cut.before) b.offset low cut.front;
+    rest = cut.rest;
+    some = cut.some;
+  }
+
+  -- they split at the first tag among their items
+  pub items_cut : (from : ℕ) (ps : List PlacedItem) (b : Piece) (to : ℕ)
+      → AreEndToEnd Stream file from ps to → find is_tag (blocks_of ps) ≡ Some b
+      → IsCut from (frames_of ps) b to
+  items_cut from ps b to ends e =
+      let split = split-tag file from ps to b ends e in
+      record {
+        before = frames_of split.front;
+        behind = frames_of split.rest;
+        all = split.frames;
+        front = items_end lost file Stream from split.front b.offset split.before;
+        rest = items_end lost file Stream (b.offset + b.block.length) split.rest to split.behind;
+        some = (item_of-is Stream file b.offset (Block b.block)
+            (found_item Stream file from ps to b ends e)).some;
+      }
+
+-- ---- the end of the last frame
+
+-- all frames are before it
+pub last_ends : (from : ℕ) (row : Row) (rows : List Row) (to : ℕ) → EndBy from (row ∷ rows) to
+    → EndBy from (row ∷ rows) (last_end (row ∷ rows)) × (last_end (row ∷ rows) ≤ to)
+last_ends from row [] to ends = ((ends.0, ends.1, omega arith), ends.2)
+last_ends from row (q ∷ rows) to ends =
+    let rest = last_ends (row_end row) q rows to ends.2 in (
+      (ends.0, ends.1, subst (EndBy (row_end row) (q ∷ rows)) (sym (last_more row q rows)) rest.0),
+      omega (arith, last_more row q rows, rest.1),
+    )
+
+-- ---- where the tag is
+
+-- the tag is after some frames, and before the others;
+-- or there is none, and all frames are before its place
+pub record IsAmong (s : SurveyFields) : Type 0 where
+  pub before : List Row
+  pub behind : List Row
+  pub all : s.frames ≡ before ++ behind
+  pub low : s.first < tag_offset s
+  pub past : s.junk < tag_offset s + tag_length s
+  pub front : EndBy s.first before (tag_offset s)
+  pub rest : EndBy (tag_offset s + tag_length s) behind s.length
+  pub up : tag_offset s + tag_length s ≤ s.length
+
+-- the same; and no frame begins where the tag begins, since
+-- a tag has bytes, and no frame is after the place for one
+pub record IsApart (s : SurveyFields) : Type 0 where
+  pub among : IsAmong s
+  pub apart : (among.behind ≡ []) ⊎ (0 < tag_length s)
+
+-- it is before the junk
+pub record IsInFront (s : SurveyFields) : Type 0 where
+  pub some : 0 < tag_length s
+  pub before : tag_offset s + tag_length s ≤ s.junk
+
+-- the tag is in front of the first frame, or behind the first and among the others
+pub record StandsSomewhere (steps : ℕ → Steps) (file : List ℕ) (s : SurveyFields) : Type 0 where
+  pub size : length file ≡ s.length
+  pub junk : s.junk ≤ s.first
+  pub first : s.first ≤ s.length
+  pub sized : AreSized steps file s.frames
+  pub ends : EndBy s.first s.frames s.length
+  pub some : 0 < length s.frames
+  pub place : IsInFront s ⊎ IsAmong s
+
+each_long : (head : Option Head) (all : List Row) (n : ℕ) (rows : List Row)
+    → length (map (λ (p : ℕ × Row). marked_row head all p.0 p.1) (enumerate_from n rows))
+    ≡ length rows
+each_long head all n [] = refl
+each_long head all n (r ∷ rows) = ap (λ m. suc m) (each_long head all (n + 1) rows)
+
+marked_long : (head : Option Head) (rows : List Row) → length (marked_rows head rows) ≡ length rows
+unfolding marked_rows
+marked_long head rows = each_long head rows 0 rows
+
+-- without a tag its place is the last frame's end, and it has no bytes
+pub tag_none : (s : SurveyFields) → tag_block s ≡ None
+    → (tag_offset s ≡ last_end s.frames) × (tag_length s ≡ 0)
+tag_none s is = (rw is refl, rw is refl)
+
+module _ (steps : ℕ → Steps) (file : List ℕ) (allowed : ℕ) (start : Start)
+    (read : IsRead file allowed start) where
+  abbrev s : SurveyFields
+  s = told_from file start
+
+  abbrev first : ℕ
+  first = start.first.offset
+
+  abbrev h : HeaderFields
+  h = start.first.header
+
+  abbrev size : ℕ
+  size = size_of (Frame h)
+
+  abbrev head : Option Head
+  head = head_of file start.first
+
+  abbrev later : ItemRun
+  later = item_run Stream file (first + size)
+
+  abbrev front : ItemRun
+  front = item_run Front file 0
+
+  abbrev lost : ℕ → Bool
+  lost = is_lost_at s.frames
+
+  first_whole : IsItemOf Stream file first (Frame h)
+  first_whole = (start-first file start read.start_is).frame
+
+  front_low : start.front_end ≤ first
+  front_low = low_cases file start (start-first file start read.start_is).least
+
+  front_stop : front.stop ≡ start.front_end
+  front_stop = sym (start-front file start read.start_is ∙ front_end-is file)
+
+  stream_is : stream_run file start ≡
+      record { items = record { offset = first; item = Frame h } ∷ later.items; stop = later.stop }
+  stream_is = run-next Stream file first (Frame h)
+      (first_item file start.first first_whole.is first_whole.within)
+
+  later_ends : AreEndToEnd Stream file (first + size) later.items later.stop
+  later_ends = run-ends Stream file (first + size)
+
+  stop_within : later.stop ≤ length file
+  stop_within =
+      ends-within Stream file (first + size) later.items later.stop later_ends first_whole.within
+
+  -- the frames of the survey, by the items after the first
+  rows_told : s.frames
+      ≡ rows_by lost file (numbered_frames head (start.first ∷ frames_of later.items))
+  rows_told =
+      marked-by file head first (frames_from file start) (walk_rising file start head)
+      ∙ ap (λ (r : ItemRun). rows_by lost file (numbered_frames head (frames_of r.items))) stream_is
+
+  ends_by : (o : Option Head) → EndBy first
+      (rows_by lost file (numbered_frames o (start.first ∷ frames_of later.items))) (length file)
+  ends_by None = (
+    omega arith,
+    omega (arith, first_whole.some),
+    end_later (first + size) (rows_by lost file (frames_of later.items)) later.stop (length file)
+        stop_within (items_end lost file Stream (first + size) later.items later.stop later_ends),
+  )
+  ends_by (Some found) =
+      end_earlier first (first + size) (rows_by lost file (frames_of later.items)) (length file)
+      (omega arith)
+      (end_later (first + size) (rows_by lost file (frames_of later.items)) later.stop (length file)
+      stop_within (items_end lost file Stream (first + size) later.items later.stop later_ends))
+
+  sized_by : (o : Option Head) → AreSized steps file
+      (rows_by lost file (numbered_frames o (start.first ∷ frames_of later.items)))
+  sized_by None = (
+    one_sized lost file steps Stream first h first_whole (lost first),
+    items_sized lost file steps Stream (first + size) later.items later.stop later_ends,
+  )
+  sized_by (Some found) =
+      items_sized lost file steps Stream (first + size) later.items later.stop later_ends
+
+  cut_by : (o : Option Head) (b : Piece)
+      → IsCut lost file (first + size) (frames_of later.items) b later.stop
+      → IsCut lost file first (numbered_frames o (start.first ∷ frames_of later.items)) b later.stop
+  cut_by None b cut = record {
+    before = start.first ∷ cut.before;
+    behind = cut.behind;
+    all = ap (λ (l : List PlacedFrame). start.first ∷ l) cut.all;
+    front = (omega arith, omega (arith, first_whole.some), cut.front);
+    rest = cut.rest;
+    some = cut.some;
+  }
+  cut_by (Some found) b cut = cut_later lost file first (first + size)
+      (frames_of later.items) b later.stop (omega arith) cut
+
+  among_by : (b : Piece) → tag_block s ≡ Some b → first < b.offset → IsCut lost file first
+      (numbered_frames head (start.first ∷ frames_of later.items)) b later.stop → IsApart s
+  among_by b is beyond cut =
+      let tag = place-some s b is in
+      let high =
+      end_rises (b.offset + b.block.length) (rows_by lost file cut.behind) later.stop cut.rest in
+      let among : IsAmong s = record {
+        before = rows_by lost file cut.before;
+        behind = rows_by lost file cut.behind;
+        all = rows_told ∙ ap (rows_by lost file) cut.all ∙ map-append (λ (p : PlacedFrame).
+            record (row_of file p) { lost = lost p.offset }) cut.before cut.behind;
+        low = omega (arith, tag.0, beyond);
+        past = omega (arith, tag.0, tag.1, beyond, front_low, cut.some);
+        front = subst (EndBy first (rows_by lost file cut.before)) (sym tag.0) cut.front;
+        rest = end_later (tag_offset s + tag_length s)
+            (rows_by lost file cut.behind) later.stop (length file) stop_within
+            (subst (λ n. EndBy n (rows_by lost file cut.behind) later.stop)
+            (ap₂ (λ m n. m + n) (sym tag.0) (sym tag.1)) cut.rest);
+        up = omega (arith, tag.0, tag.1, high, stop_within);
+      } in
+      record { among = among; apart = inr (omega (arith, tag.1, cut.some)) }
+
+  some_frame : (rows : List Row) (frames : List PlacedFrame) → length rows ≡ length frames
+      → end_fault file frames
+      (fault_at (stream_run file start).stop (item_at file (stream_run file start).stop)) ≡ None
+      → 0 < length rows
+  some_frame rows frames same none = at frames
+      (fault_at (stream_run file start).stop (item_at file (stream_run file start).stop)) same none
+    where
+      at : (fs : List PlacedFrame) (o : Option SurveyFault) → length rows ≡ length fs
+          → end_fault file fs o ≡ None → 0 < length rows
+      at [] None same e = absurd cc
+      at [] (Some fault) same e = absurd cc
+      at (p ∷ ps) o same e = omega (arith, same)
+
+  rows_ends : EndBy first s.frames (length file)
+  rows_ends = subst (λ l. EndBy first l (length file)) (sym rows_told) (ends_by head)
+
+  frames_some : 0 < length s.frames
+  frames_some = some_frame s.frames (frames_from file start)
+      (marked_long head (rows_of file (frames_from file start))
+      ∙ length-map (frames_from file start) (row_of file)) read.end
+
+  last_by : (rows : List Row) → rows ≡ s.frames → EndBy first rows (length file) → 0 < length rows
+      → tag_block s ≡ None → IsApart s
+  last_by [] same ends some is = absurd (omega (arith, some))
+  last_by (row ∷ rows) same ends some is =
+      let tag = tag_none s is in
+      let last = last_ends first row rows (length file) ends in
+      let place : tag_offset s ≡ last_end (row ∷ rows) = tag.0 ∙ ap last_end (sym same) in
+      let among : IsAmong s = record {
+        before = row ∷ rows;
+        behind = [];
+        all = sym same ∙ sym (append-nil (row ∷ rows));
+        low = omega (
+          arith,
+          place,
+          ends.0,
+          ends.1,
+          end_rises (row_end row) rows (last_end (row ∷ rows)) last.0.2,
+        );
+        past = omega (
+          arith,
+          place,
+          tag.1,
+          ends.0,
+          ends.1,
+          end_rises (row_end row) rows (last_end (row ∷ rows)) last.0.2,
+          front_low,
+        );
+        front = subst (EndBy first (row ∷ rows)) (sym place) last.0;
+        rest = omega (arith, place, tag.1, last.1);
+        up = omega (arith, place, tag.1, last.1);
+      } in
+      record { among = among; apart = inl refl }
+
+  blocks_later : blocks_of (stream_run file start).items ≡ blocks_of later.items
+  blocks_later = ap (λ (r : ItemRun). blocks_of r.items) stream_is
+
+  place_by : (x y : Option Piece) → find is_tag (blocks_of front.items) ≡ x
+      → find is_tag (blocks_of later.items) ≡ y → tag_block s ≡ option_or x y
+      → IsInFront s ⊎ IsApart s
+  place_by (Some b) y front_is later_is is =
+      let tag = place-some s b is in
+      let ends = ends-stream Front file 0 front.items front.stop (run-ends Front file 0) in
+      let cut = items_cut lost file 0 front.items b front.stop ends front_is in
+      let last =
+      end_rises (b.offset + b.block.length) (rows_by lost file cut.behind) front.stop cut.rest in
+      inl (record {
+        some = omega (arith, tag.1, cut.some);
+        before = omega (arith, tag.0, tag.1, last, front_stop);
+      })
+  place_by None (Some b) front_is later_is is =
+      let cut = items_cut lost file (first + size) later.items b later.stop later_ends later_is in
+      let beyond = end_rises (first + size) (rows_by lost file cut.before) b.offset cut.front in
+      inr (among_by b is (omega (arith, beyond, first_whole.some)) (cut_by head b cut))
+  place_by None None front_is later_is is = inr (last_by s.frames refl rows_ends frames_some is)
+
+  -- the tag is in front of the first frame, or apart from all frames
+  pub apart_place : IsInFront s ⊎ IsApart s
+  apart_place =
+      place_by _ _ refl refl
+      (find-append is_tag (blocks_of front.items) (blocks_of (stream_run file start).items)
+      ∙ ap (λ (l : List Piece). option_or (find is_tag (blocks_of front.items)) (find is_tag l))
+      blocks_later)
+
+  somewhere : IsInFront s ⊎ IsApart s → IsInFront s ⊎ IsAmong s
+  somewhere (inl front) = inl front
+  somewhere (inr apart) = inr apart.among
+
+  -- so it is somewhere among them
+  pub stands : StandsSomewhere steps file s
+  stands = record {
+    size = refl;
+    junk = front_low;
+    first = omega (arith, first_whole.within);
+    sized = subst (AreSized steps file) (sym rows_told) (sized_by head);
+    ends = rows_ends;
+    some = frames_some;
+    place = somewhere apart_place;
+  }
+
+-- so it is in every surveyed file
+pub stands_somewhere : (steps : ℕ → Steps) (file : List ℕ) (allowed : ℕ) (s : SurveyFields)
+    → survey_fields file allowed ≡ Ok s → StandsSomewhere steps file s
+stands_somewhere steps file allowed s e =
+    let parts = surveyed-parts file allowed s e in
+    subst (StandsSomewhere steps file) parts.2 (stands steps file allowed parts.0 parts.1)
+
+-- and no frame begins where it begins
+pub stands_apart : (steps : ℕ → Steps) (file : List ℕ) (allowed : ℕ) (s : SurveyFields)
+    → survey_fields file allowed ≡ Ok s → IsInFront s ⊎ IsApart s
+stands_apart steps file allowed s e =
+    let parts = surveyed-parts file allowed s e in
+    subst (λ (t : SurveyFields). IsInFront t ⊎ IsApart t)
+    parts.2 (apart_place steps file allowed parts.0 parts.1)

@@ -1,0 +1,96 @@
+-- The tag of a file, from the bytes of its block.
+use Rattle.std.proofs.Common.{ap, arith, drop, Err, length, List, ltb, None, Ok, refl, Result, Some}
+use Rattle.std.proofs.Common.{subst, sym, take, true, ℕ, ◌+◌, ◌<◌, ◌∙◌, ◌≡◌, ◌≤◌}
+use Rattle.std.proofs.lemmas.Bool.{lt-ltb}
+use Rattle.moved_gains.proofs.FoundTagLemmas.{IsTagThere, survey_of-surveyed, surveyed-length}
+use Rattle.moved_gains.proofs.FoundTagLemmas.{tag-there}
+use Rattle.moved_gains.specs.TagPlace.{tag_block, tag_length, tag_offset}
+use Rattle.moved_gains.specs.TagReading.{empty_tag, file_tag, IsBlockCause, IsFileSurvey}
+use Rattle.moved_gains.specs.TagReading.{IsTagCause, longest_tag, RefusesTag, tag_of_block}
+use Rattle.moved_gains.specs.declared.tag_fault.FileTagFault.{FileTagFault}
+use Rattle.moved_gains.specs.declared.tag_fault.FileTagFault.TheVariants.{Bad, Memory, TooLarge}
+use Rattle.outside.specs.{Counts.Counts, Files.{Files, Holds}}
+use Rattle.sync_survey.specs.{Faults.SurveyFields, declared.places.Piece.Piece}
+use Rattle.tag_blocks.specs.{Blocks.block_front, Tags.TagFields}
+use Rattle.tag_blocks.specs.declared.block.Kind.TheVariants.{Ape}
+
+-- ---- the tag of a file
+
+-- a file without a tag has the tag without items
+pub file_tag-none : (file : List ℕ) (s : SurveyFields) → tag_block s ≡ None
+    → file_tag file s ≡ Ok empty_tag
+unfolding file_tag
+file_tag-none file s none = rw none refl
+
+-- a file with one has the tag of its block's bytes
+pub file_tag-some : (file : List ℕ) (s : SurveyFields) (b : Piece) → tag_block s ≡ Some b
+    → file_tag file s ≡ tag_of_block b.offset (take b.block.length (drop b.offset file))
+unfolding file_tag
+file_tag-some file s b some = rw some refl
+
+-- the tag is where its block is
+pub place-some : (s : SurveyFields) (b : Piece) → tag_block s ≡ Some b
+    → (tag_offset s ≡ b.offset) × (tag_length s ≡ b.block.length)
+place-some s b some = (rw some refl, rw some refl)
+
+-- ---- a survey of a file of a folder
+
+module _ (name : List ℕ) (files : Files) (s : SurveyFields) (surveyed : (bytes : List ℕ)
+    → Holds files name bytes → IsFileSurvey bytes s) (b : Piece) (tag : tag_block s ≡ Some b) where
+  -- the block is in the file
+  pub told-there : (bytes : List ℕ) → Holds files name bytes → IsTagThere bytes b
+  told-there bytes holds =
+      let is = surveyed bytes holds in
+      tag-there bytes is.0 s b (survey_of-surveyed bytes is.0 s is.1) tag
+
+  -- the file is as long as the survey says
+  pub told-length : (bytes : List ℕ) → Holds files name bytes → length bytes ≡ s.length
+  told-length bytes holds =
+      let is = surveyed bytes holds in
+      surveyed-length bytes is.0 s (survey_of-surveyed bytes is.0 s is.1)
+
+  -- a tag that is too long
+  pub too_large-refused : longest_tag < b.block.length
+      → RefusesTag name files s (TooLarge b.block.length)
+  too_large-refused large bytes holds =
+      let here = told-there bytes holds in
+      let own = take b.block.length (drop b.offset bytes) in
+      let more : ltb longest_tag (length own) ≡ true =
+      lt-ltb longest_tag (length own) (omega (arith, here.long, large)) in
+      file_tag-some bytes s b tag ∙ rw more (ap (λ n. Err (TooLarge n)) here.long)
+
+  module _ (block : List ℕ) (own : (bytes : List ℕ) → Holds files name bytes → block
+      ≡ take b.block.length (drop b.offset bytes)) (long : length block ≡ b.block.length) where
+    front_there : (bytes : List ℕ) → Holds files name bytes
+        → block_front block ≡ Some (record { kind = Ape; length = length block })
+    front_there bytes holds =
+        subst (λ (l : List ℕ). block_front l ≡ Some (record { kind = Ape; length = length l }))
+        (sym (own bytes holds)) (told-there bytes holds).front
+
+    tag_is : (bytes : List ℕ) → Holds files name bytes → (r : Result TagFields FileTagFault)
+        → tag_of_block b.offset block ≡ r → file_tag bytes s ≡ r
+    tag_is bytes holds r is =
+        file_tag-some bytes s b tag ∙ ap (tag_of_block b.offset) (sym (own bytes holds)) ∙ is
+
+    -- the tag is that of the block
+    pub block-tag : (t : TagFields) → (block_front block
+        ≡ Some (record { kind = Ape; length = length block }) → tag_of_block b.offset block ≡ Ok t)
+        → (bytes : List ℕ) → Holds files name bytes → file_tag bytes s ≡ Ok t
+    block-tag t is bytes holds = tag_is bytes holds (Ok t) (is (front_there bytes holds))
+
+    -- so is its fault
+    pub block-cause : (before after : Counts) (fault : FileTagFault) → after ≡ before
+        → IsBlockCause b.offset block fault → IsTagCause name files s before after fault
+    block-cause before after (Bad at) same cause =
+        let place = place-some s b tag in
+        let low : tag_offset s ≤ at = omega (arith, place.0, cause.1) in
+        let high : 0 < tag_length s → at < tag_offset s + tag_length s =
+        λ some. let less = cause.2 (omega (arith, long, place.1, some)) in
+        omega (arith, less, long, place.0, place.1) in (
+          (λ bytes holds. tag_is bytes holds (Err (Bad at)) (cause.0 (front_there bytes holds))),
+          low,
+          high,
+          same,
+        )
+    block-cause before after Memory same cause = same
+    block-cause before after _ same cause = absurd cause

@@ -1,0 +1,349 @@
+-- A file with moved gains and another tag, changed again: it
+-- is the file with all steps together and with the last tag.
+use Rattle.std.proofs.Common.{ap, append-nil, append_assoc, ap₂, arith, Bool, cond, drop, false}
+use Rattle.std.proofs.Common.{inl, inr, length, length-drop, List, ltb, map, Ok, refl, Some, subst}
+use Rattle.std.proofs.Common.{sym, take, true, ℕ, [], ◌++◌, ◌+◌, ◌-◌, ◌<◌, ◌∙◌, ◌∷◌, ◌≡◌, ◌≤◌, ◌⊎◌}
+use Rattle.std.proofs.lemmas.Bool.{le-ltb, lt-ltb}
+use Rattle.std.proofs.lemmas.List.{drop-drop, drop_at, length-take-le, map-append, take_at}
+use Rattle.bit_fields.specs.Bits.{AreBytes}
+use Rattle.moved_gains.proofs.{EditedSurveyLemmas.surveyed-edited, LostOffsetLemmas.EndBy}
+use Rattle.moved_gains.proofs.MovedAgainLemmas.{AllTogether, AreMovedBy, ends_again, IsTogether}
+use Rattle.moved_gains.proofs.{MovedAgainLemmas.{moved_again, stood}, MovingLemmas.moved_to}
+use Rattle.moved_gains.proofs.{NewTagLemmas.tagged-again, RetaggedFileLemmas.surveyed-retagged}
+use Rattle.moved_gains.proofs.RowLemmas.{each_before, each_behind}
+use Rattle.moved_gains.proofs.TagPlaceLemmas.{IsAmong, IsInFront, stands_somewhere, StandsSomewhere}
+use Rattle.moved_gains.proofs.WholeFrameLemmas.{AreFramesOf, frames_there, IsFrameOf}
+use Rattle.moved_gains.proofs.WrittenTagLemmas.{at_behind, at_front, IsParted, length_moved}
+use Rattle.moved_gains.proofs.WrittenTagLemmas.{parted_among, parted_front}
+use Rattle.moved_gains.specs.{Edited.edited_file, Streams.{edited_row, edited_survey, junk_length}}
+use Rattle.moved_gains.specs.TagLaws.{HasNewTag}
+use Rattle.moved_gains.specs.TagPlace.{file_with_tag, retagged_fields, retagged_offset}
+use Rattle.moved_gains.specs.TagPlace.{retagged_row, tag_length, tag_offset}
+use Rattle.outside.specs.Pass.{bytes_between}
+use Rattle.requests.specs.declared.shift.Steps.{Steps}
+use Rattle.sync_survey.specs.{Faults.{survey_fields, SurveyFields}, Row.Row}
+use Rattle.tag_blocks.{proofs.BlocksLemmas.block_front-least, specs.Blocks.block_front}
+use Rattle.tag_blocks.specs.declared.block.Kind.TheVariants.{Ape}
+
+-- ---- changed again
+
+module _ (one : ℕ → Steps) (file : List ℕ) (allowed : ℕ) (s : SurveyFields) (are : AreBytes file)
+    (is : survey_fields file allowed ≡ Ok s) (block : List ℕ)
+    (front : block_front block ≡ Some (record { kind = Ape; length = length block })) where
+  abbrev m : SurveyFields
+  m = edited_survey one s
+
+  abbrev size : ℕ
+  size = length block
+
+  -- the file with moved gains and this tag, and its survey
+  abbrev pub new : List ℕ
+  new = file_with_tag block m (edited_file one file s)
+
+  abbrev pub new_survey : SurveyFields
+  new_survey = retagged_fields size m
+
+  abbrev gap : ℕ
+  gap = junk_length s
+
+  abbrev a : ℕ
+  a = tag_offset s
+
+  abbrev old : ℕ
+  old = tag_length s
+
+  -- where what is at an offset of the file is then
+  abbrev pub to : ℕ → ℕ
+  to x = retagged_offset size m (x - gap)
+
+  moved_of : survey_fields (edited_file one file s) allowed ≡ Ok m
+  moved_of = surveyed-edited one file allowed s are is
+
+  clean : m.junk ≡ m.first
+  unfolding edited_survey
+  clean = refl
+
+  -- the changed file has the survey of the edited one with another tag
+  pub new_is : survey_fields new allowed ≡ Ok new_survey
+  new_is = surveyed-retagged (edited_file one file s) block allowed m moved_of clean (inr front)
+
+  -- it has the new tag
+  pub has_block : HasNewTag (edited_file one file s) block m
+  has_block = tagged-again (edited_file one file s) block allowed m moved_of clean front
+
+  some : 10 ≤ size
+  some = block_front-least block _ front
+
+  rows_twice : (rows : List Row)
+      → map (retagged_row size m) (map (edited_row one gap) rows) ≡ map (stood to one) rows
+  rows_twice [] = refl
+  rows_twice (row ∷ rows) = ap (λ (l : List Row). stood to one row ∷ l) (rows_twice rows)
+
+  -- its frames are those of the file, moved and where they are now
+  pub new_frames : new_survey.frames ≡ map (stood to one) s.frames
+  unfolding retagged_fields edited_survey
+  new_frames = rows_twice s.frames
+
+  new_junk : new_survey.junk ≡ retagged_offset size m s.junk
+  unfolding retagged_fields edited_survey
+  new_junk = refl
+
+  new_first : new_survey.first ≡ retagged_offset size m s.junk
+  unfolding retagged_fields edited_survey
+  new_first = refl
+
+  -- no junk is in it
+  pub clean_survey : junk_length new_survey ≡ 0
+  clean_survey = omega (arith, new_junk, new_first)
+
+  -- it is shorter by junk and tag, and longer by the new tag
+  pub new_long : new_survey.length ≡ s.length - gap - tag_length m + size
+  unfolding retagged_fields edited_survey
+  new_long = refl
+
+  stays : (x : ℕ) → x < tag_offset m → retagged_offset size m x ≡ x
+  stays x low = let below : ltb x (tag_offset m) ≡ true = lt-ltb x (tag_offset m) low in
+      ap (λ (b : Bool). cond b x (x - tag_length m + size)) below
+
+  follows : (x : ℕ) → tag_offset m ≤ x → retagged_offset size m x ≡ x - tag_length m + size
+  follows x high = let above : ltb x (tag_offset m) ≡ false = le-ltb x (tag_offset m) high in
+      ap (λ (b : Bool). cond b x (x - tag_length m + size)) above
+
+  old_size : tag_length m ≡ old
+  old_size = length_moved one s
+
+  here : StandsSomewhere one file s
+  here = stands_somewhere one file allowed s is
+
+  frames : AreFramesOf file s.frames
+  frames = frames_there file allowed s are is
+
+  new_size : tag_length new_survey ≡ size
+  new_size = has_block.size
+
+  whole : length new ≡ new_survey.length
+  whole = (stands_somewhere one new allowed new_survey new_is).size
+
+  -- where the tag is after some frames and before the others, so is the new one
+  module _ (at : IsAmong s) where
+    kept : tag_offset m ≡ a - gap
+    kept = at_behind one s s.length (omega (arith, at.low)) here.ends here.some
+
+    place : tag_offset new_survey ≡ a - gap
+    place = has_block.place ∙ kept
+
+    still : retagged_offset size m s.junk ≡ s.junk
+    still = stays s.junk (omega (arith, kept, at.low, here.junk))
+
+    junk_same : new_survey.junk ≡ s.junk
+    junk_same = new_junk ∙ still
+
+    first_same : new_survey.first ≡ s.junk
+    first_same = new_first ∙ still
+
+    abbrev next : ℕ
+    next = tag_offset new_survey + tag_length new_survey
+
+    by_before : AreMovedBy to s.first a new_survey.first
+    by_before x low high = stays (x - gap) (omega (arith, kept, low, high, here.junk))
+        ∙ omega (arith, first_same, low, here.junk)
+
+    by_behind : AreMovedBy to (a + old) (length file) next
+    by_behind x low high = follows (x - gap) (omega (arith, kept, low))
+        ∙ omega (arith, old_size, place, new_size, low, at.low, here.junk)
+
+    to_place : a - s.first + new_survey.first ≡ tag_offset new_survey
+    to_place = omega (arith, place, first_same, at.low, here.junk)
+
+    to_end : length file - (a + old) + next ≡ length new
+    to_end = omega
+        (arith, place, new_size, here.size, whole, new_long, old_size, at.low, at.up, here.junk)
+
+    rest_file : EndBy (a + old) at.behind (length file)
+    rest_file = subst (EndBy (a + old) at.behind) (sym here.size) at.rest
+
+    abbrev new_among : IsAmong new_survey
+    new_among = record {
+      before = map (stood to one) at.before;
+      behind = map (stood to one) at.behind;
+      all = new_frames ∙ ap (map (stood to one)) at.all
+          ∙ map-append (stood to one) at.before at.behind;
+      low = omega (arith, place, first_same, at.low, here.junk);
+      past = omega (arith, place, junk_same, at.low, here.junk);
+      front = subst (EndBy new_survey.first (map (stood to one) at.before)) to_place
+          (ends_again one to s.first a new_survey.first at.before at.front by_before);
+      rest = subst (EndBy next (map (stood to one) at.behind)) (to_end ∙ whole)
+          (ends_again one to (a + old) (length file) next at.behind rest_file by_behind);
+      up = omega (arith, to_end, whole);
+    }
+
+  module _ (two all : ℕ → Steps) (sum : AllTogether one two all to s.frames) where
+    abbrev n : SurveyFields
+    n = new_survey
+
+    there : StandsSomewhere two new n
+    there = stands_somewhere two new allowed n new_is
+
+    -- the tag is before the frames
+    front_again : IsInFront s → (bytes : List ℕ)
+        → file_with_tag bytes (edited_survey two n) (edited_file two new n)
+        ≡ file_with_tag bytes (edited_survey all s) (edited_file all file s)
+    front_again at bytes =
+        let place : tag_offset n ≡ a =
+        has_block.place ∙ at_front one s (omega (arith, at.some, at.before, here.junk)) at.some in
+        let kept : tag_offset m ≡ a =
+        at_front one s (omega (arith, at.some, at.before, here.junk)) at.some in
+        let past : retagged_offset size m s.junk ≡ s.junk - old + size =
+        follows s.junk (omega (arith, kept, at.before)) ∙ ap (λ k. s.junk - k + size) old_size in
+        let between = bytes_between file (a + old) s.junk in
+        let rows = moved_to one file s.first (length file) s.frames in
+        let within : s.junk ≤ length file = omega (arith, here.size, here.junk, here.first) in
+        let stands : new ≡ take a file ++ (block ++ (between ++ rows)) =
+        (parted_front one file allowed s is at).tagged block in
+        let at_new : IsInFront n = record {
+          some = omega (arith, new_size, some);
+          before = omega (arith, place, new_size, new_junk, past, at.before);
+        } in
+        let front_long : length (take a file) ≡ a =
+        length-take-le a file (omega (arith, at.before, within)) in
+        let between_long : length between ≡ s.junk - (a + old) = length-take-le (s.junk - (a + old))
+        (drop (a + old) file) (omega (arith, length-drop (a + old) file, at.before, within)) in
+        let before_same : take (tag_offset n) new ≡ take a file = ap (λ k. take k new) place
+        ∙ ap (take a) stands ∙ take_at (take a file) (block ++ (between ++ rows)) a front_long in
+        let next : tag_offset n + tag_length n ≡ a + size = ap₂ (λ j k. j + k) place new_size in
+        let behind : drop (tag_offset n + tag_length n) new ≡ between ++ rows =
+        ap (λ k. drop k new) next
+        ∙ sym (drop-drop size a new)
+        ∙ ap (λ (l : List ℕ). drop size (drop a l)) stands
+        ∙ ap (drop size) (drop_at (take a file) (block ++ (between ++ rows)) a front_long)
+        ∙ drop_at block (between ++ rows) size refl in
+        let between_same : bytes_between new (tag_offset n + tag_length n) n.junk ≡ between =
+        ap (take (n.junk - (tag_offset n + tag_length n))) behind
+        ∙ take_at between rows (n.junk - (tag_offset n + tag_length n))
+        (omega (arith, between_long, next, new_junk, past, at.before)) in
+        let far : n.first ≡ (tag_offset n + tag_length n) + (s.junk - (a + old)) =
+        omega (arith, new_first, past, next, at.before) in
+        let rows_stand : drop n.first new ≡ rows ++ [] =
+        ap (λ k. drop k new) far
+        ∙ sym (drop-drop (s.junk - (a + old)) (tag_offset n + tag_length n) new)
+        ∙ ap (drop (s.junk - (a + old))) behind
+        ∙ drop_at between rows (s.junk - (a + old)) between_long
+        ∙ sym (append-nil rows) in
+        let end : length file - s.first + n.first ≡ length new = omega (
+          arith,
+          here.size,
+          there.size,
+          new_long,
+          old_size,
+          new_first,
+          past,
+          here.first,
+          here.junk,
+          at.before,
+        ) in
+        let by : AreMovedBy to s.first (length file) n.first =
+        λ x low high. follows (x - gap) (omega (arith, kept, low, here.junk, at.before))
+        ∙ omega (arith, old_size, new_first, past, low, here.junk, at.before) in
+        let rows_same : moved_to two new n.first (length new) n.frames
+        ≡ moved_to all file s.first (length file) s.frames =
+        ap₂ (λ k (l : List Row). moved_to two new n.first k l) (sym end) new_frames
+        ∙ moved_again one two all file new to s.first (length file) n.first s.frames [] sum frames
+        (subst (EndBy s.first s.frames) (sym here.size) here.ends) (omega arith) by rows_stand in
+        (parted_front two new allowed n new_is at_new).tagged bytes
+        ∙ ap₂ (λ (j k : List ℕ). j ++ (bytes ++ k)) before_same
+        (ap₂ (λ (j k : List ℕ). j ++ k) between_same rows_same)
+        ∙ sym ((parted_front all file allowed s is at).tagged bytes)
+
+    -- it is after some frames and before the others
+    module _ (at : IsAmong s) where
+      abbrev junk : List ℕ
+      junk = take s.junk file
+
+      abbrev before : List ℕ
+      before = moved_to one file s.first a at.before
+
+      abbrev behind : List ℕ
+      behind = moved_to one file (a + old) (length file) at.behind
+
+      abbrev after : ℕ
+      after = tag_offset n + tag_length n
+
+      up : a + old ≤ length file
+      up = omega (arith, here.size, at.up)
+
+      parted : IsParted one file s (junk ++ before) behind
+      parted = parted_among one file allowed s is at
+
+      stands : new ≡ (junk ++ before) ++ (block ++ behind)
+      stands = parted.tagged block
+
+      stands_flat : new ≡ junk ++ (before ++ (block ++ behind))
+      stands_flat = stands ∙ append_assoc junk before (block ++ behind)
+
+      junk_long : length junk ≡ s.junk
+      junk_long = length-take-le s.junk file (omega (arith, here.size, here.junk, here.first))
+
+      sum_both : AllTogether one two all to (at.before ++ at.behind)
+      sum_both = subst (AllTogether one two all to) at.all sum
+
+      both : AreFramesOf file (at.before ++ at.behind)
+      both = subst (AreFramesOf file) at.all frames
+
+      junk_again : take n.junk new ≡ junk
+      junk_again = ap (λ k. take k new) (junk_same at) ∙ ap (take s.junk) stands_flat
+          ∙ take_at junk (before ++ (block ++ behind)) s.junk junk_long
+
+      before_stands : drop n.first new ≡ before ++ (block ++ behind)
+      before_stands = ap (λ k. drop k new) (first_same at) ∙ ap (drop s.junk) stands_flat
+          ∙ drop_at junk (before ++ (block ++ behind)) s.junk junk_long
+
+      before_again : moved_to two new n.first (tag_offset n) (map (stood to one) at.before)
+          ≡ moved_to all file s.first a at.before
+      before_again =
+          ap (λ k. moved_to two new n.first k (map (stood to one) at.before)) (sym (to_place at))
+          ∙ moved_again one two all file new to s.first a n.first at.before (block ++ behind)
+          (each_before (IsTogether one two all to) at.before at.behind sum_both)
+          (each_before (IsFrameOf file) at.before at.behind both) at.front (omega (arith, up))
+          (by_before at) before_stands
+
+      front_long : length (junk ++ before) ≡ tag_offset n
+      front_long = sym (has_block.place ∙ parted.place)
+
+      behind_stands : drop after new ≡ behind ++ []
+      behind_stands =
+          ap (λ k. drop (tag_offset n + k) new) new_size
+          ∙ sym (drop-drop size (tag_offset n) new)
+          ∙ ap (λ (l : List ℕ). drop size (drop (tag_offset n) l)) stands
+          ∙ ap (drop size) (drop_at (junk ++ before) (block ++ behind) (tag_offset n) front_long)
+          ∙ drop_at block behind size refl
+          ∙ sym (append-nil behind)
+
+      behind_again : moved_to two new after (length new) (map (stood to one) at.behind)
+          ≡ moved_to all file (a + old) (length file) at.behind
+      behind_again =
+          ap (λ k. moved_to two new after k (map (stood to one) at.behind)) (sym (to_end at))
+          ∙ moved_again one two all file new to (a + old) (length file) after at.behind []
+          (each_behind (IsTogether one two all to) at.before at.behind sum_both)
+          (each_behind (IsFrameOf file) at.before at.behind both) (rest_file at) (omega arith)
+          (by_behind at) behind_stands
+
+      among_again : (bytes : List ℕ)
+          → file_with_tag bytes (edited_survey two n) (edited_file two new n)
+          ≡ file_with_tag bytes (edited_survey all s) (edited_file all file s)
+      among_again bytes =
+          (parted_among two new allowed n new_is (new_among at)).tagged bytes
+          ∙ ap₂ (λ (j k : List ℕ). j ++ (bytes ++ k))
+          (ap₂ (λ (j k : List ℕ). j ++ k) junk_again before_again) behind_again
+          ∙ sym ((parted_among all file allowed s is at).tagged bytes)
+
+    -- the changed file, changed again, is the file changed once by all steps, with the last tag
+    pub changed_again : (bytes : List ℕ)
+        → file_with_tag bytes (edited_survey two n) (edited_file two new n)
+        ≡ file_with_tag bytes (edited_survey all s) (edited_file all file s)
+    changed_again bytes = by_place here.place
+      where
+        by_place : IsInFront s ⊎ IsAmong s
+            → file_with_tag bytes (edited_survey two n) (edited_file two new n)
+            ≡ file_with_tag bytes (edited_survey all s) (edited_file all file s)
+        by_place (inl at) = front_again at bytes
+        by_place (inr at) = among_again at bytes

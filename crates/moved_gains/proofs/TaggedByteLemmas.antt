@@ -1,0 +1,125 @@
+-- The bytes of a file with another tag: those before it and those after it are there as they were.
+use Rattle.std.proofs.Common.{ap, arith, Bool, cond, drop, false, length, length-append}
+use Rattle.std.proofs.Common.{length-drop, List, ltb, refl, subst, sym, take, true, ℕ, ◌++◌, ◌+◌}
+use Rattle.std.proofs.{Common.{◌-◌, ◌<◌, ◌∙◌, ◌≡◌, ◌≤◌}, lemmas.Bool.{le-ltb, lt-ltb}}
+use Rattle.std.proofs.lemmas.List.{drop-drop, drop-take, drop_at, length-take-le, take-append-le}
+use Rattle.std.proofs.lemmas.List.{take-take, take_at}
+use Rattle.bit_fields.proofs.BitsLemmas.{AreBelow-append, AreBelow-drop, AreBelow-take}
+use Rattle.bit_fields.specs.Bits.{AreBytes}
+use Rattle.moved_gains.proofs.MovedItemLemmas.{IsMovedTo}
+use Rattle.moved_gains.specs.TagPlace.{file_with_tag, retagged_offset, tag_length, tag_offset}
+use Rattle.sync_survey.specs.Faults.{SurveyFields}
+
+-- the file is what is before its tag, the new bytes, and what is behind it
+pub with_tag-is : (bytes : List ℕ) (s : SurveyFields) (file : List ℕ) → file_with_tag bytes s file
+    ≡ take (tag_offset s) file ++ (bytes ++ drop (tag_offset s + tag_length s) file)
+unfolding file_with_tag
+with_tag-is bytes s file = refl
+
+module _ (bytes file : List ℕ) (s : SurveyFields)
+    (room : tag_offset s + tag_length s ≤ length file) where
+  abbrev new : List ℕ
+  new = file_with_tag bytes s file
+
+  abbrev n : ℕ
+  n = length bytes
+
+  abbrev later : List ℕ
+  later = drop (tag_offset s + tag_length s) file
+
+  -- the file is what is before the tag, the new bytes, and what is behind it
+  pub new-is : new ≡ take (tag_offset s) file ++ (bytes ++ later)
+  new-is = with_tag-is bytes s file
+
+  -- what is before the tag is as long as its offset
+  pub front-long : length (take (tag_offset s) file) ≡ tag_offset s
+  front-long = length-take-le (tag_offset s) file (omega (arith, room))
+
+  -- the file is shorter by the tag, and longer by the new bytes
+  pub new-length : length new ≡ length file - tag_length s + n
+  new-length = omega (
+    arith,
+    ap length new-is,
+    length-append (take (tag_offset s) file) (bytes ++ later),
+    length-append bytes later,
+    front-long,
+    length-drop (tag_offset s + tag_length s) file,
+    room,
+  )
+
+  -- it is bytes where these are
+  pub new-bytes : AreBytes file → AreBytes bytes → AreBytes new
+  new-bytes all more =
+      subst AreBytes (sym new-is)
+      (AreBelow-append 256 (take (tag_offset s) file) (bytes ++ later)
+      (AreBelow-take 256 (tag_offset s) file all)
+      (AreBelow-append 256 bytes later more
+      (AreBelow-drop 256 (tag_offset s + tag_length s) file all)))
+
+  -- what is before the tag stays
+  pub new-front : take (tag_offset s) new ≡ take (tag_offset s) file
+  new-front = ap (take (tag_offset s)) new-is
+      ∙ take_at (take (tag_offset s) file) (bytes ++ later) (tag_offset s) front-long
+
+  -- the new bytes are where the tag was
+  pub new-tag : drop (tag_offset s) new ≡ bytes ++ later
+  new-tag = ap (drop (tag_offset s)) new-is
+      ∙ drop_at (take (tag_offset s) file) (bytes ++ later) (tag_offset s) front-long
+
+  -- and are all there
+  pub new-own : take n (drop (tag_offset s) new) ≡ bytes
+  new-own = ap (take n) new-tag ∙ take_at bytes later n refl
+
+  -- what was behind the tag is behind them
+  pub new-later : drop (tag_offset s + n) new ≡ later
+  new-later =
+      sym (drop-drop n (tag_offset s) new) ∙ ap (drop n) new-tag ∙ drop_at bytes later n refl
+
+  -- what was before the tag
+  pub stays : (x : ℕ) → x < tag_offset s → retagged_offset n s x ≡ x
+  stays x low = let is : ltb x (tag_offset s) ≡ true = lt-ltb x (tag_offset s) low in
+      ap (λ (b : Bool). cond b x (x - tag_length s + n)) is
+
+  -- what was after it
+  pub follows : (x : ℕ) → tag_offset s ≤ x → retagged_offset n s x ≡ x - tag_length s + n
+  follows x high = let is : ltb x (tag_offset s) ≡ false = le-ltb x (tag_offset s) high in
+      ap (λ (b : Bool). cond b x (x - tag_length s + n)) is
+
+  take_both : (x k : ℕ) (l : List ℕ) → take k (drop x l) ≡ drop x (take (x + k) l)
+  take_both x k l = sym (drop-take x k l)
+
+  front_same : (x k : ℕ) → x + k ≤ tag_offset s → take k (drop x new) ≡ take k (drop x file)
+  front_same x k within =
+      take_both x k new
+      ∙ ap (drop x)
+      (ap (take (x + k)) new-is ∙ take-append-le (x + k) (take (tag_offset s) file) (bytes
+      ++ later) (omega (arith, within, front-long)) ∙ take-take (x + k) (tag_offset s) file within)
+      ∙ sym (take_both x k file)
+
+  -- what is before the tag is where it was
+  pub front-moved : IsMovedTo (retagged_offset n s) file new 0 (tag_offset s) 0
+  front-moved = record {
+    place = λ x low high. stays x high ∙ omega arith;
+    same =
+        λ x k low high within. ap (λ y. take k (drop y new)) (stays x high) ∙ front_same x k within;
+  }
+
+  later_same : (x : ℕ) → tag_offset s + tag_length s ≤ x
+      → drop (x - tag_length s + n) new ≡ drop x file
+  later_same x above =
+      let off = x - (tag_offset s + tag_length s) in
+      let split : x - tag_length s + n ≡ (tag_offset s + n) + off = omega (arith, above) in
+      let back : (tag_offset s + tag_length s) + off ≡ x = omega (arith, above) in
+      ap (λ y. drop y new) split ∙ sym (drop-drop off (tag_offset s + n) new)
+      ∙ ap (drop off) new-later
+      ∙ drop-drop off (tag_offset s + tag_length s) file ∙ ap (λ y. drop y file) back
+
+  -- what is behind it is farther by what the new bytes have more
+  pub later-moved : IsMovedTo (retagged_offset n s) file new (tag_offset s + tag_length s)
+      (length file)
+      (tag_offset s + n)
+  later-moved = record {
+    place = λ x low high. follows x (omega (arith, low)) ∙ omega (arith, low);
+    same = λ x k low high within. ap (λ y. take k (drop y new)) (follows x (omega (arith, low)))
+        ∙ ap (take k) (later_same x low);
+  }

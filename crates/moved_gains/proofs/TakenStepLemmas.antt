@@ -1,0 +1,420 @@
+-- The steps that gains take: where no gain of a list leaves the
+-- range, the least and the greatest don't, and the other way round.
+use Rattle.std.proofs.Common.{ap, ap₂, arith, Bool, cond, false, is_some, leb, List, ltb, max, min}
+use Rattle.std.proofs.Common.{neg_ℤ, negsuc, None, not, Option, pos, refl, Some, suc, sym, true}
+use Rattle.std.proofs.Common.{zero, ℕ, ℤ, ◌+ℤ◌, [], ◌&&◌, ◌++◌, ◌+◌, ◌-◌, ◌<◌, ◌||◌, ◌∙◌, ◌∷◌, ◌≡◌}
+use Rattle.std.proofs.{Common.◌≤◌, Math.IntN.+ℤ_idr}
+use Rattle.std.proofs.lemmas.Bool.{and_from, and_parts, le-leb, le-ltb, leb-true, lt-leb, lt-ltb}
+use Rattle.std.{proofs.lemmas.{Bool.{ltb-false, ltb-true}, List.append-nil}, specs.Cmp.both_ways}
+use Rattle.std.specs.{Option.option_or, Prelude.{int_le, MatchBool}}
+use Rattle.frame_header.specs.{Fields.ClassFields, Tables.{class_of, granules_of}}
+use Rattle.frame_header.specs.declared.version.Version.{Version}
+use Rattle.moved_gains.proofs.ExtremesLemmas.{joined-extremes, moving-cons, moving-nil}
+use Rattle.moved_gains.proofs.{MovedFrameLemmas.gain_fits, MovedGainLemmas.{is_stuck, wrapped-free}}
+use Rattle.moved_gains.specs.{Course.{constant_steps, equal_steps}, Edited.row_out_of_range}
+use Rattle.moved_gains.specs.GainExtremes.{extremes, extremes_of_both, gain_that_moves}
+use Rattle.moved_gains.specs.GainExtremes.{joined_extremes, moving_gains, row_gains, side_gains}
+use Rattle.moved_gains.specs.GainExtremes.{takes_steps}
+use Rattle.moved_gains.specs.Gains.{gain_out_of_range, is_out_of_range, is_silent_granule}
+use Rattle.moved_gains.specs.{Gains.side_out_of_range, Moving.AreFramesOfClass}
+use Rattle.moved_gains.specs.StepLaws.{AreSidesFitting, is_some_out_of_range, separate_steps}
+use Rattle.moved_gains.specs.{StepLaws.TakeSteps, declared.gain_extremes.Gains.Gains}
+use Rattle.moved_gains.specs.declared.gains.OutOfRange.{OutOfRange}
+use Rattle.requests.specs.declared.shift.Steps.{Steps}
+use Rattle.side_info.specs.Granule.{GranuleFits, no_granule}
+use Rattle.side_info.specs.Side.{granule_in, has_granule, SideFits}
+use Rattle.side_info.specs.declared.{granule.Granule.Granule, side.Side.Side}
+use Rattle.sync_survey.specs.Row.{Row}
+
+-- ---- tests
+
+and_true : (x : Bool) → x ≡ (x && true)
+and_true true = refl
+and_true false = refl
+
+leb-min : (n a b : ℕ) → leb n (min a b) ≡ (leb n a && leb n b)
+leb-min n a b =
+    both_ways (leb n (min a b)) (leb n a && leb n b)
+    (λ is. let within : n ≤ min a b = leb-true n (min a b) is in and_from (leb n a) (leb n b)
+    (le-leb n a (omega (arith, within))) (le-leb n b (omega (arith, within))))
+    (λ is. let both = and_parts (leb n a) (leb n b) is in
+    le-leb n (min a b) (omega (arith, leb-true n a both.0, leb-true n b both.1)))
+
+ltb-min : (n a b : ℕ) → ltb n (min a b) ≡ (ltb n a && ltb n b)
+ltb-min n a b =
+    both_ways (ltb n (min a b)) (ltb n a && ltb n b)
+    (λ is. let within : n < min a b = ltb-true n (min a b) is in and_from (ltb n a) (ltb n b)
+    (lt-ltb n a (omega (arith, within))) (lt-ltb n b (omega (arith, within))))
+    (λ is. let both = and_parts (ltb n a) (ltb n b) is in
+    lt-ltb n (min a b) (omega (arith, ltb-true n a both.0, ltb-true n b both.1)))
+
+-- ---- one gain
+
+-- it doesn't leave the range by so many steps
+abbrev pub inside : ℤ → ℕ → Bool
+inside steps gain = not (is_out_of_range (pos gain +ℤ steps))
+
+-- none of these does
+abbrev pub all_inside : ℤ → List ℕ → Bool
+all_inside steps [] = true
+all_inside steps (gain ∷ gains) = inside steps gain && all_inside steps gains
+
+abbrev pub AreSmall : List ℕ → Type 0
+AreSmall [] = Unit {0}
+AreSmall (gain ∷ gains) = (gain < 256) × AreSmall gains
+
+-- upward the greatest gain decides, and downward the least
+takes_up : (g : Gains) (n : ℕ) → takes_steps (Some g) (pos n) ≡ leb n (255 - g.greatest)
+takes_up g n = by_least g.least
+  where
+    by_least : (a : ℕ)
+        → (int_le (neg_ℤ (pos a)) (pos n) && leb n (255 - g.greatest)) ≡ leb n (255 - g.greatest)
+    by_least zero = ap (λ b. b && leb n (255 - g.greatest)) (le-leb 0 n (omega arith))
+    by_least (suc a) = refl
+
+takes_down : (g : Gains) (n : ℕ) → takes_steps (Some g) (negsuc n) ≡ ltb n g.least
+takes_down g n = by_least g.least
+  where
+    by_least : (a : ℕ) → (int_le (neg_ℤ (pos a)) (negsuc n) && true) ≡ ltb n a
+    by_least zero = sym (le-ltb n 0 (omega arith))
+    by_least (suc a) =
+        sym (and_true (leb n a))
+        ∙ both_ways (leb n a) (ltb n (suc a))
+        (λ is. lt-ltb n (suc a) (omega (arith, leb-true n a is)))
+        (λ is. le-leb n a (omega (arith, ltb-true n (suc a) is)))
+
+-- one gain takes steps exactly where it doesn't leave the range by them
+pub takes-one : (gain : ℕ) (steps : ℤ) → gain < 256
+    → takes_steps (Some (record { least = gain; greatest = gain })) steps ≡ inside steps gain
+takes-one gain (pos n) small =
+    takes_up (record { least = gain; greatest = gain }) n
+    ∙ (elim (ltb 255 (gain + n)) as (λ b. ltb 255 (gain + n) ≡ b → leb n (255 - gain) ≡ not b) [
+      | true ↦ λ is. lt-leb n (255 - gain) (omega (arith, ltb-true 255 (gain + n) is, small))
+      | false ↦ λ is. le-leb n (255 - gain) (omega (arith, ltb-false 255 (gain + n) is, small))
+    ] refl)
+takes-one gain (negsuc n) small =
+    takes_down (record { least = gain; greatest = gain }) n
+    ∙ (elim (ltb gain (suc n)) as (λ b. ltb gain (suc n) ≡ b → ltb n gain
+    ≡ not (is_out_of_range (cond b (negsuc (suc n - suc gain)) (pos (gain - suc n))))) [
+      | true ↦ λ is. le-ltb n gain (omega (arith, ltb-true gain (suc n) is))
+      | false ↦ λ is. lt-ltb n gain (omega (arith, ltb-false gain (suc n) is))
+          ∙ sym (ap not (le-ltb 255 (gain - suc n) (omega (arith, small))))
+    ] refl)
+
+-- ---- many gains
+
+-- the gains of two lists together take what those of each do
+pub takes-joined : (f g : Option Gains) (steps : ℤ)
+    → takes_steps (joined_extremes f g) steps ≡ (takes_steps f steps && takes_steps g steps)
+takes-joined None g steps = refl
+takes-joined (Some f) None steps = and_true (takes_steps (Some f) steps)
+takes-joined (Some f) (Some g) (pos n) =
+    let least : 255 - max f.greatest g.greatest ≡ min (255 - f.greatest) (255 - g.greatest) =
+    omega arith in
+    takes_up (record { least = min f.least g.least; greatest = max f.greatest g.greatest }) n
+    ∙ ap (leb n) least ∙ leb-min n (255 - f.greatest) (255 - g.greatest)
+    ∙ sym (ap₂ (λ (a b : Bool). a && b) (takes_up f n) (takes_up g n))
+takes-joined (Some f) (Some g) (negsuc n) =
+    takes_down (record { least = min f.least g.least; greatest = max f.greatest g.greatest }) n
+    ∙ ltb-min n f.least g.least
+    ∙ sym (ap₂ (λ (a b : Bool). a && b) (takes_down f n) (takes_down g n))
+
+extremes-one : (gain : ℕ) → extremes (gain ∷ []) ≡ Some (record { least = gain; greatest = gain })
+unfolding extremes
+extremes-one gain = refl
+
+takes-nil : (steps : ℤ) → takes_steps (extremes []) steps ≡ true
+unfolding extremes
+takes-nil steps = refl
+
+-- the least and the greatest of gains take steps exactly
+-- where none of the gains leaves the range by them
+pub takes-all : (gains : List ℕ) (steps : ℤ) → AreSmall gains
+    → takes_steps (extremes gains) steps ≡ all_inside steps gains
+takes-all [] steps small = takes-nil steps
+takes-all (gain ∷ gains) steps small =
+    ap (λ g. takes_steps g steps) (sym (joined-extremes (gain ∷ []) gains))
+    ∙ takes-joined (extremes (gain ∷ [])) (extremes gains) steps
+    ∙ ap₂ (λ (a b : Bool). a && b) (ap (λ g. takes_steps g steps) (extremes-one gain)
+    ∙ takes-one gain steps small.0) (takes-all gains steps small.1)
+
+and_assoc : (a b c : Bool) → (a && (b && c)) ≡ ((a && b) && c)
+and_assoc true b c = refl
+and_assoc false b c = refl
+
+-- none of two lists leaves the range where none of the one does and none of the other
+pub inside-append : (steps : ℤ) (xs ys : List ℕ)
+    → all_inside steps (xs ++ ys) ≡ (all_inside steps xs && all_inside steps ys)
+inside-append steps [] ys = refl
+inside-append steps (x ∷ xs) ys = ap (λ b. inside steps x && b) (inside-append steps xs ys)
+    ∙ and_assoc (inside steps x) (all_inside steps xs) (all_inside steps ys)
+
+small-append : (xs ys : List ℕ) → AreSmall xs → AreSmall ys → AreSmall (xs ++ ys)
+small-append [] ys first second = second
+small-append (x ∷ xs) ys first second = (first.0, small-append xs ys first.1 second)
+
+-- no step leaves the range
+inside-none : (gains : List ℕ) → AreSmall gains → all_inside (pos 0) gains ≡ true
+inside-none [] small = refl
+inside-none (gain ∷ gains) small =
+    and_from (inside (pos 0) gain) (all_inside (pos 0) gains)
+    (ap (λ z. not (is_out_of_range z)) (+ℤ_idr (pos gain))
+    ∙ ap not (le-ltb 255 gain (omega (arith, small.0))))
+    (inside-none gains small.1)
+
+-- ---- one frame
+
+some_or : (o p : Option OutOfRange) → is_some (option_or o p) ≡ (is_some o || is_some p)
+some_or (Some x) p = refl
+some_or None p = refl
+
+some_if : (b : Bool) (x : OutOfRange) → is_some (cond b (Some x) None) ≡ b
+some_if true x = refl
+some_if false x = refl
+
+some_at : (steps : ℤ) (s : Side) (granule channel : ℕ)
+    → is_some (gain_out_of_range steps s granule channel)
+    ≡ is_stuck steps (granule_in s granule channel)
+some_at steps s granule channel = some_if (is_stuck steps (granule_in s granule channel)) (record {
+  granule = granule;
+  channel = channel;
+  gain = (granule_in s granule channel).global_gain;
+})
+
+moves_inside : (steps : ℤ) (g : Granule)
+    → all_inside steps (gain_that_moves g) ≡ not (is_stuck steps g)
+moves_inside steps g =
+    elim (is_silent_granule g) as (λ b. all_inside steps (cond b [] (g.global_gain ∷ []))
+    ≡ not (not b && is_out_of_range (pos g.global_gain +ℤ steps))) [
+      | true ↦ refl
+      | false ↦ sym (and_true (inside steps g.global_gain))
+    ]
+
+gains_inside : (steps : ℤ) (s : Side) (channel : ℕ) → all_inside steps (side_gains channel s) ≡
+    (not (is_stuck steps (granule_in s 0 channel)) && not (is_stuck steps (granule_in s 1 channel)))
+gains_inside steps s channel =
+    inside-append steps (gain_that_moves (granule_in s 0 channel))
+    (gain_that_moves (granule_in s 1 channel))
+    ∙ ap₂ (λ (a b : Bool). a && b) (moves_inside steps (granule_in s 0 channel))
+    (moves_inside steps (granule_in s 1 channel))
+
+one_of_four : (a b c d : Bool) → (a || (b || (c || d))) ≡ not ((not a && not c) && (not b && not d))
+one_of_four true b c d = refl
+one_of_four false true true d = refl
+one_of_four false true false d = refl
+one_of_four false false true d = refl
+one_of_four false false false true = refl
+one_of_four false false false false = refl
+
+some_of_four : (o p q r : Option OutOfRange) → is_some (option_or o (option_or p (option_or q r)))
+    ≡ (is_some o || (is_some p || (is_some q || is_some r)))
+some_of_four o p q r =
+    some_or o (option_or p (option_or q r))
+    ∙ ap (λ b. is_some o || b) (some_or p (option_or q r) ∙ ap (λ b. is_some p || b) (some_or q r))
+
+-- a gain of a frame leaves the range exactly where one of the left channel
+-- does by the steps to the left, or one of the right by those to the right
+side_stuck : (left right : ℤ) (s : Side) → is_some (side_out_of_range (separate_steps left right) s)
+    ≡ not (all_inside left (side_gains 0 s) && all_inside right (side_gains 1 s))
+unfolding side_out_of_range
+side_stuck left right s =
+    some_of_four (gain_out_of_range left s 0 0) (gain_out_of_range right s 0 1)
+    (gain_out_of_range left s 1 0)
+    (gain_out_of_range right s 1 1)
+    ∙ ap₂ (λ (a b : Bool). a || b) (some_at left s 0 0)
+    (ap₂ (λ (a b : Bool). a || b) (some_at right s 0 1)
+    (ap₂ (λ (a b : Bool). a || b) (some_at left s 1 0) (some_at right s 1 1)))
+    ∙ one_of_four (is_stuck left (granule_in s 0 0)) (is_stuck right (granule_in s 0 1))
+    (is_stuck left (granule_in s 1 0)) (is_stuck right (granule_in s 1 1))
+    ∙ sym (ap₂ (λ (a b : Bool). not (a && b)) (gains_inside left s 0) (gains_inside right s 1))
+
+row_stuck : (left right : ℤ) (row : Row)
+    → is_some (row_out_of_range (separate_steps left right) row)
+    ≡ not (all_inside left (row_gains 0 row) && all_inside right (row_gains 1 row))
+row_stuck left right row =
+    elim row.lost
+    as (λ b. is_some (cond b None (side_out_of_range (separate_steps left right) row.side))
+    ≡ not (all_inside left (cond b [] (side_gains 0 row.side))
+    && all_inside right (cond b [] (side_gains 1 row.side)))) [
+      | true ↦ refl
+      | false ↦ side_stuck left right row.side
+    ]
+
+-- ---- all frames
+
+-- without frames no gain leaves the range
+pub stuck-nil : (steps : ℕ → Steps) → is_some_out_of_range steps [] ≡ false
+unfolding is_some_out_of_range
+stuck-nil steps = refl
+
+-- a gain of frames leaves it where one of the first frame does or one of the others
+pub stuck-cons : (steps : ℕ → Steps) (row : Row) (rows : List Row)
+    → is_some_out_of_range steps (row ∷ rows)
+    ≡ (is_some (row_out_of_range (steps row.offset) row) || is_some_out_of_range steps rows)
+unfolding is_some_out_of_range
+stuck-cons steps row rows = refl
+
+first_or_other : (a b p q : Bool) → (not (a && b) || not (p && q)) ≡ not ((a && p) && (b && q))
+first_or_other false b p q = refl
+first_or_other true false true q = refl
+first_or_other true false false q = refl
+first_or_other true true true q = refl
+first_or_other true true false q = refl
+
+inside-nil : (channel : ℕ) (steps : ℤ) → all_inside steps (moving_gains channel []) ≡ true
+inside-nil channel steps = ap (all_inside steps) (moving-nil channel)
+
+inside-cons : (channel : ℕ) (steps : ℤ) (row : Row) (rows : List Row)
+    → all_inside steps (moving_gains channel (row ∷ rows))
+    ≡ (all_inside steps (row_gains channel row) && all_inside steps (moving_gains channel rows))
+inside-cons channel steps row rows = ap (all_inside steps) (moving-cons channel row rows)
+    ∙ inside-append steps (row_gains channel row) (moving_gains channel rows)
+
+rows_stuck : (left right : ℤ) (rows : List Row)
+    → is_some_out_of_range (constant_steps (separate_steps left right)) rows
+    ≡ not (all_inside left (moving_gains 0 rows) && all_inside right (moving_gains 1 rows))
+rows_stuck left right [] = stuck-nil (constant_steps (separate_steps left right))
+    ∙ sym (ap₂ (λ (a b : Bool). not (a && b)) (inside-nil 0 left) (inside-nil 1 right))
+rows_stuck left right (row ∷ rows) =
+    stuck-cons (constant_steps (separate_steps left right)) row rows
+    ∙ ap₂ (λ (a b : Bool). a || b) (row_stuck left right row) (rows_stuck left right rows)
+    ∙ first_or_other (all_inside left (row_gains 0 row)) (all_inside right (row_gains 1 row))
+    (all_inside left (moving_gains 0 rows)) (all_inside right (moving_gains 1 rows))
+    ∙ sym (ap₂ (λ (a b : Bool). not (a && b)) (inside-cons 0 left row rows)
+    (inside-cons 1 right row rows))
+
+each_stuck : (steps : ℕ → ℤ) (rows : List Row)
+    → ((at : ℕ) → (all_inside (steps at) (moving_gains 0 rows) ≡ true)
+    × (all_inside (steps at) (moving_gains 1 rows) ≡ true))
+    → is_some_out_of_range (λ at. equal_steps (steps at)) rows ≡ false
+each_stuck steps [] free = stuck-nil (λ at. equal_steps (steps at))
+each_stuck steps (row ∷ rows) free =
+    let parts : (channel at : ℕ) → all_inside (steps at) (moving_gains channel (row ∷ rows)) ≡ true
+    → (all_inside (steps at) (row_gains channel row) ≡ true)
+    × (all_inside (steps at) (moving_gains channel rows) ≡ true) =
+    λ channel at is. and_parts (all_inside (steps at) (row_gains channel row))
+    (all_inside (steps at)
+    (moving_gains channel rows)) (sym (inside-cons channel (steps at) row rows) ∙ is) in
+    stuck-cons (λ at. equal_steps (steps at)) row rows
+    ∙ ap₂ (λ (a b : Bool). a || b)
+    (row_stuck (steps row.offset) (steps row.offset) row
+    ∙ ap₂ (λ (a b : Bool). not (a && b))
+    (parts 0 row.offset (free row.offset).0).0 (parts 1 row.offset (free row.offset).1).0)
+    (each_stuck steps rows (λ at. ((parts 0 at (free at).0).1, (parts 1 at (free at).1).1)))
+
+wrap_stuck : (steps : ℕ → Steps) (rows : List Row) → ((at : ℕ) → (steps at).wrap ≡ true)
+    → is_some_out_of_range steps rows ≡ false
+wrap_stuck steps [] wraps = stuck-nil steps
+wrap_stuck steps (row ∷ rows) wraps =
+    stuck-cons steps row rows
+    ∙ ap₂ (λ (a b : Bool). a || b) (ap is_some (free row.lost)) (wrap_stuck steps rows wraps)
+  where
+    free : (lost : Bool) → cond lost None (side_out_of_range (steps row.offset) row.side) ≡ None
+    free true = refl
+    free false = wrapped-free (steps row.offset) row.side (wraps row.offset)
+
+-- ---- frames that fit
+
+small_gain : (g : Granule) → g.global_gain < 256 → AreSmall (gain_that_moves g)
+small_gain g small =
+    elim (is_silent_granule g) as (λ b. AreSmall (cond b [] (g.global_gain ∷ []))) [
+      | true ↦ tt
+      | false ↦ (small, tt)
+    ]
+
+small_at : (channel : ℕ) (row : Row) → SideFits (class_of row.header) row.side
+    → AreSmall (row_gains channel row)
+small_at channel row fits =
+    let c = class_of row.header in
+    let gain : (granule : ℕ) → AreSmall (gain_that_moves (granule_in row.side granule channel)) =
+    λ granule. small_gain (granule_in row.side granule channel) (gain_fits c (has_granule c granule
+    channel) (granule_in row.side granule channel) (fits.granules granule channel)) in
+    elim row.lost as (λ b. AreSmall (cond b [] (side_gains channel row.side))) [
+      | true ↦ tt
+      | false ↦ small-append (gain_that_moves (granule_in row.side 0 channel))
+          (gain_that_moves (granule_in row.side 1 channel)) (gain 0) (gain 1)
+    ]
+
+small_moving : (channel : ℕ) (rows : List Row) → AreSidesFitting rows
+    → AreSmall (moving_gains channel rows)
+unfolding moving_gains
+small_moving channel [] fits = tt
+small_moving channel (row ∷ rows) fits = small-append (row_gains channel row)
+    (moving_gains channel rows) (small_at channel row fits.0) (small_moving channel rows fits.1)
+
+-- ---- one channel
+
+lacks : (has : Bool) (version : Version) (g : Granule) → has ≡ false
+    → MatchBool has (GranuleFits version g) (g ≡ no_granule) → g ≡ no_granule
+lacks true version g none fits = absurd cc
+lacks false version g none fits = fits
+
+no_second : (c : ClassFields) (granule : ℕ) → c.channels ≡ 1 → has_granule c granule 1 ≡ false
+no_second c granule one = by_granule (ltb granule (granules_of c.version))
+  where
+    few : ltb 1 c.channels ≡ false
+    few = le-ltb 1 c.channels (omega (arith, one))
+
+    by_granule : (b : Bool) → (b && ltb 1 c.channels) ≡ false
+    by_granule true = few
+    by_granule false = refl
+
+mono_at : (class : ClassFields) (row : Row) → class_of row.header ≡ class → class.channels ≡ 1
+    → SideFits (class_of row.header) row.side → row_gains 1 row ≡ []
+mono_at class row same one fits =
+    let c = class_of row.header in
+    let lone : c.channels ≡ 1 = ap (λ (c : ClassFields). c.channels) same ∙ one in
+    let none : (granule : ℕ) → gain_that_moves (granule_in row.side granule 1) ≡ [] =
+    λ granule. ap gain_that_moves (lacks (has_granule c granule 1) c.version
+    (granule_in row.side granule 1) (no_second c granule lone) (fits.granules granule 1)) in
+    elim row.lost as (λ b. cond b [] (side_gains 1 row.side) ≡ []) [
+      | true ↦ refl
+      | false ↦ ap₂ (λ (a b : List ℕ). a ++ b) (none 0) (none 1)
+    ]
+
+mono_moving : (class : ClassFields) (rows : List Row) → AreFramesOfClass class rows
+    → class.channels ≡ 1 → AreSidesFitting rows → moving_gains 1 rows ≡ []
+mono_moving class [] same one fits = moving-nil 1
+mono_moving class (row ∷ rows) same one fits =
+    moving-cons 1 row rows
+    ∙ ap₂ (λ (a b : List ℕ). a ++ b) (mono_at class row (same 0 row refl) one fits.0)
+    (mono_moving class rows (λ i r is. same (suc i) r is) one fits.1)
+
+-- ---- the law
+
+-- when a gain of frames that fit leaves the range
+pub take_steps : (rows : List Row) → AreSidesFitting rows → TakeSteps rows
+take_steps rows fits = record {
+  apart_is = λ left right. rows_stuck left right rows
+      ∙ sym (ap₂ (λ (a b : Bool). not (a && b)) (takes-all (moving_gains 0 rows) left left_small)
+      (takes-all (moving_gains 1 rows) right right_small));
+  both = λ steps. rows_stuck steps steps rows ∙ ap not (sym (on_both steps));
+  left = λ steps. rows_stuck steps (pos 0) rows
+      ∙ ap (λ b. not (all_inside steps (moving_gains 0 rows) && b))
+      (inside-none (moving_gains 1 rows) right_small)
+      ∙ ap not (sym (and_true (all_inside steps (moving_gains 0 rows)))
+      ∙ sym (takes-all (moving_gains 0 rows) steps left_small));
+  right = λ steps. rows_stuck (pos 0) steps rows
+      ∙ ap (λ b. not (b && all_inside steps (moving_gains 1 rows)))
+      (inside-none (moving_gains 0 rows) left_small)
+      ∙ ap not (sym (takes-all (moving_gains 1 rows) steps right_small));
+  each = λ steps takes_all. each_stuck steps rows
+      (λ at. and_parts (all_inside (steps at) (moving_gains 0 rows))
+      (all_inside (steps at) (moving_gains 1 rows)) (sym (on_both (steps at)) ∙ takes_all at));
+  wrap = λ steps wraps. wrap_stuck steps rows wraps;
+  mono = λ class same one. ap (λ gains. extremes (moving_gains 0 rows ++ gains))
+      (mono_moving class rows same one fits) ∙ ap extremes (append-nil (moving_gains 0 rows));
+}
+  where
+    left_small : AreSmall (moving_gains 0 rows)
+    left_small = small_moving 0 rows fits
+
+    right_small : AreSmall (moving_gains 1 rows)
+    right_small = small_moving 1 rows fits
+
+    on_both : (steps : ℤ) → takes_steps (extremes_of_both rows) steps
+        ≡ (all_inside steps (moving_gains 0 rows) && all_inside steps (moving_gains 1 rows))
+    on_both steps =
+        takes-all (moving_gains 0 rows ++ moving_gains 1 rows) steps
+        (small-append (moving_gains 0 rows) (moving_gains 1 rows) left_small right_small)
+        ∙ inside-append steps (moving_gains 0 rows) (moving_gains 1 rows)

@@ -1,0 +1,132 @@
+-- A file all of whose bytes are blocks, zero bytes and
+-- frames: its stream starts at the first frame, without junk.
+use Rattle.std.proofs.Common.{ap, ap₂, arith, length, List, None, Ok, refl, Some, subst, true, ℕ}
+use Rattle.std.proofs.{Common.{[], ◌++◌, ◌+◌, ◌∙◌, ◌∷◌, ◌≡◌, ◌≤◌}, lemmas.Bool.{false≢true, le-leb}}
+use Rattle.std.specs.List.{cons_option}
+use Rattle.frame_header.specs.Fields.{HeaderFields}
+use Rattle.moved_gains.proofs.SplitItemLemmas.{cons-append}
+use Rattle.sync_survey.proofs.RunsLemmas.{item_of-is, item_of-past, item_of-whole, run-next}
+use Rattle.sync_survey.proofs.RunsLemmas.{run-only, run-stopped}
+use Rattle.sync_survey.specs.Items.{item_at, item_fits, size_of}
+use Rattle.sync_survey.specs.Runs.{AreEndToEnd, block_of_item, blocks_of, frame_of_item, frames_of}
+use Rattle.sync_survey.specs.Runs.{item_if_whole, item_run, ItemRun, PlacedItem, whole_item_at}
+use Rattle.sync_survey.specs.{Start.{front_end_of, start_at, start_of}, declared.items.Item.Item}
+use Rattle.sync_survey.specs.declared.items.Item.TheVariants.{End, Frame, Free, Nothing}
+use Rattle.sync_survey.specs.declared.places.{Piece.Piece, PlacedFrame.PlacedFrame, Start.Start}
+use Rattle.sync_survey.specs.declared.runs.Region.TheVariants.{Front, Stream}
+
+-- no frame is an item of the front
+pub not_in_front : (file : List ℕ) (at : ℕ) (h : HeaderFields) → item_at file at ≡ Frame h
+    → whole_item_at Front file at ≡ None
+unfolding whole_item_at
+not_in_front file at h is = ap (item_if_whole Front file at) is
+
+-- from an offset on the file has this first frame,
+-- these frames after it and these blocks, and no junk
+pub record IsClean (file : List ℕ) (from : ℕ) (p : PlacedFrame) (rest : List PlacedFrame)
+    (blocks : List Piece) : Type 0 where
+  pub front : (item_run Front file from).stop ≡ p.offset
+  pub first : whole_item_at Stream file p.offset ≡ Some (Frame p.header)
+  pub frames : frames_of (item_run Stream file p.offset).items ≡ p ∷ rest
+  pub stop : (item_run Stream file p.offset).stop ≡ length file
+  pub blocks_are : blocks_of (item_run Front file from).items
+      ++ blocks_of (item_run Stream file p.offset).items ≡ blocks
+
+frame_first : (file : List ℕ) (at : ℕ) (h : HeaderFields) (ps : List PlacedItem) (p : PlacedFrame)
+    (rest : List PlacedFrame) → whole_item_at Stream file at ≡ Some (Frame h)
+    → AreEndToEnd Stream file (at + size_of (Frame h)) ps (length file)
+    → record { offset = at; header = h } ∷ frames_of ps ≡ p ∷ rest
+    → IsClean file at p rest (blocks_of ps)
+frame_first file at h ps p rest is ends e =
+    let same : record { offset = at; header = h } ≡ p = cc in
+    let stream : item_run Stream file at
+    ≡ record { items = record { offset = at; item = Frame h } ∷ ps; stop = length file } =
+    run-only Stream file at (record { offset = at; item = Frame h } ∷ ps) (length file)
+    (refl, is, ends) (item_of-past Stream file (length file) (omega arith)) in
+    let front : item_run Front file at ≡ record { items = []; stop = at } =
+    run-stopped Front file at
+    (not_in_front file at h (item_of-is Stream file at (Frame h) is).is) in
+    subst (λ (q : PlacedFrame). IsClean file at q rest (blocks_of ps)) same (record {
+      front = ap (λ (r : ItemRun). r.stop) front;
+      first = is;
+      frames = ap (λ (r : ItemRun). frames_of r.items) stream ∙ cc;
+      stop = ap (λ (r : ItemRun). r.stop) stream;
+      blocks_are = ap₂ (λ (a b : ItemRun). blocks_of a.items ++ blocks_of b.items) front stream;
+    })
+
+passed : (file : List ℕ) (at : ℕ) (item : Item) (p : PlacedFrame) (rest : List PlacedFrame)
+    (blocks : List Piece) → whole_item_at Front file at ≡ Some item
+    → IsClean file (at + size_of item) p rest blocks
+    → IsClean file at p rest (cons_option (block_of_item at item) blocks)
+passed file at item p rest blocks is clean =
+    let front = run-next Front file at item is in
+    record {
+      front = ap (λ (r : ItemRun). r.stop) front ∙ clean.front;
+      first = clean.first;
+      frames = clean.frames;
+      stop = clean.stop;
+      blocks_are =
+          ap (λ (r : ItemRun). blocks_of r.items ++ blocks_of (item_run Stream file p.offset).items)
+          front
+          ∙ cons-append (block_of_item at item)
+          (blocks_of (item_run Front file (at + size_of item)).items)
+          (blocks_of (item_run Stream file p.offset).items)
+          ∙ ap (cons_option (block_of_item at item)) clean.blocks_are;
+    }
+
+one_item : (file : List ℕ) (at : ℕ) (item : Item) (ps : List PlacedItem) (p : PlacedFrame)
+    (rest : List PlacedFrame) → whole_item_at Stream file at ≡ Some item
+    → AreEndToEnd Stream file (at + size_of item) ps (length file)
+    → (frames_of ps ≡ p ∷ rest → IsClean file (at + size_of item) p rest (blocks_of ps))
+    → cons_option (frame_of_item at item) (frames_of ps) ≡ p ∷ rest
+    → IsClean file at p rest (cons_option (block_of_item at item) (blocks_of ps))
+one_item file at (Frame h) ps p rest is ends later e = frame_first file at h ps p rest is ends e
+one_item file at Free ps p rest is ends later e =
+    absurd (false≢true (item_of-is Stream file at Free is).belongs)
+one_item file at End ps p rest is ends later e =
+    absurd (false≢true (item_of-is Stream file at End is).belongs)
+one_item file at Nothing ps p rest is ends later e =
+    absurd (false≢true (item_of-is Stream file at Nothing is).belongs)
+one_item file at item ps p rest is ends later e =
+    let here = item_of-is Stream file at item is in
+    passed file at item p rest (blocks_of ps)
+    (item_of-whole Front file at item here.is refl here.within) (later e)
+
+-- the front ends at the first frame, and the stream from there has the others
+pub clean : (file : List ℕ) (from : ℕ) (ps : List PlacedItem) (p : PlacedFrame)
+    (rest : List PlacedFrame) → AreEndToEnd Stream file from ps (length file)
+    → frames_of ps ≡ p ∷ rest → IsClean file from p rest (blocks_of ps)
+clean file from [] p rest ends e = absurd cc
+clean file from (q ∷ ps) p rest ends e =
+    subst (λ n. IsClean file n p rest (blocks_of (q ∷ ps))) ends.0
+    (one_item file q.offset q.item ps p rest
+    ends.1 ends.2 (clean file (q.offset + size_of q.item) ps p rest ends.2) e)
+
+-- ---- the start
+
+-- the front ends where its run stops
+pub front_end-is : (file : List ℕ) → front_end_of file ≡ (item_run Front file 0).stop
+unfolding front_end_of
+front_end-is file = refl
+
+-- a whole frame where the front ends is the start
+pub start_by : (file : List ℕ) (at : ℕ) (h : HeaderFields) → front_end_of file ≡ at
+    → item_at file at ≡ Frame h → at + size_of (Frame h) ≤ length file
+    → start_of file ≡ Ok (record { front_end = at; first = record { offset = at; header = h } })
+unfolding start_of
+start_by file at h front is within =
+    let fit : item_fits file at (Frame h) ≡ true = le-leb _ _ (omega (arith, within)) in
+    ap (λ n. start_at file n (item_at file n)) front
+    ∙ ap (start_at file at) is
+    ∙ rw fit refl
+
+-- the stream starts with this frame, without junk
+abbrev pub start_with : PlacedFrame → Start
+start_with p = record { front_end = p.offset; first = p }
+
+-- so is the first frame of such a file
+pub clean-start : (file : List ℕ) (p : PlacedFrame) (rest : List PlacedFrame) (blocks : List Piece)
+    → IsClean file 0 p rest blocks → start_of file ≡ Ok (start_with p)
+clean-start file p rest blocks is =
+    let here = item_of-is Stream file p.offset (Frame p.header) is.first in
+    start_by file p.offset p.header (front_end-is file ∙ is.front) here.is here.within

@@ -1,0 +1,111 @@
+-- What waited is appended, and more is read.
+use Rattle.std.proofs.Common.{ap, arith, drop, length, length-drop, length-take, List, rules, subst}
+use Rattle.std.proofs.Common.{sym, take, ℕ, [], ◌++◌, ◌-◌, ◌∙◌, ◌≡◌}
+use Rattle.std.proofs.lemmas.Result.{err_from_is_err_and}
+use Rattle.moved_gains.proofs.BufferLemmas.{all_on}
+use Rattle.outside.proofs.{BufferOutputLemmas.err_at, FeedLemmas.{fed_by, fed_front, fills}}
+use Rattle.outside.proofs.PassLemmas.{cause_later, input_held, prefix_nothing, prefix_then}
+use Rattle.outside.proofs.PassLemmas.{ready_later, still_there}
+use Rattle.outside.specs.{Files.{Holds, with_appended_bytes}, Pass.{IsPassReady, route_of}}
+use Rattle.moved_gains.proofs.buffers.GainBuffers.refill.Goals as goal
+
+pub read_behind-requires-clause-input : goal.read_behind-requires-clause-input
+read_behind-requires-clause-input g c = record {
+  there = still_there _ _ c.args.pass.now.output.now _
+      c.args.pass.now.input.now c.in_ok-hand_on.ensures.appended c.requires.ready.source;
+  found = λ file holds. c.requires.ready.length_is file
+      (input_held _ _ c.args.pass.now.input.now c.args.pass.now.output.now _ file
+      c.requires.ready.apart c.in_ok-hand_on.ensures.appended holds);
+  short = c.requires.ready.few;
+}
+
+pub returns-in_err-self-inside : goal.returns-in_err-self-inside
+returns-in_err-self-inside g c = record {
+  passed = search rules;
+  place = search rules;
+  enough = search rules;
+  prefix = let pass = c.args.pass.now in
+      let first = c.in_ok-hand_on.ensures.appended
+      ∙ ap (with_appended_bytes (g.D.Folder.seen c.args.folder.now).files pass.output.now)
+      (ap (take c.self.inside.done) c.deref.ensures.value ∙ ap (λ p. p.waiting) c.self.view_is) in
+      err_at c.from_residual-in_err-self-inside.result _
+      c.from_residual-in_err-self-inside.ensures.1
+      (prefix_then pass c.requires.ready.apart (all_on pass c.args.self.now.waiting _ _ first)
+      (prefix_nothing pass (λ file. []) [] _ _
+      c.in_err-self-inside.ensures.read c.in_err-self-inside.ensures.files (still_there _ _
+      pass.output.now _ pass.output.now c.in_ok-hand_on.ensures.appended c.requires.ready.target)));
+  done = search rules;
+  cause = let p = err_from_is_err_and c.from_residual-in_err-self-inside.result
+      c.from_residual-in_err-self-inside.ensures.1 in
+      rw (p.1, p.2) (cause_later (route_of c.args.pass.now) _ _ c.args.pass.now.output.now _ _ _ _ _
+      c.in_ok-hand_on.ensures.appended c.in_ok-hand_on.ensures.done
+      c.in_err-self-inside.ensures.cause);
+  ready = search rules;
+}
+
+pub returns : goal.returns
+returns g c = record {
+  passed = search rules;
+  place = search rules;
+  enough = let a = c.self.inside in
+      let k = c.in_ok-self-inside.field-0 in
+      let room = c.read_behind.new.room in
+      let size : length c.as_mut_slice-room.result.now ≡ 65536 =
+      ap length c.as_mut_slice-room.ensures.value ∙ c.self.invariant.size in
+      let long : length room ≡ 65536 =
+      omega (arith, c.read_behind.auto.room, c.keep_from-kept.auto.room, size) in
+      let room_is : take a.room.len (room ++ drop (length room) a.room.items) ≡ room =
+      fills a.room.len room _ (omega (arith, long, size, c.as_mut_slice-room.ensures.len)) in
+      omega (
+        arith,
+        ap (λ (xs : List ℕ). length (take (k - 0) xs)) room_is,
+        length-take (k - 0) room,
+        long,
+        c.in_ok-self-inside.ensures.enough,
+        c.in_ok-self-inside.ensures.most,
+      );
+  prefix = search rules;
+  done = search rules;
+  cause = search rules;
+  ready = let pass = c.args.pass.now in
+      let a = c.self.inside in
+      let k = c.in_ok-self-inside.field-0 in
+      let room = c.read_behind.new.room in
+      let fed = c.args.self.now.feed in
+      let ready = subst (λ f. IsPassReady pass f fed) (sym c.in_ok-self-inside.ensures.files)
+      (ready_later pass _ _ fed _ c.in_ok-hand_on.ensures.appended c.requires.ready) in
+      let size : length c.as_mut_slice-room.result.now ≡ 65536 =
+      ap length c.as_mut_slice-room.ensures.value ∙ c.self.invariant.size in
+      let long : length room ≡ 65536 =
+      omega (arith, c.read_behind.auto.room, c.keep_from-kept.auto.room, size) in
+      let room_is : take a.room.len (room ++ drop (length room) a.room.items) ≡ room =
+      fills a.room.len room _ (omega (arith, long, size, c.as_mut_slice-room.ensures.len)) in
+      let count : k - 0 ≡ k = omega arith in
+      record {
+        apart = ready.apart;
+        source = ready.source;
+        target = ready.target;
+        length_is = ready.length_is;
+        few = ready.few;
+        fed_from = record {
+          same = λ file holds.
+              let mid =
+              subst (λ f. Holds f pass.input.now file) c.in_ok-self-inside.ensures.files holds in
+              let old = input_held _ _ pass.input.now pass.output.now _ file
+              c.requires.ready.apart c.in_ok-hand_on.ensures.appended mid in
+              let was = subst (λ p. take (length p.feed.held) (drop p.feed.place file)
+              ≡ p.feed.held) (sym c.self.view_is) (c.requires.ready.fed_from.same file old) in
+              let front = fed_front (a.end - a.done) a.place (drop a.done a.room.items) file (omega
+              (arith, length-drop a.done a.room.items, c.self.invariant.size, c.self.invariant.few))
+              was in
+              let kept = c.keep_from-kept.ensures.kept file (front ∙ ap (λ (l : List ℕ).
+              take (a.end - a.done) (drop a.done l)) (sym c.as_mut_slice-room.ensures.value)) in
+              let read = c.in_ok-self-inside.ensures.bytes file mid kept in
+              subst (λ (l : List ℕ). take (length (take (k - 0) l)) (drop c.args.at file)
+              ≡ take (k - 0) l) (sym room_is)
+              (subst (λ n. take (length (take n room)) (drop c.args.at file) ≡ take n room)
+              (sym count) (fed_by k c.args.at room file
+              (omega (arith, long, c.in_ok-self-inside.ensures.most)) read));
+        };
+      };
+}

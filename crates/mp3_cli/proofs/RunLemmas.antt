@@ -1,0 +1,482 @@
+-- What `run` promises, from the answer of a command.
+use Rattle.std.proofs.Common.{ap, arith, Err, false, inl, inr, List, None, Ok, Option, refl, Result}
+use Rattle.std.proofs.Common.{Some, subst, sym, true, ℕ, [], ◌↔◌, ◌∙◌, ◌∷◌, ◌≡◌, ◌≢◌, ◌≤◌, ◌⊎◌}
+use Rattle.std.proofs.{Math.Seq.take-nil, lemmas.Option.same_Some}
+use Rattle.std.specs.Prelude.{IfErr, IfSome, IsErrOf, OnOk}
+use Rattle.commands.proofs.TouchLemmas.{left_touched}
+use Rattle.commands.specs.AfterCall.{by_why, HasNumbers, IsCommandDone, IsCommandFault}
+use Rattle.commands.specs.AfterCall.{IsCommandRefused, left_cases, Missing, NoMemory, Rejected}
+use Rattle.commands.specs.AfterCall.{Shorter, Unread, Unsent, Unwritten, Why, why_of}
+use Rattle.commands.specs.Command.{clash_of, Command, HasAnswer, Made, written_files}
+use Rattle.commands.specs.{FaultKinds.{by_kind, InputKind, IsAbsent, kind_of}, Runs.IsRunOf}
+use Rattle.commands.specs.SentText.{answer_fault, IsCommandText, SaysText}
+use Rattle.commands.specs.SingleOutput.{command_result, one_command, Task, task_result}
+use Rattle.commands.specs.declared.fault.EditFault.{EditFault}
+use Rattle.commands.specs.declared.fault.EditFault.TheVariants.{EqualNames, Input, Memory}
+use Rattle.commands.specs.declared.fault.EditFault.TheVariants.{Sent as NotSent}
+use Rattle.drill.specs.Drilled.{IsDrillFault}
+use Rattle.job_words.specs.{Request.Request, Words.job_of}
+use Rattle.list_edits.specs.TextCommand.{IsTextRun, text_command}
+use Rattle.mp3_cli.proofs.LegalLemmas.{legal-by}
+use Rattle.mp3_cli.specs.Run.{command_fault_line, command_of, command_outcome, CommandAnswers}
+use Rattle.mp3_cli.specs.Run.{CommandEnds, fault_status, GetsLine, IsLegal, IsLegalBy, IsOutcome}
+use Rattle.mp3_cli.specs.Run.{job_outcome, made_outcome, outcome, world}
+use Rattle.outside.{proofs.FilesLemmas.{sent_nothing, touches_none}, specs.Counts.Rose}
+use Rattle.outside.specs.Files.{Contents, Files, IfTold, is_told, OnlyTouches, Sent, sent_and_more}
+use Rattle.outside.specs.{Files.{Told, Untold}, Seen.{Heard, Seen}}
+use Rattle.program_texts.specs.Texts.{bad_word_line, cause_status, fixed_text_command, GotLine}
+use Rattle.program_texts.specs.Texts.{GotPrefix, GotWhole}
+use Rattle.split_edits.{proofs.PartsLemmas.split-parts, specs.Cutting.{Cutting, split_command}}
+use Rattle.sync_survey.specs.Faults.{SurveyFields}
+
+-- ---- statuses
+
+by_status : (why : Why) → (1 ≤ cause_status why) × (cause_status why ≤ 4) × (cause_status why ≢ 2)
+by_status Rejected = (omega arith, omega arith, λ e. absurd (omega (arith, e)))
+by_status _ = (omega arith, omega arith, λ e. absurd (omega (arith, e)))
+
+-- ---- a failed write to standard output
+
+input_sent : (kind : InputKind) → by_kind (record {
+  absent = Missing;
+  unread = Unread;
+  shorter = Shorter;
+  too_much = NoMemory;
+  refused = Rejected;
+}) kind ≡ Unsent → ⊥
+input_sent IsAbsent e = absurd cc
+input_sent _ e = absurd cc
+
+-- it is the only fault with which something was sent
+module _ (command : Command) (files : Files) (old new : Heard) where
+  -- if that is the fault, a failed write was counted
+  pub sent_rose : (fault : EditFault) → why_of fault ≡ Unsent
+      → SaysText command files old new (Some fault) → Rose old.faults new.faults
+  sent_rose (Input place fault) is says = absurd (input_sent (kind_of fault) is)
+  sent_rose NotSent is says = says.rose
+  sent_rose _ is says = absurd cc
+
+  -- with any other fault nothing was sent
+  pub sent_none : (fault : EditFault) → (why_of fault ≡ Unsent → ⊥)
+      → SaysText command files old new (Some fault) → new ≡ old
+  sent_none NotSent other says = absurd (other refl)
+  sent_none _ other says = says
+
+-- ---- no line
+
+-- where nothing was sent no line was
+pub sent_no_line : (sent : Sent) (faults : ℕ) → GotLine sent sent faults faults []
+sent_no_line sent faults = record {
+  later = omega arith;
+  got = inl (record { sent = sym (sent_nothing sent); done = refl });
+}
+
+got_nothing : (old new : Heard) → GetsLine old new [] → new.sent ≡ old.sent
+got_nothing old new line = at line.got
+  where
+    at : GotWhole old.sent new.sent old.faults new.faults []
+        ⊎ GotPrefix old.sent new.sent old.faults new.faults [] → new.sent ≡ old.sent
+    at (inl whole) = whole.sent ∙ sent_nothing old.sent
+    at (inr part) =
+        part.sent ∙ ap (sent_and_more old.sent) (take-nil part.count) ∙ sent_nothing old.sent
+
+-- ---- of one answer
+
+module _ (command : Command) (old new : Seen) (out_old out_new err_old err_new : Heard) (status : ℕ)
+    (all : CommandAnswers command (world old out_old err_old)
+    (world new out_new err_new) status) where
+  -- what follows where it was done, and where there is a fault of this kind
+  by_case : {P : Type 0} → (status ≡ 0 → all.fault ≡ None → P)
+      → ((fault : EditFault) (why : Why) → all.fault ≡ Some fault → status ≡ cause_status why
+      → why_of fault ≡ why → by_why (left_cases command old new fault) why → P) → P
+  by_case {P = P} done failed = at all.fault refl all.status_is all.ends.left
+    where
+      at : (o : Option EditFault) → all.fault ≡ o → status ≡ fault_status o
+          → IfSome o (IsCommandFault command old new) → P
+      at None e is left = done is e
+      at (Some fault) e is left = failed fault (why_of fault) e is refl left
+
+  -- no name but those of its outputs was touched
+  pub touched : OnlyTouches command.outputs old.files new.files
+  touched = by_case (λ is e. (all.ends.done e).touches) (λ fault why e is w left. left_touched
+      command old new fault (subst (by_why (left_cases command old new fault)) (sym w) left))
+
+  done_at : status ≡ 0 → all.fault ≡ None
+  done_at zero_is = by_case (λ is e. e)
+      (λ fault why e is w left. absurd (omega (arith, is, zero_is, (by_status why).0)))
+
+  -- status 0 says that the command was done
+  pub is_done : status ≡ 0 → IsCommandDone command old new
+  is_done zero_is = all.ends.done (done_at zero_is)
+
+  line_here : (o : Option EditFault) → all.fault ≡ o
+      → GetsLine err_old err_new (command_fault_line command o)
+  line_here o e = subst (λ o. GetsLine err_old err_new (command_fault_line command o)) e all.line
+
+  -- and that standard error got nothing
+  pub quiet : status ≡ 0 → err_new.sent ≡ err_old.sent
+  quiet zero_is = got_nothing err_old err_new (line_here None (done_at zero_is))
+
+  -- what standard output got
+  says_here : (o : Option EditFault) → all.fault ≡ o → SaysText command old.files out_old out_new o
+  says_here o e = subst (SaysText command old.files out_old out_new) e all.ends.says
+
+  nothing_by : (fault : EditFault) (why : Why) → all.fault ≡ Some fault → status ≡ cause_status why
+      → status ≢ 3 → why_of fault ≡ why → out_new ≡ out_old
+  nothing_by fault why e is other w = sent_none command old.files out_old out_new fault
+      (λ unsent. other (is ∙ ap cause_status (sym w ∙ unsent))) (says_here (Some fault) e)
+
+  -- ---- by its status
+
+  -- no status is above 4
+  pub at_most : status ≤ 4
+  at_most = by_case (λ is e. omega (arith, is))
+      (λ fault why e is w left. omega (arith, is, (by_status why).1))
+
+  -- no command answers with status 2
+  pub not_two : status ≢ 2
+  not_two two = by_case (λ is e. absurd (omega (arith, is, two)))
+      (λ fault why e is w left. (by_status why).2 (sym is ∙ two))
+
+  -- what is refused, and want of memory, leave all as it was
+  stays_by : (fault : EditFault) (why : Why) → status ≡ cause_status why → status ≢ 3
+      → by_why (left_cases command old new fault) why → new ≡ old
+  stays_by fault Rejected is other left = left.stays
+  stays_by fault NoMemory is other left = left.stays
+  stays_by fault _ is other left = absurd (other is)
+
+  -- other statuses than 0 and 3 leave the files
+  pub kept : status ≢ 0 → status ≢ 3 → new.files ≡ old.files
+  kept some other = by_case (λ is e. absurd (some is))
+      (λ fault why e is w left. ap (λ (s : Seen). s.files) (stays_by fault why is other left))
+
+  -- other statuses than 3 leave the counts
+  pub counts_kept : status ≢ 3 → new.counts ≡ old.counts
+  counts_kept other = by_case (λ is e. (all.ends.done e).counts)
+      (λ fault why e is w left. ap (λ (s : Seen). s.counts) (stays_by fault why is other left))
+
+  -- other statuses than 0 and 3 leave standard output
+  pub silent : status ≢ 0 → status ≢ 3 → out_new.sent ≡ out_old.sent
+  silent some other = by_case (λ is e. absurd (some is))
+      (λ fault why e is w left. ap (λ (h : Heard). h.sent) (nothing_by fault why e is other w))
+
+  -- with status 0 a text that a command always sends was sent
+  pub says_always : status ≡ 0
+      → IfSome command.always (λ text. out_new.sent ≡ sent_and_more out_old.sent text)
+  says_always zero_is = at command.always refl
+    where
+      at : (o : Option (List ℕ)) → command.always ≡ o
+          → IfSome o (λ text. out_new.sent ≡ sent_and_more out_old.sent text)
+      at None e = tt
+      at (Some text) e = (says_here None (done_at zero_is)).text text (inl e)
+
+  -- ---- over files that are told
+  module _ (f : Contents) (told : old.files ≡ Told f) where
+    gives : (r : Result Made EditFault) → HasAnswer command old.files r → command.makes f ≡ r
+    gives r h = subst (λ files. HasAnswer command files r) told h
+
+    made_here : all.fault ≡ None → (made : Made) × (command.makes f ≡ Ok made)
+        × (new.files ≡ Told (written_files made.outputs f))
+    made_here e = subst (λ files. IfTold files (λ g. (made : Made) × (command.makes g ≡ Ok made)
+        × (new.files ≡ Told (written_files made.outputs g)))) told (all.ends.done e).made
+
+    abbrev IsAsDefinedBy : Result Made EditFault → Type 0
+    IsAsDefinedBy r = IsOutcome (made_outcome command f r) (world old out_old err_old)
+        (world new out_new err_new) status
+
+    -- with status 0, 1 or 2 all is as defined
+    refused_here : (fault : EditFault) → all.fault ≡ Some fault → status ≡ 1 → why_of fault
+        ≡ Rejected → IsCommandRefused command old new fault → IsAsDefinedBy (command.makes f)
+    refused_here fault e is w left =
+        subst IsAsDefinedBy (sym (gives (Err fault) left.defined))
+        (record {
+          status_is = is ∙ sym (ap cause_status w);
+          files_are = ap (λ (s : Seen). s.files) left.stays ∙ told;
+          text_is = ap (λ (h : Heard). h.sent) (nothing_by fault Rejected e is
+              (λ three. absurd (omega (arith, is, three))) w) ∙ sym (sent_nothing out_old.sent);
+          line_is = line_here (Some fault) e;
+        })
+
+    failed_here : (fault : EditFault) (why : Why) → all.fault ≡ Some fault
+        → status ≡ cause_status why → status ≤ 2 → why_of fault ≡ why
+        → by_why (left_cases command old new fault) why → IsAsDefinedBy (command.makes f)
+    failed_here fault Rejected e is low w left = refused_here fault e is w left
+    failed_here fault _ e is low w left = absurd (omega (arith, is, low))
+
+    -- up to status 2 the outcome is that of the definition
+    pub as_defined : status ≤ 2 → IsOutcome (command_outcome command f) (world old out_old err_old)
+        (world new out_new err_new) status
+    as_defined low =
+        by_case
+        (λ is e.
+        let made = made_here e in
+        subst IsAsDefinedBy (sym made.1)
+        (record {
+          status_is = is;
+          files_are = made.2;
+          text_is = (says_here None e).text made.0.text (inr (f, made.0, told, made.1, refl));
+          line_is = line_here None e;
+        }))
+        (λ fault why e is w left. failed_here fault why e is low w left)
+
+    -- where no call of the folder and no write to standard output failed,
+    -- and memory was found, it is done exactly where it isn't refused
+    not_made : (made : Made) (fault : EditFault) → command.makes f ≡ Ok made
+        → command.makes f ≡ Err fault → ⊥
+    not_made made fault ok err = cc
+
+    told_twice : is_told old.files ≡ false → ⊥
+    told_twice e =
+        let both : true ≡ false = sym (ap is_told told) ∙ e in
+        absurd cc
+
+    not_failed : (made : Made) (fault : EditFault) (why : Why) → command.makes f ≡ Ok made
+        → (Rose old.counts.read_faults.times new.counts.read_faults.times → ⊥)
+        → (Rose old.counts.write_faults.times new.counts.write_faults.times → ⊥)
+        → (Rose out_old.faults out_new.faults → ⊥) → status ≢ 4 → all.fault ≡ Some fault
+        → why_of fault ≡ why → status ≡ cause_status why
+        → by_why (left_cases command old new fault) why → ⊥
+    not_failed made fault Unread ok reads writes sends found e w is left = reads left.rose.0
+    not_failed made fault Shorter ok reads writes sends found e w is left =
+        told_twice left.ended.untold
+    not_failed made fault (Unwritten k) ok reads writes sends found e w is left = writes left.rose.0
+    not_failed made fault NoMemory ok reads writes sends found e w is left = found is
+    not_failed made fault Unsent ok reads writes sends found e w is left =
+        sends (sent_rose command old.files out_old out_new fault w (says_here (Some fault) e))
+    not_failed made fault _ ok reads writes sends found e w is left =
+        not_made made fault ok (gives (Err fault) left.defined)
+
+    -- where it is done the files are those before with all that it makes
+    pub files_where_done : status ≡ 0 → (made : Made) × (command.makes f ≡ Ok made)
+        × (new.files ≡ Told (written_files made.outputs f))
+    files_where_done zero_is = made_here (done_at zero_is)
+
+    -- with status 0 the command makes something
+    pub made_where_done : status ≡ 0 → (made : Made) × (command.makes f ≡ Ok made)
+    made_where_done zero_is = let made = files_where_done zero_is in (made.0, made.1)
+
+    -- where no call failed and memory sufficed, a command that makes something ends with status 0
+    pub done_where_made : (Rose old.counts.read_faults.times new.counts.read_faults.times → ⊥)
+        → (Rose old.counts.write_faults.times new.counts.write_faults.times → ⊥)
+        → (Rose out_old.faults out_new.faults → ⊥) → status ≢ 4
+        → (made : Made) × (command.makes f ≡ Ok made) → status ≡ 0
+    done_where_made reads writes sends found made = by_case (λ is e. is) (λ fault why e is w left.
+        absurd (not_failed made.0 fault why made.1 reads writes sends found e w is left))
+
+-- ---- of words
+
+-- where the files are told
+pub if_told : (files : Files) {P : Contents → Type 0} → ((f : Contents) → files ≡ Told f → P f)
+    → IfTold files P
+if_told (Untold names) each = tt
+if_told (Told f) each = each f refl
+
+outcome-words : (words : List (List ℕ)) (f : Contents) (r : Result Request ℕ) → job_of words ≡ r
+    → outcome words f ≡ job_outcome f r
+unfolding outcome
+outcome-words words f r is = ap (job_outcome f) is
+
+-- a bad word is the outcome that the definition gives
+pub bad_word_defined : (words : List (List ℕ)) (old : Seen) (place : ℕ)
+    (out err_old err_new : Heard) → job_of words ≡ Err place
+    → GetsLine err_old err_new (bad_word_line place) → IfTold old.files
+    (λ f. IsOutcome (outcome words f) (world old out err_old) (world old out err_new) 2)
+bad_word_defined words old place out err_old err_new is line =
+    if_told old.files (λ f told.
+    subst (λ o. IsOutcome o (world old out err_old) (world old out err_new) 2)
+    (sym (outcome-words words f (Err place) is))
+    (record {
+      status_is = refl;
+      files_are = told;
+      text_is = sym (sent_nothing out.sent);
+      line_is = line;
+    }))
+
+module _ (words : List (List ℕ)) (asked : Request) (is : job_of words ≡ Ok asked) (old new : Seen)
+    (out_old out_new err_old err_new : Heard) (status : ℕ)
+    (all : CommandAnswers (command_of asked) (world old out_old err_old)
+    (world new out_new err_new) status) where
+  -- up to status 2 the outcome is that of the definition
+  pub is_defined : status ≤ 2 → IfTold old.files (λ f. IsOutcome (outcome words f)
+      (world old out_old err_old) (world new out_new err_new) status)
+  is_defined low =
+      if_told old.files (λ f told.
+      subst (λ o. IsOutcome o (world old out_old err_old) (world new out_new err_new) status)
+      (sym (outcome-words words f (Ok asked) is))
+      (as_defined (command_of asked) old new out_old out_new err_old err_new status all f told low))
+
+  -- where no call failed and memory sufficed, status 0 comes exactly if words and files are legal
+  pub is_accepted : (f : Contents) → old.files ≡ Told f
+      → (Rose old.counts.read_faults.times new.counts.read_faults.times → ⊥)
+      → (Rose old.counts.write_faults.times new.counts.write_faults.times → ⊥)
+      → (Rose out_old.faults out_new.faults → ⊥) → status ≢ 4 → (status ≡ 0) ↔ IsLegal words f
+  is_accepted f told reads writes sends found =
+      let law = legal-by (Ok asked) f in (
+        (λ zero_is. subst (IsLegalBy f) (sym is) (law.1 (made_where_done (command_of asked) old new
+            out_old out_new err_old err_new status all f told zero_is))),
+        (λ legal. done_where_made (command_of asked) old new out_old out_new err_old err_new status
+            all f told reads writes sends found (law.0 (subst (IsLegalBy f) is legal))),
+      )
+
+-- ---- a command without a text
+
+-- a command that has no text, whatever the files are
+pub record IsSilent (command : Command) : Type 0 where
+  pub always : command.always ≡ Some []
+  pub silent : (f : Contents) (made : Made) → command.makes f ≡ Ok made → made.text ≡ []
+
+module _ (command : Command) (no_text : IsSilent command) (files : Files) (out : Heard) where
+  text_is : (text : List ℕ) → IsCommandText command files text → text ≡ []
+  text_is text (inl always) = same_Some text [] (sym always ∙ no_text.always)
+  text_is text (inr told) = sym told.4 ∙ no_text.silent told.0 told.1 told.3
+
+  -- such a command sends nothing, also with any fault that it has
+  says_nothing : {T : Type 0} (r : Result T EditFault) → IfErr r (HasNumbers command)
+      → SaysText command files out out (answer_fault r)
+  says_nothing (Ok x) numbers = record {
+    text = λ text is. sym (ap (sent_and_more out.sent) (text_is text is) ∙ sent_nothing out.sent);
+    faults = refl;
+  }
+  says_nothing (Err NotSent) numbers = absurd (numbers no_text.always)
+  says_nothing (Err _) numbers = refl
+
+-- how a command ends, from what it promises
+pub told_ends : {T : Type 0} (command : Command) (r : Result T EditFault) (old new : Seen)
+    (out_old out_new : Heard) → OnOk r (IsCommandDone command old new)
+    → IfErr r (IsCommandFault command old new)
+    → SaysText command old.files out_old out_new (answer_fault r) → IfErr r (HasNumbers command)
+    → ((place : ℕ) → IsErrOf r (EqualNames place) ↔ (clash_of command ≡ Some place))
+    → CommandEnds command old new out_old out_new (answer_fault r)
+told_ends command (Ok x) old new out_old out_new done left says numbers names =
+    record {
+      says = says;
+      done = λ e. done;
+      left = tt;
+      numbers = tt;
+      names =
+          λ place clash. ap answer_fault ((names place).1 clash);
+    }
+told_ends command (Err fault) old new out_old out_new done left says numbers names =
+    record {
+      says = says;
+      done = λ e. absurd cc;
+      left = left;
+      numbers = numbers;
+      names =
+          λ place clash. ap answer_fault ((names place).1 clash);
+    }
+
+-- and how one without a text does
+pub silent_ends : {T : Type 0} (command : Command) → IsSilent command → (r : Result T EditFault)
+    (old new : Seen) (out : Heard) → OnOk r (IsCommandDone command old new)
+    → IfErr r (IsCommandFault command old new) → IfErr r (HasNumbers command)
+    → ((place : ℕ) → IsErrOf r (EqualNames place) ↔ (clash_of command ≡ Some place))
+    → CommandEnds command old new out out (answer_fault r)
+silent_ends command no_text r old new out done left numbers names = told_ends command r old new out
+    out done left (says_nothing command no_text old.files out r numbers) numbers names
+
+-- ---- a command that sends a text of one file
+
+-- what every call of such a command says; no name is that of an output, since there is none
+pub text_ends : (text : List ℕ → SurveyFields → List ℕ) (input : List ℕ)
+    (r : Result (Unit {0}) EditFault) (old new : Seen) (out_old out_new : Heard)
+    → IsTextRun (text_command text input) old new out_old out_new r
+    → CommandEnds (text_command text input) old new out_old out_new (answer_fault r)
+text_ends text input (Ok x) old new out_old out_new run = record {
+  says = run.says;
+  done = λ e. run.done;
+  left = tt;
+  numbers = tt;
+  names = λ place clash. let none : None ≡ Some place = clash in absurd cc;
+}
+text_ends text input (Err fault) old new out_old out_new run = record {
+  says = run.says;
+  done = λ e. absurd cc;
+  left = run.left;
+  numbers = run.numbers;
+  names = λ place clash. let none : None ≡ Some place = clash in absurd cc;
+}
+
+-- ---- a command that makes one file
+
+-- a command that makes one file makes one output, and no text
+pub one_made : (output : List ℕ) (r : Result (List ℕ) EditFault) (made : Made)
+    → command_result output r ≡ Ok made → (bytes : List ℕ)
+    × (record { outputs = record { name = output; bytes = bytes } ∷ []; text = [] } ≡ made)
+one_made output (Ok bytes) made is = (bytes, cc)
+one_made output (Err fault) made is = absurd cc
+
+-- what every call of a command that makes files says
+pub run_ends : (command : Command) → IsSilent command
+    → (r : Result (Unit {0}) EditFault) (old new : Seen) (out : Heard) → IsRunOf command old new r
+    → CommandEnds command old new out out (answer_fault r)
+run_ends command no_text r old new out run =
+    silent_ends command no_text r old new out run.done run.left run.numbers run.names
+
+-- so it says nothing
+pub one_silent : (task : Task) (output : List ℕ) → IsSilent (one_command task output)
+one_silent task output = record {
+  always = refl;
+  silent = λ f made is.
+      sym (ap (λ (made : Made). made.text) (one_made output (task_result task output f) made is).1);
+}
+
+-- ---- a command that splits a file
+
+-- neither does a split
+pub split_silent : {P : Type 0} (cut : Cutting P) (prefix input : List ℕ)
+    → IsSilent (split_command cut input prefix)
+split_silent cut prefix input = record {
+  always = refl;
+  silent = λ f made is.
+      sym (ap (λ (made : Made). made.text) (split-parts cut f prefix input made is).1.1);
+}
+
+-- ---- a text that is said
+
+module _ (text : List ℕ) (some : Some text ≢ Some []) (now : Seen) where
+  text_made : IfTold now.files (λ f. (made : Made) × ((fixed_text_command text).makes f ≡ Ok made)
+      × (now.files ≡ Told (written_files made.outputs f)))
+  text_made = if_told now.files (λ f told. (record { outputs = []; text = text }, refl, told))
+
+  said_left : (fault : EditFault) → IsDrillFault fault
+      → IsCommandFault (fixed_text_command text) now now fault
+      × HasNumbers (fixed_text_command text) fault
+  said_left NotSent is =
+      (record { made = text_made; touches = touches_none [] now.files; counts = refl }, some)
+  said_left Memory is =
+      (record { names = refl; takes = if_told now.files (λ f told. tt); stays = refl }, tt)
+  said_left _ is = absurd is
+
+  -- a command that only sends a text ends as its fault says
+  pub said_ends : {T : Type 0} (r : Result T EditFault) (out_old out_new : Heard)
+      → SaysText (fixed_text_command text) now.files out_old out_new (answer_fault r)
+      → IfErr r IsDrillFault
+      → CommandEnds (fixed_text_command text) now now out_old out_new (answer_fault r)
+  said_ends (Ok x) out_old out_new says is = record {
+    says = says;
+    done = λ e. record { made = text_made; touches = touches_none [] now.files; counts = refl };
+    left = tt;
+    numbers = tt;
+    names = λ place e. absurd cc;
+  }
+  said_ends (Err fault) out_old out_new says is = record {
+    says = says;
+    done = λ e. absurd cc;
+    left = (said_left fault is).0;
+    numbers = (said_left fault is).1;
+    names = λ place e. absurd cc;
+  }
+
+-- a failed write to standard output is one of the faults of a drill
+pub sent_alone : {T : Type 0} (r : Result T EditFault) → IfErr r (λ fault. fault ≡ NotSent)
+    → IfErr r IsDrillFault
+sent_alone (Ok x) is = tt
+sent_alone (Err fault) is = subst IsDrillFault (sym is) tt
+
+-- with status 0 it was done
+pub done_where_zero : {T P : Type 0} (r : Result T EditFault) → fault_status (answer_fault r) ≡ 0
+    → OnOk r P → P
+done_where_zero (Ok x) zero_is p = p
+done_where_zero (Err fault) zero_is p =
+    absurd (omega (arith, zero_is, (by_status (why_of fault)).0))

@@ -1,0 +1,146 @@
+-- What a folder of real files and a real stream count and keep open, and what open files tell.
+use Rattle.std.specs.Io.{KnownBytes.{Appends, Keeps}, Seek.SeekMoves}
+use Rattle.std.specs.Prelude.{drop, false, IfOk, IfSome, IsSome, IsTrue, length, List, min, Ok}
+use Rattle.std.specs.Prelude.{Option, option_and_then, option_map, pos, Result, Some, string_bytes}
+use Rattle.std.specs.Prelude.{take, ℕ, ◌-◌, ◌≡◌, ◌≢◌, ◌≤◌}
+use Rattle.std.specs.declared.io.traits.SeekFrom.TheVariants.{End}
+use Rattle.on_disk.specs.{Names.touched_in, NotedFiles.is_noted}
+use Rattle.on_disk.specs.declared.{disk.{DiskFolder.DiskFolder, Opened.Opened}, noted.FileId.FileId}
+use Rattle.on_disk.specs.declared.stream.StdSink.{StdSink}
+use Rattle.outside.specs.{Counts.Counts, Files.{Files, Untold, untold_bytes}}
+use Rattle.outside.specs.Seen.{Heard, heard_sink, Seen, seen_folder}
+
+-- what the folder counted
+abbrev pub disk_counts : {R File Dir : Type 0} → DiskFolder R File Dir → Counts
+disk_counts folder = folder.tally
+
+-- nothing is told of real files but which names may have been touched
+abbrev pub disk_files : {R File Dir : Type 0} → DiskFolder R File Dir → Files
+disk_files folder = Untold (touched_in folder.touched)
+
+-- what is seen of the folder
+abbrev pub disk_seen : {R File Dir : Type 0} → DiskFolder R File Dir → Seen
+disk_seen folder = seen_folder (disk_files folder) (disk_counts folder)
+
+-- the name that an open file was opened by
+abbrev pub open_name : {File : Type 0} → Option (Opened File) → Option (List ℕ)
+open_name opened = option_map (λ o. string_bytes o.name) opened
+
+-- the name of the file that is open for reading
+abbrev pub found_name : {R File Dir : Type 0} → DiskFolder R File Dir → Option (List ℕ)
+found_name folder = open_name folder.found
+
+-- the file that is open for reading
+abbrev pub found_file : {R File Dir : Type 0} → DiskFolder R File Dir → Option File
+found_file folder = option_map (λ opened. opened.file) folder.found
+
+-- the device and the inode number of the file that is open for reading are noted
+abbrev pub FoundIsNoted : {R File Dir : Type 0} → DiskFolder R File Dir → Type 0
+FoundIsNoted folder = IfSome folder.found (λ opened. IsTrue (is_noted folder.noted opened.id))
+
+-- those of the file that is open for appending are not
+abbrev pub CreatedIsNotNoted : {R File Dir : Type 0} → DiskFolder R File Dir → Type 0
+CreatedIsNotNoted folder = IfSome folder.created (λ opened. is_noted folder.noted opened.id ≡ false)
+
+-- what was noted stays so
+abbrev pub StayNoted : {R File Dir : Type 0} → DiskFolder R File Dir → DiskFolder R File Dir
+    → Type 0
+StayNoted old new =
+    (file : FileId) → IsTrue (is_noted old.noted file) → IsTrue (is_noted new.noted file)
+
+-- the name of the file that is open for appending
+abbrev pub created_name : {R File Dir : Type 0} → DiskFolder R File Dir → Option (List ℕ)
+created_name folder = open_name folder.created
+
+-- what the file that is open for appending holds, where one is open and tells it
+abbrev pub created_bytes : {R File Dir : Type 0} → (File → Option (List ℕ)) → DiskFolder R File Dir
+    → Option (List ℕ)
+created_bytes contents folder = option_and_then (λ opened. contents opened.file) folder.created
+
+-- a file tells the offset at which it is, and that these are its bytes
+pub record TellsBytes {File : Type 0} (position : File → Option ℕ) (bytes : File → Option (List ℕ))
+    (file : File) (xs : List ℕ) : Type 0 where
+  pub stands : IsSome (position file)
+  pub holds : bytes file ≡ Some xs
+
+-- the file of this name is open for reading, and tells that these are its bytes
+pub record HasOpen {R File Dir : Type 0} (position : File → Option ℕ) (bytes : File
+    → Option (List ℕ)) (folder : DiskFolder R File Dir) (name xs : List ℕ) : Type 0 where
+  pub file : File
+  pub found : found_file folder ≡ Some file
+  pub named : found_name folder ≡ Some name
+  pub tells : TellsBytes position bytes file xs
+
+-- reads give the bytes of a file from its offset on, as those of a cursor over bytes in memory do
+pub record ReadsFromOffset {File : Type 0} (remaining : File → Option (List ℕ))
+    (position : File → Option ℕ)
+    (bytes : File → Option (List ℕ)) : Type 0 where
+  pub gives : (file : File) (at : ℕ) (xs : List ℕ) → position file ≡ Some at → bytes file ≡ Some xs
+      → remaining file ≡ Some (drop at xs)
+
+-- where the file of this name is open for reading, as many of its
+-- bytes were read as there are from an offset on and there is room for
+abbrev pub ReadsWhole : {R File Dir E : Type 0} → (File → Option ℕ) → (File → Option (List ℕ))
+    → DiskFolder R File Dir → List ℕ → ℕ → ℕ → Result ℕ E → Type 0
+ReadsWhole position bytes folder name at room read =
+    (xs : List ℕ) → HasOpen position bytes folder name xs
+    → IfOk read (λ k. k ≡ min room (length xs - at))
+
+-- and these bytes, where reads give the bytes from an offset on
+abbrev pub ReadsOpen : {R File Dir E : Type 0} → (File → Option (List ℕ)) → (File → Option ℕ)
+    → (File → Option (List ℕ)) → DiskFolder R File Dir → List ℕ → ℕ → List ℕ → Result ℕ E → Type 0
+ReadsOpen remaining position bytes folder name at into read =
+    ReadsFromOffset remaining position bytes → (xs : List ℕ) → HasOpen position bytes folder name xs
+    → IfOk read (λ k. take k into ≡ take k (drop at xs))
+
+-- where the file of this name is open for appending,
+-- exactly the bytes that were written came to its end
+abbrev pub AppendsOpen : {R File Dir E : Type 0} → (File → Option (List ℕ)) → DiskFolder R File Dir
+    → DiskFolder R File Dir → List ℕ → List ℕ → Result ℕ E → Type 0
+AppendsOpen contents old new name bytes written =
+    created_name old ≡ Some name → IfOk written
+    (λ k. Appends (created_bytes contents old) (created_bytes contents new) (take k bytes))
+
+-- a file of another name that is open for appending stays as it is
+abbrev pub LeavesOthers : {R File Dir : Type 0} → DiskFolder R File Dir → DiskFolder R File Dir
+    → List ℕ → Type 0
+LeavesOthers old new name = created_name old ≢ Some name → new.created ≡ old.created
+
+-- A seek to the end led from the file as it was opened to this offset, and
+-- what the file told of its bytes it still tells. The library says nothing
+-- of a file that was just opened, so whether it told anything stays open.
+pub record EndsAt {File : Type 0} (position : File → Option ℕ) (bytes : File → Option (List ℕ))
+    (sought : File) (place : ℕ) : Type 0 where
+  pub before : File
+  pub kept : Keeps (bytes before) (bytes sought)
+  pub moved : SeekMoves {E = ⊥} (position before) (position sought) (bytes before) (End (pos 0))
+      (Ok place)
+
+-- how many writes to the stream failed
+abbrev pub stream_faults : {W : Type 0} → StdSink W → ℕ
+stream_faults sink = sink.faults
+
+-- what is heard of the sink, which tells no bytes
+abbrev pub stream_heard : {W : Type 0} → StdSink W → Heard
+stream_heard sink = heard_sink untold_bytes (stream_faults sink)
+
+-- known bytes grew by a prefix of these
+pub record GrewByPrefix (old new : Option (List ℕ)) (bytes : List ℕ) : Type 0 where
+  pub count : ℕ
+  pub within : count ≤ length bytes
+  pub grew : Appends old new (take count bytes)
+
+-- Nothing of the folder changed but which file is open for reading.
+pub record OnlyFound {R File Dir : Type 0} (was now : DiskFolder R File Dir) : Type 0 where
+  pub tally : disk_counts now ≡ disk_counts was
+  pub touched : now.touched ≡ was.touched
+  pub noted : now.noted ≡ was.noted
+  pub created : now.created ≡ was.created
+
+-- Nothing of the folder changed but the bytes of the file that is open for writing.
+pub record OnlyWrote {R File Dir : Type 0} (was now : DiskFolder R File Dir) : Type 0 where
+  pub tally : disk_counts now ≡ disk_counts was
+  pub touched : now.touched ≡ was.touched
+  pub opened : created_name now ≡ created_name was
+  pub found : now.found ≡ was.found
+  pub noted : now.noted ≡ was.noted

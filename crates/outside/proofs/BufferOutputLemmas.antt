@@ -1,0 +1,158 @@
+-- Laws of what a buffer passed on to a file.
+use Rattle.std.proofs.Common.{ap, append_assoc, arith, drop, length, length-append, List, refl}
+use Rattle.std.proofs.Common.{subst, sym, take, ℕ, [], ◌++◌, ◌+◌, ◌∙◌, ◌≡◌}
+use Rattle.std.proofs.Math.Seq.{take-append-add}
+use Rattle.std.proofs.lemmas.List.{length-take, take-append-drop, take-append-le, take-take}
+use Rattle.std.specs.Prelude.{Err, IfErr, IsErrAnd, Ok, OnErr, Result}
+use Rattle.outside.proofs.FilesLemmas.{appended_nothing, appended_there, appended_twice}
+use Rattle.outside.specs.BufferOutput.{AppendedPrefix, AppendsWaiting}
+use Rattle.outside.specs.Files.{Files, IsFileThere, with_appended_bytes}
+
+-- a fact that holds on every error
+pub on_err : {T E P : Type 0} (r : Result T E) → P → OnErr r P
+on_err (Ok x) p = tt
+on_err (Err e) p = p
+
+-- a fact of the error that is handed on
+pub err_at : {T E : Type 0} (r : Result T E) (P : E → Type 0) {e : E} → IsErrAnd r (λ y. y ≡ e)
+    → P e → IfErr r P
+err_at (Ok x) P is p = absurd is
+err_at (Err y) P is p = subst P (sym is) p
+
+-- what follows from a fact of every error holds of every error
+pub err_by : {T E : Type 0} {P Q : E → Type 0} (r : Result T E) → ((e : E) → P e → Q e) → IfErr r P
+    → IfErr r Q
+err_by (Ok x) f p = tt
+err_by (Err e) f p = f e p
+
+-- nothing was passed on
+pub passed_nothing : (files : Files) (name bytes : List ℕ) → IsFileThere files name
+    → AppendsWaiting name bytes bytes files files
+passed_nothing files name bytes there =
+    record { passed = []; split = refl; files = sym (appended_nothing files name there) }
+
+-- a prefix was passed on
+pub passed_front : (name bytes : List ℕ) (n : ℕ) (f g : Files)
+    → g ≡ with_appended_bytes f name (take n bytes) → AppendsWaiting name bytes (drop n bytes) f g
+passed_front name bytes n f g is =
+    record { passed = take n bytes; split = sym (take-append-drop n bytes); files = is }
+
+module _ {name before after : List ℕ} {f g : Files} where
+  -- more waits after
+  pub passed_with : (piece : List ℕ) → AppendsWaiting name before after f g
+      → AppendsWaiting name (before ++ piece) (after ++ piece) f g
+  passed_with piece p = record {
+    passed = p.passed;
+    split = ap (λ (front : List ℕ). front ++ piece) p.split ∙ append_assoc p.passed after piece;
+    files = p.files;
+  }
+
+  -- the name is there afterwards, and no name goes
+  pub passed_there : AppendsWaiting name before after f g → IsFileThere g name
+  passed_there p =
+      subst (λ files. IsFileThere files name) (sym p.files) (appended_there f name p.passed)
+
+-- something was passed on, and then more
+pub passed_then : {name before mid after : List ℕ} {f g h : Files}
+    → AppendsWaiting name before mid f g → AppendsWaiting name mid after g h
+    → AppendsWaiting name before after f h
+passed_then {name} {before} {mid} {after} {f} {g} {h} p q = record {
+  passed = p.passed ++ q.passed;
+  split =
+      p.split
+      ∙ ap (λ (back : List ℕ). p.passed ++ back) q.split
+      ∙ sym (append_assoc p.passed q.passed after);
+  files =
+      q.files
+      ∙ ap (λ files. with_appended_bytes files name q.passed) p.files
+      ∙ appended_twice f name p.passed q.passed;
+}
+
+-- two pieces that were passed on one after the other were passed on together
+pub passed_more : {name before mid after : List ℕ} {f g h : Files} (piece : List ℕ)
+    → AppendsWaiting name before mid f g → AppendsWaiting name (mid ++ piece) after g h
+    → AppendsWaiting name (before ++ piece) after f h
+passed_more piece p q = passed_then (passed_with piece p) q
+
+module _ {name before mid : List ℕ} {f g h : Files} (p : AppendsWaiting name before mid f g) where
+  -- what was passed on, and then a prefix of the rest, is a prefix of the whole
+  pub passed_then_prefix : AppendedPrefix name mid g h → AppendedPrefix name before f h
+  passed_then_prefix q = record {
+    count = length p.passed + q.count;
+    short = omega (arith, q.short, ap length p.split, length-append p.passed mid);
+    files =
+        q.files
+        ∙ ap (λ files. with_appended_bytes files name (take q.count mid)) p.files
+        ∙ appended_twice f name p.passed (take q.count mid)
+        ∙ ap (with_appended_bytes f name) (sym (take-append-add p.passed mid q.count)
+        ∙ ap (take (length p.passed + q.count)) (sym p.split));
+  }
+
+  -- what was passed on, and then all the rest, is the whole
+  pub passed_then_all : h ≡ with_appended_bytes g name mid → h ≡ with_appended_bytes f name before
+  passed_then_all all =
+      all
+      ∙ ap (λ files. with_appended_bytes files name mid) p.files
+      ∙ appended_twice f name p.passed mid
+      ∙ ap (with_appended_bytes f name) (sym p.split)
+
+-- if of the second of two pieces only a prefix was passed on, a prefix of both was
+pub passed_more_prefix : {name before mid : List ℕ} {f g h : Files} (piece : List ℕ)
+    → AppendsWaiting name before mid f g → AppendedPrefix name (mid ++ piece) g h
+    → AppendedPrefix name (before ++ piece) f h
+passed_more_prefix piece p q = passed_then_prefix (passed_with piece p) q
+
+-- a prefix of a prefix is a prefix of the whole
+pub prefix_of_front : {name bytes : List ℕ} {f g : Files} (n : ℕ)
+    → AppendedPrefix name (take n bytes) f g → AppendedPrefix name bytes f g
+prefix_of_front {name} {bytes} {f} {g} n p = record {
+  count = p.count;
+  short = omega (arith, p.short, length-take n bytes);
+  files = p.files ∙ ap (with_appended_bytes f name)
+      (take-take p.count n bytes (omega (arith, p.short, length-take n bytes)));
+}
+
+-- what waits before a piece and the piece, by a prefix of the piece and what follows
+pub piece_in_two : (waits piece : List ℕ) (n : ℕ)
+    → (waits ++ take n piece) ++ drop n piece ≡ waits ++ piece
+piece_in_two waits piece n = append_assoc waits (take n piece) (drop n piece)
+    ∙ ap (λ (back : List ℕ). waits ++ back) (take-append-drop n piece)
+
+module _ (name waits piece : List ℕ) (n : ℕ) (f g : Files) where
+  -- what waited and a prefix of the piece were appended
+  pub passed_waiting : g ≡ with_appended_bytes f name (waits ++ take n piece)
+      → AppendsWaiting name (waits ++ piece) (drop n piece) f g
+  passed_waiting is = record {
+    passed = waits ++ take n piece;
+    split = sym (piece_in_two waits piece n);
+    files = is;
+  }
+
+  -- a prefix of what waited and of a prefix of the piece is one of both
+  pub prefix_waiting : AppendedPrefix name (waits ++ take n piece) f g
+      → AppendedPrefix name (waits ++ piece) f g
+  prefix_waiting p = record {
+    count = p.count;
+    short = omega (
+      arith,
+      p.short,
+      ap length (piece_in_two waits piece n),
+      length-append (waits ++ take n piece) (drop n piece),
+    );
+    files = p.files
+        ∙ ap (with_appended_bytes f name) (sym (take-append-le p.count (waits ++ take n piece)
+        (drop n piece) (omega (arith, p.short))) ∙ ap (take p.count) (piece_in_two waits piece n));
+  }
+
+-- a prefix of what waited and of a piece is one with another piece behind it
+pub prefix_in_front : {name : List ℕ} (waits front rest : List ℕ) {f g : Files}
+    → AppendedPrefix name (waits ++ front) f g → AppendedPrefix name (waits ++ (front ++ rest)) f g
+prefix_in_front {name} waits front rest {f} {g} p =
+    let whole = append_assoc waits front rest in
+    record {
+      count = p.count;
+      short = omega (arith, p.short, ap length whole, length-append (waits ++ front) rest);
+      files = p.files
+          ∙ ap (with_appended_bytes f name) (sym (take-append-le p.count (waits ++ front) rest
+          (omega (arith, p.short))) ∙ ap (take p.count) whole);
+    }

@@ -1,0 +1,377 @@
+-- Laws of what a folder tells of its files, and of what a sink tells of its bytes.
+use Rattle.std.proofs.Common.{ap, append_assoc, arith, inl, inr, length, List, refl, subst, sym}
+use Rattle.std.proofs.Common.{take, ℕ, [], ◌++◌, ◌∙◌, ◌∷◌, ◌≡◌, ◌≢◌}
+use Rattle.std.proofs.lemmas.{Bool.false_from_ne_true, List.{append-nil, take_all}}
+use Rattle.std.proofs.lemmas.List.Elements.{All-cons, All-head, All-nil, All-tail}
+use Rattle.std.proofs.lemmas.Map.{update-update, update_other, update_same}
+use Rattle.std.{proofs.lemmas.Slice.Eq.bytes_eq-Decides, specs.{List.All, Map.update}}
+use Rattle.std.specs.Prelude.{Bool, bytes_eq, cond, Err, false, IfOk, is_some, IsSome, None, Ok}
+use Rattle.std.specs.Prelude.{Option, Result, Some, true, unwrap_or, ◌&&◌, ◌||◌}
+use Rattle.outside.specs.Files.{Contents, FailsToCreate, Files, Holds, is_some_byte, is_told}
+use Rattle.outside.specs.Files.{IsFileThere, OnlyTouches, Sent, sent_and_more, Told, Touched}
+use Rattle.outside.specs.Files.{Untold, untold_files, with_appended_bytes, with_empty_file}
+use Rattle.outside.specs.Files.{with_file, with_touch, with_tried_create}
+
+-- the name of a file is equal to itself, and to no other
+pub bytes_eq_same : (name : List ℕ) → bytes_eq name name ≡ true
+bytes_eq_same name = (bytes_eq-Decides name name).1 refl
+
+-- names that differ are compared as different
+pub bytes_eq_other : (name other : List ℕ) → other ≢ name → bytes_eq name other ≡ false
+bytes_eq_other name other apart =
+    false_from_ne_true _ (λ e. apart (sym ((bytes_eq-Decides name other).0 e)))
+
+-- contents that give each name the same are equal
+pub same_contents : (f g : Contents) → ((name : List ℕ) → f name ≡ g name) → f ≡ g
+same_contents f g same = λ i name. same name i
+
+-- a name has the bytes that it was given
+pub with_file_here : (f : Contents) (name bytes : List ℕ) → with_file f name bytes name ≡ Some bytes
+unfolding with_file
+with_file_here f name bytes = update_same bytes_eq f name (Some bytes) name (bytes_eq_same name)
+
+-- every other name keeps its own
+pub with_file_other : (f : Contents) (name bytes other : List ℕ) → other ≢ name
+    → with_file f name bytes other ≡ f other
+unfolding with_file
+with_file_other f name bytes other apart =
+    update_other bytes_eq f name (Some bytes) other (bytes_eq_other name other apart)
+
+-- of bytes given to a name twice the last count
+pub with_file_twice : (f : Contents) (name bytes more : List ℕ)
+    → with_file (with_file f name bytes) name more ≡ with_file f name more
+unfolding with_file
+with_file_twice f name bytes more =
+    same_contents _ _ (update-update bytes_eq f name (Some bytes) (Some more))
+
+-- giving a name what it has changes nothing
+pub update_held : {X : Type 0} (f : List ℕ → Option X) (name : List ℕ) (w : Option X) → f name ≡ w
+    → update bytes_eq f name w ≡ f
+update_held f name w is = λ i q. at q (bytes_eq name q) refl i
+  where
+    at : (q : List ℕ) (b : Bool) → bytes_eq name q ≡ b → update bytes_eq f name w q ≡ f q
+    at q true e = update_same bytes_eq f name w q e ∙ sym is ∙ ap f ((bytes_eq-Decides name q).0 e)
+    at q false e = update_other bytes_eq f name w q e
+
+-- a name that is given its own bytes changes nothing
+pub with_file_same : (f : Contents) (name bytes : List ℕ) → f name ≡ Some bytes
+    → with_file f name bytes ≡ f
+unfolding with_file
+with_file_same f name bytes is = update_held f name (Some bytes) is
+
+-- what is there stays there when a name is given bytes
+pub is_some_with_file : (f : Contents) (name bytes other : List ℕ) → IsSome (f other)
+    → IsSome (with_file f name bytes other)
+unfolding with_file
+is_some_with_file f name bytes other there = at (bytes_eq name other)
+  where
+    at : (b : Bool) → IsSome (cond b (Some bytes) (f other))
+    at true = refl
+    at false = there
+
+-- ---- which names may have been touched
+
+-- that say the same of each name are one
+pub same_touched : (a b : Touched) → ((name : List ℕ) → a name ≡ b name) → a ≡ b
+same_touched a b same = λ i name. same name i
+
+-- touched twice is touched where it was either time
+pub touch_twice : (touched : Touched) (name : List ℕ) (first second both : Bool) → (first || second)
+    ≡ both → with_touch (with_touch touched name first) name second ≡ with_touch touched name both
+touch_twice touched name first second both is =
+    same_touched _ _ (λ other. at (touched other) first second both (bytes_eq name other) is)
+  where
+    at : (was first second both same : Bool) → (first || second) ≡ both
+        → ((was || first && same) || second && same) ≡ (was || both && same)
+    at true first second both same is = refl
+    at false true second both true is = ap (λ b. b && true) is
+    at false true true both false is = ap (λ b. b && false) is
+    at false true false both false is = ap (λ b. b && false) is
+    at false false second both same is = ap (λ b. b && same) is
+
+untouched : (touched : Touched) (name : List ℕ) → with_touch touched name false ≡ touched
+untouched touched name = same_touched _ _ (λ other. at (touched other))
+  where
+    at : (was : Bool) → (was || false) ≡ was
+    at true = refl
+    at false = refl
+
+some_byte_joined : (xs ys : List ℕ) → (is_some_byte xs || is_some_byte ys) ≡ is_some_byte (xs ++ ys)
+some_byte_joined [] ys = refl
+some_byte_joined (x ∷ xs) ys = refl
+
+-- what touches a name leaves every other
+touch_other : (touched : Touched) (name : List ℕ) (is_so : Bool) (other : List ℕ) → other ≢ name
+    → with_touch touched name is_so other ≡ touched other
+touch_other touched name is_so other apart =
+    ap (λ same. touched other || is_so && same) (bytes_eq_other name other apart)
+    ∙ at (touched other) is_so
+  where
+    at : (was is_so : Bool) → (was || is_so && false) ≡ was
+    at true is_so = refl
+    at false true = refl
+    at false false = refl
+
+-- ---- what is emptied and appended to
+
+-- appending twice is appending the two joined
+pub appended_twice : (files : Files) (name xs ys : List ℕ)
+    → with_appended_bytes (with_appended_bytes files name xs) name ys
+    ≡ with_appended_bytes files name (xs ++ ys)
+unfolding with_appended_bytes
+appended_twice (Untold touched) name xs ys =
+    ap Untold (touch_twice touched name _ _ _ (some_byte_joined xs ys))
+appended_twice (Told f) name xs ys =
+    ap Told
+    (with_file_twice f name _ _
+    ∙ ap (with_file f name) (ap (λ o. unwrap_or o [] ++ ys) (with_file_here f name _)
+    ∙ append_assoc (unwrap_or (f name) []) xs ys))
+
+-- appending nothing to a file that is there changes nothing
+pub appended_nothing : (files : Files) (name : List ℕ) → IsFileThere files name
+    → with_appended_bytes files name [] ≡ files
+unfolding with_appended_bytes
+appended_nothing (Untold touched) name there = ap Untold (untouched touched name)
+appended_nothing (Told f) name there =
+    ap Told (ap (with_file f name) (append-nil _) ∙ with_file_same f name _ (held (f name) there))
+  where
+    held : (o : Option (List ℕ)) → IsSome o → o ≡ Some (unwrap_or o [])
+    held None there = cc
+    held (Some bytes) there = refl
+
+-- contents that are told, emptied and appended to
+pub emptied_is : (f new : Contents) (name : List ℕ) → new ≡ with_file f name []
+    → Told new ≡ with_empty_file (Told f) name
+unfolding with_empty_file
+emptied_is f new name is = ap Told is
+
+-- the contents with these bytes after the name's own are told as appended to
+pub appended_is : (f new : Contents) (name bytes : List ℕ)
+    → new ≡ with_file f name (unwrap_or (f name) [] ++ bytes)
+    → Told new ≡ with_appended_bytes (Told f) name (take (length bytes) bytes)
+unfolding with_appended_bytes
+appended_is f new name bytes is =
+    ap Told is ∙ ap (λ more. Told (with_file f name (unwrap_or (f name) [] ++ more)))
+    (sym (take_all (length bytes) bytes (omega arith)))
+
+-- emptied and then appended to, the name holds exactly these bytes
+pub written_holds : (files : Files) (name bytes : List ℕ) → is_told files ≡ true
+    → Holds (with_appended_bytes (with_empty_file files name) name bytes) name bytes
+unfolding with_empty_file with_appended_bytes
+written_holds (Untold touched) name bytes told = cc
+written_holds (Told f) name bytes told =
+    with_file_here (with_file f name []) name _
+    ∙ ap (λ (o : Option (List ℕ)). Some (unwrap_or o [] ++ bytes)) (with_file_here f name [])
+
+-- every other name stays
+pub emptied_holds_other : (files : Files) (name other bytes : List ℕ) → other ≢ name
+    → Holds files other bytes → Holds (with_empty_file files name) other bytes
+unfolding with_empty_file
+emptied_holds_other (Untold touched) name other bytes apart holds = holds
+emptied_holds_other (Told f) name other bytes apart holds =
+    with_file_other f name [] other apart ∙ holds
+
+-- every other name stays when bytes are appended
+pub appended_holds_other : (files : Files) (name more other bytes : List ℕ) → other ≢ name
+    → Holds files other bytes → Holds (with_appended_bytes files name more) other bytes
+unfolding with_appended_bytes
+appended_holds_other (Untold touched) name more other bytes apart holds = holds
+appended_holds_other (Told f) name more other bytes apart holds =
+    with_file_other f name _ other apart ∙ holds
+
+-- and held already what it holds
+pub emptied_held_other : (files : Files) (name other bytes : List ℕ) → other ≢ name
+    → Holds (with_empty_file files name) other bytes → Holds files other bytes
+unfolding with_empty_file
+emptied_held_other (Untold touched) name other bytes apart holds = holds
+emptied_held_other (Told f) name other bytes apart holds =
+    sym (with_file_other f name [] other apart) ∙ holds
+
+-- and held already what it holds
+pub appended_held_other : (files : Files) (name more other bytes : List ℕ) → other ≢ name
+    → Holds (with_appended_bytes files name more) other bytes → Holds files other bytes
+unfolding with_appended_bytes
+appended_held_other (Untold touched) name more other bytes apart holds = holds
+appended_held_other (Told f) name more other bytes apart holds =
+    sym (with_file_other f name _ other apart) ∙ holds
+
+-- a name that was emptied or appended to is there, and no name goes
+pub emptied_there : (files : Files) (name : List ℕ) → IsFileThere (with_empty_file files name) name
+unfolding with_empty_file
+emptied_there (Untold touched) name = tt
+emptied_there (Told f) name = ap is_some (with_file_here f name [])
+
+-- a name that was appended to is there
+pub appended_there : (files : Files) (name more : List ℕ)
+    → IsFileThere (with_appended_bytes files name more) name
+unfolding with_appended_bytes
+appended_there (Untold touched) name more = tt
+appended_there (Told f) name more = ap is_some (with_file_here f name _)
+
+-- no name goes when one is emptied
+pub emptied_keeps : (files : Files) (name other : List ℕ) → IsFileThere files other
+    → IsFileThere (with_empty_file files name) other
+unfolding with_empty_file
+emptied_keeps (Untold touched) name other there = tt
+emptied_keeps (Told f) name other there = is_some_with_file f name [] other there
+
+-- nor when one is appended to
+pub appended_keeps : (files : Files) (name more other : List ℕ) → IsFileThere files other
+    → IsFileThere (with_appended_bytes files name more) other
+unfolding with_appended_bytes
+appended_keeps (Untold touched) name more other there = tt
+appended_keeps (Told f) name more other there = is_some_with_file f name _ other there
+
+-- whether files are told never changes
+pub emptied_told : (files : Files) (name : List ℕ)
+    → is_told (with_empty_file files name) ≡ is_told files
+unfolding with_empty_file
+emptied_told (Untold touched) name = refl
+emptied_told (Told f) name = refl
+
+-- nor does an append change whether files are told
+pub appended_told : (files : Files) (name more : List ℕ)
+    → is_told (with_appended_bytes files name more) ≡ is_told files
+unfolding with_appended_bytes
+appended_told (Untold touched) name more = refl
+appended_told (Told f) name more = refl
+
+-- a folder that tells nothing at all tells nothing more when it is written to
+pub untold_written : {E : Type 0} (r : Result ℕ E) (name bytes : List ℕ)
+    → IfOk r (λ k. untold_files ≡ with_appended_bytes untold_files name (take k bytes))
+unfolding with_appended_bytes
+untold_written (Ok k) name bytes = refl
+untold_written (Err fault) name bytes = tt
+
+-- ---- which names stay
+
+All-split : {X : Type 0} (P : X → Type 0) (xs ys : List X) → All P (xs ++ ys) → All P xs × All P ys
+All-split P [] ys all = (All-nil P, all)
+All-split P (x ∷ xs) ys all = let rest = All-split P xs ys (All-tail P x (xs ++ ys) all) in
+    (All-cons P x xs (All-head P x (xs ++ ys) all) rest.0, rest.1)
+
+-- where no file changes only these names are touched, whichever they are
+pub touches_none : (names : List (List ℕ)) (files : Files) → OnlyTouches names files files
+touches_none names (Told f) = λ other apart. refl
+touches_none names (Untold touched) = λ other apart. refl
+
+-- two calls that touch only these names are one that does
+pub touches_then : (names : List (List ℕ)) (a b c : Files) → OnlyTouches names a b
+    → OnlyTouches names b c → OnlyTouches names a c
+touches_then names (Told f) (Told g) (Told h) first second =
+    λ other apart. second other apart ∙ first other apart
+touches_then names (Untold f) (Untold g) (Untold h) first second =
+    λ other apart. second other apart ∙ first other apart
+touches_then names (Told f) (Untold g) c first second = absurd first
+touches_then names (Untold f) (Told g) c first second = absurd first
+touches_then names (Told f) (Told g) (Untold h) first second = absurd second
+touches_then names (Untold f) (Untold g) (Told h) first second = absurd second
+
+-- also where more names may be touched
+pub touches_more : (few many : List (List ℕ)) (old new : Files)
+    → ((other : List ℕ) → All (λ name. other ≢ name) many → All (λ name. other ≢ name) few)
+    → OnlyTouches few old new → OnlyTouches many old new
+touches_more few many (Told f) (Told g) among only = λ other apart. only other (among other apart)
+touches_more few many (Untold f) (Untold g) among only =
+    λ other apart. only other (among other apart)
+touches_more few many (Told f) (Untold g) among only = only
+touches_more few many (Untold f) (Told g) among only = only
+
+-- what touches some names, and then others, touches both
+pub touches_both : (first second : List (List ℕ)) (a b c : Files) → OnlyTouches first a b
+    → OnlyTouches second b c → OnlyTouches (first ++ second) a c
+touches_both first second a b c before after =
+    touches_then (first ++ second) a b c
+    (touches_more first (first ++ second) a b
+    (λ other apart. (All-split (λ name. other ≢ name) first second apart).0) before)
+    (touches_more second (first ++ second) b c
+    (λ other apart. (All-split (λ name. other ≢ name) first second apart).1) after)
+
+first_apart : (name other : List ℕ) → All (λ n. other ≢ n) (name ∷ []) → other ≢ name
+first_apart name other apart = All-head (λ n. other ≢ n) name [] apart
+
+-- emptying a name touches it alone
+pub emptied_touches : (files : Files) (name : List ℕ)
+    → OnlyTouches (name ∷ []) files (with_empty_file files name)
+unfolding with_empty_file
+emptied_touches (Told f) name =
+    λ other apart. with_file_other f name [] other (first_apart name other apart)
+emptied_touches (Untold touched) name =
+    λ other apart. touch_other touched name true other (first_apart name other apart)
+
+-- so does appending to it
+pub appended_touches : (files : Files) (name more : List ℕ)
+    → OnlyTouches (name ∷ []) files (with_appended_bytes files name more)
+unfolding with_appended_bytes
+appended_touches (Told f) name more =
+    λ other apart. with_file_other f name _ other (first_apart name other apart)
+appended_touches (Untold touched) name more =
+    λ other apart. touch_other touched name _ other (first_apart name other apart)
+
+tried_touches : (files : Files) (name : List ℕ)
+    → OnlyTouches (name ∷ []) files (with_tried_create files name)
+unfolding with_tried_create
+tried_touches (Told f) name = λ other apart. refl
+tried_touches (Untold touched) name =
+    λ other apart. touch_other touched name true other (first_apart name other apart)
+
+-- so does a call to create it that fails
+pub fails_touches : (old new : Files) (name : List ℕ) → FailsToCreate name old new
+    → OnlyTouches (name ∷ []) old new
+fails_touches old new name (inl same) =
+    subst (λ files. OnlyTouches (name ∷ []) old files) (sym same) (touches_none (name ∷ []) old)
+fails_touches old new name (inr touched) =
+    subst (λ files. OnlyTouches (name ∷ []) old files) (sym touched) (tried_touches old name)
+
+-- a call to create a file that failed left told files
+pub fails_told : (f : Contents) (new : Files) (name : List ℕ) → FailsToCreate name (Told f) new
+    → new ≡ Told f
+unfolding with_tried_create
+fails_told f new name (inl same) = same
+fails_told f new name (inr touched) = touched
+
+-- told files stay told
+pub touches_told : (names : List (List ℕ)) (old new : Files) → OnlyTouches names old new
+    → is_told new ≡ is_told old
+touches_told names (Told f) (Told g) only = refl
+touches_told names (Untold f) (Untold g) only = refl
+touches_told names (Told f) (Untold g) only = absurd only
+touches_told names (Untold f) (Told g) only = absurd only
+
+-- ---- what is told
+
+-- where files are told, what is there has bytes, and no two lists of them
+pub there_holds : (f : Contents) (name : List ℕ) → IsFileThere (Told f) name
+    → (bytes : List ℕ) × Holds (Told f) name bytes
+there_holds f name there = held (f name) there
+  where
+    held : (o : Option (List ℕ)) → IsSome o → (bytes : List ℕ) × (o ≡ Some bytes)
+    held None there = cc
+    held (Some bytes) there = (bytes, refl)
+
+-- where no bytes can be those of a file that is there, nothing is told
+pub nothing_told : (files : Files) (name : List ℕ) → IsFileThere files name
+    → ((bytes : List ℕ) → Holds files name bytes → ⊥) → is_told files ≡ false
+nothing_told (Untold touched) name there none = refl
+nothing_told (Told f) name there none = let held = there_holds f name there in
+    absurd (none held.0 held.1)
+
+-- sending twice is sending the two joined
+pub sent_twice : (sent : Sent) (xs ys : List ℕ)
+    → sent_and_more (sent_and_more sent xs) ys ≡ sent_and_more sent (xs ++ ys)
+unfolding sent_and_more
+sent_twice None xs ys = refl
+sent_twice (Some s) xs ys = ap Some (append_assoc s xs ys)
+
+-- sending nothing changes nothing
+pub sent_nothing : (sent : Sent) → sent_and_more sent [] ≡ sent
+unfolding sent_and_more
+sent_nothing None = refl
+sent_nothing (Some s) = ap Some (append-nil s)
+
+-- bytes that are told, and more after them
+pub sent_is : (s new bytes : List ℕ) → new ≡ s ++ bytes
+    → Some new ≡ sent_and_more (Some s) (take (length bytes) bytes)
+unfolding sent_and_more
+sent_is s new bytes is =
+    ap Some is ∙ ap (λ more. Some (s ++ more)) (sym (take_all (length bytes) bytes (omega arith)))

@@ -1,0 +1,488 @@
+-- Steps of a pass, one after the other.
+use Rattle.std.proofs.Common.{ap, append-nil, append_assoc, arith, drop, length, length-append}
+use Rattle.std.proofs.Common.{List, refl, subst, sym, take, ℕ, [], ◌++◌, ◌+◌, ◌-◌, ◌∙◌, ◌≡◌, ◌≢◌}
+use Rattle.std.proofs.{Common.◌≤◌, Math.Seq.{take-add, take-append-add}}
+use Rattle.std.proofs.lemmas.List.{drop-drop, length-take, take-append-le}
+use Rattle.std.specs.Prelude.{Err, IfErr, IsErrAnd, Ok, Result}
+use Rattle.outside.proofs.BufferOutputLemmas.{passed_more}
+use Rattle.outside.proofs.FilesLemmas.{appended_held_other, appended_holds_other, appended_keeps}
+use Rattle.outside.proofs.FilesLemmas.{appended_nothing, appended_told, appended_twice}
+use Rattle.outside.specs.{BufferOutput.{AppendedPrefix, AppendsWaiting}, Counts.Counts, Feed.Fed}
+use Rattle.outside.specs.Files.{Files, Holds, is_told, IsFileThere, with_appended_bytes}
+use Rattle.outside.specs.Pass.{AppendsMadeBytes, AppendsPart, AppendsPrefix, AreBytesMade, bytes_at}
+use Rattle.outside.specs.Pass.{bytes_between, HasPassCause, IsPassReady, IsReadPassFault}
+use Rattle.outside.specs.Pass.{pass_fault_of, PassMakes, Route, route_of, WritesMadeBytes}
+use Rattle.outside.specs.{Pass.WritesPrefix, ReadCauses.HasReadCause, Seen.Seen}
+use Rattle.outside.specs.declared.exact.ReadFault.{ReadFault}
+use Rattle.outside.specs.declared.exact.ReadFault.TheVariants.{Failed, Shrunk as ShrunkRead}
+use Rattle.outside.specs.declared.pass.{Pass.Pass, PassFault.PassFault}
+use Rattle.outside.specs.declared.pass.PassFault.TheVariants.{Read, Shrunk, Write}
+
+-- The first of the bytes went on, and the rest of them are to follow.
+pub record WritesUpTo (pass : Pass) (whole rest : List ℕ → List ℕ) (before after : List ℕ)
+    (old new : Files) : Type 0 where
+  pub made : List ℕ → List ℕ
+  pub written : WritesMadeBytes pass made before after old new
+  pub left : (file : List ℕ) → Holds old pass.input.now file → whole file ≡ made file ++ rest file
+
+-- ---- files, where the output got more bytes
+
+module _ (old new : Files) (input output more file : List ℕ) (apart : input ≢ output)
+    (is : new ≡ with_appended_bytes old output more) where
+  -- the input stays
+  pub input_holds : Holds old input file → Holds new input file
+  input_holds holds = subst (λ f. Holds f input file) (sym is)
+      (appended_holds_other old output more input file apart holds)
+
+  -- and it was so before
+  pub input_held : Holds new input file → Holds old input file
+  input_held holds =
+      appended_held_other old output more input file apart
+      (subst (λ f. Holds f input file) is holds)
+
+-- no name goes
+pub still_there : (old new : Files) (output more name : List ℕ)
+    → new ≡ with_appended_bytes old output more → IsFileThere old name → IsFileThere new name
+still_there old new output more name is there =
+    subst (λ f. IsFileThere f name) (sym is) (appended_keeps old output more name there)
+
+-- all is ready for the next step
+pub ready_later : (pass : Pass) (old new : Files) (fed : Fed) (more : List ℕ)
+    → new ≡ with_appended_bytes old pass.output.now more → IsPassReady pass old fed
+    → IsPassReady pass new fed
+ready_later pass old new fed more is ready =
+    let held : (file : List ℕ) → Holds new pass.input.now file → Holds old pass.input.now file =
+    λ file holds. input_held old new pass.input.now pass.output.now more file ready.apart is holds
+    in
+    record {
+      apart = ready.apart;
+      source = still_there old new pass.output.now more pass.input.now is ready.source;
+      target = still_there old new pass.output.now more pass.output.now is ready.target;
+      length_is = λ file holds. ready.length_is file (held file holds);
+      few = ready.few;
+      fed_from = record { same = λ file holds. ready.fed_from.same file (held file holds) };
+    }
+
+-- after a buffer passed something on, all is ready for the next step
+pub passed_ready : (pass : Pass) {before after : List ℕ} {old new : Files} {fed : Fed}
+    → AppendsWaiting pass.output.now before after old new → IsPassReady pass old fed
+    → IsPassReady pass new fed
+passed_ready pass {before} {after} {old} {new} {fed} passed ready =
+    ready_later pass old new fed passed.passed passed.files ready
+
+-- ---- single steps
+
+module _ (pass : Pass) where
+  -- nothing more
+  pub writes_nothing : (made : List ℕ → List ℕ) (waiting : List ℕ) (files : Files)
+      → IsFileThere files pass.output.now → AreBytesMade files pass.input.now made []
+      → WritesMadeBytes pass made waiting waiting files files
+  writes_nothing made waiting files there none = record {
+    piece = [];
+    is = none;
+    passed = record {
+      passed = [];
+      split = append-nil waiting;
+      files =
+          sym (appended_nothing files pass.output.now there);
+    };
+  }
+
+  -- a piece that was pushed
+  pub writes_piece : (made : List ℕ → List ℕ) {piece before after : List ℕ} {old new : Files}
+      → AreBytesMade old pass.input.now made piece
+      → AppendsWaiting pass.output.now (before ++ piece) after old new
+      → WritesMadeBytes pass made before after old new
+  writes_piece made {piece} is passed = record { piece = piece; is = is; passed = passed }
+
+  -- a piece of which only a prefix was written
+  pub prefix_piece : (made : List ℕ → List ℕ) {piece before : List ℕ} {old new : Files}
+      {fault : PassFault} → AreBytesMade old pass.input.now made piece
+      → AppendedPrefix pass.output.now (before ++ piece) old new
+      → WritesPrefix pass made before old new fault
+  prefix_piece made {piece} {before} is prefix =
+      let bytes = take prefix.count (before ++ piece) in
+      let long : length bytes ≡ prefix.count =
+      omega (arith, length-take prefix.count (before ++ piece), prefix.short) in
+      record {
+        bytes = bytes;
+        prefix = λ file holds. ap (λ n. take n (before ++ piece)) (sym long)
+            ∙ ap (λ (l : List ℕ). take (length bytes) (before ++ l)) (is file holds);
+        short = λ failed file holds. omega
+            (arith, long, prefix.short, ap (λ (l : List ℕ). length (before ++ l)) (is file holds));
+        files = prefix.files;
+      }
+
+  -- nothing was appended yet, where a read failed
+  pub prefix_nothing : (made : List ℕ → List ℕ) (before : List ℕ) (old new : Files)
+      {fault : PassFault} → IsReadPassFault fault → new ≡ old → IsFileThere old pass.output.now
+      → WritesPrefix pass made before old new fault
+  prefix_nothing made before old new read same there = record {
+    bytes = [];
+    prefix = λ file holds. refl;
+    short = λ failed. absurd (subst IsReadPassFault failed read);
+    files = same ∙ sym (appended_nothing old pass.output.now there);
+  }
+
+  -- the same, where the bytes are made in another way that gives the same
+  pub writes_as : {made : List ℕ → List ℕ} (other : List ℕ → List ℕ) {before after : List ℕ}
+      {old new : Files} → ((file : List ℕ) → Holds old pass.input.now file → made file ≡ other file)
+      → WritesMadeBytes pass made before after old new
+      → WritesMadeBytes pass other before after old new
+  writes_as other same step = record {
+    piece = step.piece;
+    is = λ file holds. step.is file holds ∙ same file holds;
+    passed =
+        step.passed;
+  }
+
+  -- a prefix of some is one of more
+  pub prefix_as : {made : List ℕ → List ℕ} (other rest : List ℕ → List ℕ) {before : List ℕ}
+      {old new : Files} {fault : PassFault}
+      → ((file : List ℕ) → Holds old pass.input.now file → other file ≡ made file ++ rest file)
+      → WritesPrefix pass made before old new fault → WritesPrefix pass other before old new fault
+  prefix_as {made} other rest {before} {old} more part =
+      let whole : (file : List ℕ) → Holds old pass.input.now file
+      → (before ++ made file) ++ rest file ≡ before ++ other file =
+      λ file holds. append_assoc before (made file) (rest file)
+      ∙ ap (λ (l : List ℕ). before ++ l) (sym (more file holds)) in
+      record {
+        bytes = part.bytes;
+        prefix = λ file holds.
+            let is = part.prefix file holds in
+            let within : length part.bytes ≤ length (before ++ made file) =
+            omega (arith, ap length is, length-take (length part.bytes) (before ++ made file)) in
+            is ∙ sym (take-append-le (length part.bytes) (before ++ made file) (rest file) within)
+            ∙ ap (take (length part.bytes)) (whole file holds);
+        short = λ failed file holds. omega (
+          arith,
+          part.short failed file holds,
+          ap length (whole file holds),
+          length-append (before ++ made file) (rest file),
+        );
+        files = part.files;
+      }
+
+-- ---- a step after a step
+
+module _ (pass : Pass) (apart : pass.input.now ≢ pass.output.now) {made : List ℕ → List ℕ}
+    {before mid : List ℕ} {old now : Files}
+    (step : WritesMadeBytes pass made before mid old now) where
+  -- the input holds what it held
+  pub writes_holds : (file : List ℕ) → Holds old pass.input.now file → Holds now pass.input.now file
+  writes_holds file holds = input_holds old now
+      pass.input.now pass.output.now step.passed.passed file apart step.passed.files holds
+
+  -- and held what it holds
+  pub writes_held : (file : List ℕ) → Holds now pass.input.now file → Holds old pass.input.now file
+  writes_held file holds = input_held old now pass.input.now pass.output.now step.passed.passed file
+      apart step.passed.files holds
+
+  -- no name goes
+  pub writes_there : (name : List ℕ) → IsFileThere old name → IsFileThere now name
+  writes_there name there =
+      still_there old now pass.output.now step.passed.passed name step.passed.files there
+
+  -- what two steps wrote is what they made, one after the other
+  pub writes_then : {next : List ℕ → List ℕ} {after : List ℕ} {new : Files}
+      → WritesMadeBytes pass next mid after now new
+      → WritesMadeBytes pass (λ file. made file ++ next file) before after old new
+  writes_then {next} {after} {new} more = record {
+    piece = step.piece ++ more.piece;
+    is = λ file holds. (λ i. step.is file holds i ++ more.is file (writes_holds file holds) i);
+    passed =
+        subst (λ (l : List ℕ). AppendsWaiting pass.output.now l after old new) (append_assoc before
+        step.piece more.piece) (passed_more more.piece step.passed more.passed);
+  }
+
+  -- a step that ends early after a step
+  pub prefix_then : {next : List ℕ → List ℕ} {new : Files} {fault : PassFault}
+      → WritesPrefix pass next mid now new fault
+      → WritesPrefix pass (λ file. made file ++ next file) before old new fault
+  prefix_then {next} {new} more =
+      let first = step.passed in
+      let whole : (file : List ℕ) → Holds old pass.input.now file
+      → before ++ (made file ++ next file) ≡ first.passed ++ (mid ++ next file) =
+      λ file holds.
+      sym (append_assoc before (made file) (next file))
+      ∙ ap (λ (l : List ℕ). (before ++ l) ++ next file) (sym (step.is file holds))
+      ∙ ap (λ (l : List ℕ). l ++ next file) first.split
+      ∙ append_assoc first.passed mid (next file) in
+      record {
+        bytes = first.passed ++ more.bytes;
+        prefix = λ file holds.
+            ap (λ (l : List ℕ). first.passed ++ l) (more.prefix file (writes_holds file holds))
+            ∙ sym (take-append-add first.passed (mid ++ next file) (length more.bytes))
+            ∙ ap (λ n. take n (first.passed ++ (mid ++ next file)))
+            (sym (length-append first.passed more.bytes))
+            ∙ ap (take (length (first.passed ++ more.bytes))) (sym (whole file holds));
+        short = λ failed file holds.
+            omega (
+              arith,
+              more.short failed file (writes_holds file holds),
+              length-append first.passed more.bytes,
+              ap length (whole file holds),
+              length-append first.passed (mid ++ next file),
+            );
+        files = more.files ∙ ap (λ f. with_appended_bytes f pass.output.now more.bytes) first.files
+            ∙ appended_twice old pass.output.now first.passed more.bytes;
+      }
+
+-- ---- as far as the bytes went on
+
+module _ (pass : Pass) where
+  -- before the first step nothing went on, and all is to follow
+  pub up_to_begun : (whole : List ℕ → List ℕ) (waiting : List ℕ) (files : Files)
+      → IsFileThere files pass.output.now → WritesUpTo pass whole whole waiting waiting files files
+  up_to_begun whole waiting files there = record {
+    made = λ file. [];
+    written = writes_nothing pass (λ file. []) waiting files there (λ file holds. refl);
+    left = λ file holds. refl;
+  }
+
+module _ (pass : Pass) (apart : pass.input.now ≢ pass.output.now) {whole rest : List ℕ → List ℕ}
+    {before mid : List ℕ} {old now : Files}
+    (sofar : WritesUpTo pass whole rest before mid old now) where
+  -- the input is as it was
+  pub up_to_held : (file : List ℕ) → Holds now pass.input.now file → Holds old pass.input.now file
+  up_to_held file holds = writes_held pass apart sofar.written file holds
+
+  module _ (next later : List ℕ → List ℕ) (is : (file : List ℕ) → Holds old pass.input.now file
+      → rest file ≡ next file ++ later file) where
+    both : (file : List ℕ) → Holds old pass.input.now file
+        → whole file ≡ (sofar.made file ++ next file) ++ later file
+    both file holds =
+        sofar.left file holds ∙ ap (λ (l : List ℕ). sofar.made file ++ l) (is file holds)
+        ∙ sym (append_assoc (sofar.made file) (next file) (later file))
+
+    -- what went on, with one step more, are more of the bytes
+    pub up_to_more : {after : List ℕ} {new : Files} → WritesMadeBytes pass next mid after now new
+        → WritesUpTo pass whole later before after old new
+    up_to_more step = record {
+      made = λ file. sofar.made file ++ next file;
+      written = writes_then pass apart sofar.written step;
+      left = both;
+    }
+
+    -- if that step failed, what went on is a prefix of them
+    pub up_to_prefix : {new : Files} {fault : PassFault} → WritesPrefix pass next mid now new fault
+        → WritesPrefix pass whole before old new fault
+    up_to_prefix part = prefix_as pass whole later both (prefix_then pass apart sofar.written part)
+
+  -- where nothing is to follow all of them went on
+  pub up_to_end : ((file : List ℕ) → Holds old pass.input.now file → rest file ≡ [])
+      → WritesMadeBytes pass whole before mid old now
+  up_to_end none =
+      writes_as pass whole
+      (λ file holds. sym (sofar.left file holds
+      ∙ ap (λ (l : List ℕ). sofar.made file ++ l) (none file holds) ∙ append-nil (sofar.made file)))
+      sofar.written
+
+  -- the last of them
+  module _ (next : List ℕ → List ℕ)
+      (is : (file : List ℕ) → Holds old pass.input.now file → rest file ≡ next file) where
+    -- with the last step all of them went on
+    pub up_to_last : {after : List ℕ} {new : Files} → WritesMadeBytes pass next mid after now new
+        → WritesMadeBytes pass whole before after old new
+    up_to_last step =
+        writes_as pass whole
+        (λ file holds.
+        sym (sofar.left file holds ∙ ap (λ (l : List ℕ). sofar.made file ++ l) (is file holds)))
+        (writes_then pass apart sofar.written step)
+
+    -- if that step failed, a prefix of them did
+    pub up_to_last_prefix : {new : Files} {fault : PassFault}
+        → WritesPrefix pass next mid now new fault → WritesPrefix pass whole before old new fault
+    up_to_last_prefix part = up_to_prefix next (λ file. [])
+        (λ file holds. is file holds ∙ sym (append-nil (next file))) part
+
+-- ---- what waits is handed on
+
+module _ (pass : Pass) (made : List ℕ → List ℕ) {waiting : List ℕ} {old now new : Files}
+    (step : WritesMadeBytes pass made [] waiting old now) where
+  -- if what waited was appended, all was
+  pub writes_all : new ≡ with_appended_bytes now pass.output.now waiting
+      → AppendsMadeBytes pass.input.now pass.output.now made old new
+  writes_all is = record {
+    bytes = step.piece;
+    is = step.is;
+    files = is
+        ∙ ap (λ f. with_appended_bytes f pass.output.now waiting) step.passed.files
+        ∙ appended_twice old pass.output.now step.passed.passed waiting
+        ∙ ap (with_appended_bytes old pass.output.now) (sym step.passed.split);
+  }
+
+  -- if a prefix of it was, a prefix of all was
+  pub writes_end : {fault : PassFault} → AppendedPrefix pass.output.now waiting now new
+      → AppendsPrefix pass.input.now pass.output.now made old new fault
+  writes_end part =
+      let passed = step.passed.passed in
+      let bytes = passed ++ take part.count waiting in
+      let long : length bytes ≡ length passed + part.count = omega (
+        arith,
+        length-append passed (take part.count waiting),
+        length-take part.count waiting,
+        part.short,
+      ) in
+      record {
+        bytes = bytes;
+        prefix = λ file holds.
+            sym (ap (λ n. take n (made file)) long
+            ∙ ap (take (length passed + part.count)) (sym (step.is file holds) ∙ step.passed.split)
+            ∙ take-append-add passed waiting part.count);
+        short = λ failed file holds. omega (
+          arith,
+          long,
+          part.short,
+          ap length (sym (step.is file holds) ∙ step.passed.split),
+          length-append passed waiting,
+        );
+        files = part.files
+            ∙ ap (λ f. with_appended_bytes f pass.output.now (take part.count waiting))
+            step.passed.files
+            ∙ appended_twice old pass.output.now passed (take part.count waiting);
+      }
+
+-- nothing waited before
+pub writes_behind_none : {pass : Pass} {made : List ℕ → List ℕ} {before after : List ℕ}
+    {old new : Files} → before ≡ [] → WritesMadeBytes pass made before after old new
+    → WritesMadeBytes pass made [] after old new
+writes_behind_none {pass} {made} {before} {after} {old} {new} none step =
+    subst (λ (l : List ℕ). WritesMadeBytes pass made l after old new) none step
+
+-- so where a step failed only a prefix was appended
+pub part_behind_none : {input output : List ℕ} {made : List ℕ → List ℕ} {before : List ℕ}
+    {old new : Files} {fault : PassFault} → before ≡ []
+    → AppendsPart input output made before old new fault
+    → AppendsPrefix input output made old new fault
+part_behind_none {input} {output} {made} {before} {old} {new} {fault} none part =
+    subst (λ (l : List ℕ). AppendsPart input output made l old new fault) none part
+
+-- ---- counts and causes
+
+-- that of a read is a cause of the pass
+pub read_cause : (way : Route) (files : Files) (before after : Counts) (fault : ReadFault)
+    → HasReadCause way.input way.size files before after fault
+    → HasPassCause way files before after (pass_fault_of fault)
+read_cause way files before after Failed cause = cause
+read_cause way files before after (ShrunkRead first second) cause = cause
+
+-- that of a read is no fault of a write
+pub read_kind : (fault : ReadFault) → IsReadPassFault (pass_fault_of fault)
+read_kind Failed = tt
+read_kind (ShrunkRead first second) = tt
+
+-- a cause after a step that succeeded is one of both
+pub cause_later : (way : Route) (old now : Files) (output more : List ℕ) (before mid after : Counts)
+    (fault : PassFault) → now ≡ with_appended_bytes old output more → mid ≡ before
+    → HasPassCause way now mid after fault → HasPassCause way old before after fault
+cause_later way old now output more before mid after Read grown same cause =
+    subst (λ counts. HasPassCause way old counts after Read) same cause
+cause_later way old now output more before mid after (Shrunk first second) grown same cause =
+    subst (λ counts. HasPassCause way old counts after (Shrunk first second)) same (
+      sym (ap is_told grown ∙ appended_told old output more) ∙ cause.0,
+      cause.1,
+      cause.2,
+      cause.3,
+      cause.4,
+      cause.5,
+    )
+cause_later way old now output more before mid after Write grown same cause =
+    subst (λ counts. HasPassCause way old counts after Write) same cause
+
+-- so is that of a result
+pub causes_later : {T : Type 0} (r : Result T PassFault) (way : Route) (old now : Files)
+    (output more : List ℕ) (before mid after : Counts) → now ≡ with_appended_bytes old output more
+    → mid ≡ before → IfErr r (HasPassCause way now mid after)
+    → IfErr r (HasPassCause way old before after)
+causes_later (Ok x) way old now output more before mid after grown same cause = tt
+causes_later (Err fault) way old now output more before mid after grown same cause =
+    cause_later way old now output more before mid after fault grown same cause
+
+-- after bytes that went on
+module _ {pass : Pass} {made : List ℕ → List ℕ} {before mid : List ℕ} {old now : Files}
+    (step : WritesMadeBytes pass made before mid old now) (way : Route)
+    (then between after : Counts)
+    (same : between ≡ then) where
+  -- the cause of a fault behind them is a cause of the whole
+  pub cause_behind : (fault : PassFault) → HasPassCause way now between after fault
+      → HasPassCause way old then after fault
+  cause_behind fault cause = cause_later way old now pass.output.now step.passed.passed
+      then between after fault step.passed.files same cause
+
+  -- so is that of a result
+  pub causes_behind : {T : Type 0} (r : Result T PassFault)
+      → IfErr r (HasPassCause way now between after) → IfErr r (HasPassCause way old then after)
+  causes_behind r cause = causes_later r way old now pass.output.now step.passed.passed
+      then between after step.passed.files same cause
+
+-- ---- bytes from one offset to another
+
+-- the bytes between two offsets are the first of them and those behind
+pub between_split : (file : List ℕ) (at n to : ℕ) → at + n ≤ to
+    → bytes_between file at to ≡ take n (drop at file) ++ bytes_between file (at + n) to
+between_split file at n to within =
+    let sum : to - at ≡ n + (to - (at + n)) = omega (arith, within) in
+    ap (λ k. take k (drop at file)) sum
+    ∙ take-add n (to - (at + n)) (drop at file)
+    ∙ ap (λ (l : List ℕ). take n (drop at file) ++ take (to - (at + n)) l) (drop-drop n at file)
+
+-- ---- bytes of the input that are copied
+
+-- those before `at` went on, and all is ready for the others
+pub record CopiesUpTo (pass : Pass) (from at to : ℕ) (before mid : List ℕ) (fed : Fed)
+    (old now : Seen) : Type 0 where
+  pub in_range : at ≤ to
+  pub up_to : WritesUpTo pass (λ file. bytes_between file from to)
+      (λ file. bytes_between file at to)
+      before mid old.files now.files
+  pub ready : IsPassReady pass now.files fed
+  pub done : now.counts ≡ old.counts
+
+-- before the first of them nothing went on, and all is ready
+pub copies_begun : (pass : Pass) (from to : ℕ) (waiting : List ℕ) (fed : Fed) (old : Seen) → from
+    ≤ to → IsPassReady pass old.files fed → CopiesUpTo pass from from to waiting waiting fed old old
+copies_begun pass from to waiting fed old ordered ready = record {
+  in_range = ordered;
+  up_to = up_to_begun pass (λ file. bytes_between file from to) waiting old.files ready.target;
+  ready = ready;
+  done = refl;
+}
+
+-- a piece more
+module _ {pass : Pass} {from at to : ℕ} {before mid after : List ℕ} {fed next : Fed}
+    {old now new : Seen}
+    (copied : CopiesUpTo pass from at to before mid fed old now) (n : ℕ)
+    (within : at + n ≤ to) where
+  -- a piece that was copied is one more
+  pub copies_more : {T : Type 0} {x : T}
+      → PassMakes pass (bytes_at at n) mid after next now new (Ok x)
+      → CopiesUpTo pass from (at + n) to before after next old new
+  copies_more made = record {
+    in_range = within;
+    up_to = up_to_more pass copied.ready.apart copied.up_to (bytes_at at n)
+        (λ file. bytes_between file (at + n) to)
+        (λ file holds. between_split file at n to within) made.written;
+    ready = made.ready;
+    done = made.done ∙ copied.done;
+  }
+
+  -- if a piece failed, the copy fails with a prefix of the whole
+  pub copies_failed : {S T : Type 0} {fault : PassFault} (result : Result S PassFault)
+      (last : List ℕ) (held : Fed) → IsErrAnd result (λ e. e ≡ fault)
+      → PassMakes {T = T} pass (bytes_at at n) mid after next now new (Err fault)
+      → PassMakes pass (λ file. bytes_between file from to) before last held old new result
+  copies_failed (Ok x) last held is made = absurd is
+  copies_failed (Err e) last held is made = record {
+    written = tt;
+    prefix = subst (WritesPrefix pass
+        (λ file. bytes_between file from to) before old.files new.files) (sym is)
+        (up_to_prefix pass copied.ready.apart copied.up_to (bytes_at at n)
+        (λ file. bytes_between file (at + n) to)
+        (λ file holds. between_split file at n to within) made.prefix);
+    done = tt;
+    cause = subst (HasPassCause (route_of pass) old.files old.counts new.counts) (sym is)
+        (cause_behind copied.up_to.written (route_of pass)
+        old.counts now.counts new.counts copied.done _ made.cause);
+    ready = tt;
+  }

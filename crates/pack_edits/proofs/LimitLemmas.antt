@@ -1,0 +1,237 @@
+-- A file of at most so many frames: its faults, and that it
+-- has none where more frames are allowed, if it has none here.
+use Rattle.std.proofs.Common.{ap, arith, Bool, Err, false, IfErr, inl, inr, length, List, None, Ok}
+use Rattle.std.proofs.Common.{Option, refl, Result, rules, Some, subst, sym, ℕ, [], ◌==◌, ◌∙◌, ◌∷◌}
+use Rattle.std.proofs.{Common.{◌≡◌, ◌≤◌}, lemmas.Bool.ne_eqb}
+use Rattle.std.proofs.lemmas.Option.{slice_get_cases, slice_get_within}
+use Rattle.bit_fields.specs.Bits.{AreBytes}
+use Rattle.commands.proofs.InputLemmas.{of_bytes_behind}
+use Rattle.commands.proofs.NamedLemmas.{lost_name, missed_name, unread_name}
+use Rattle.commands.proofs.{RefusingLemmas.before_first, WhyLemmas.each_why}
+use Rattle.commands.specs.AfterCall.{IsLateFault, IsNotBefore, why_of}
+use Rattle.commands.specs.SingleOutput.{file_task, HasTaskNumbers, input_result, IsEarlyFault}
+use Rattle.commands.specs.SingleOutput.{IsFileFault, IsMaking, IsProperTask, Making, Task}
+use Rattle.commands.specs.{SingleOutput.TaskRefuses, declared.fault.EditFault.EditFault}
+use Rattle.commands.specs.declared.fault.EditFault.TheVariants.{Input, Memory, Refused}
+use Rattle.commands.specs.declared.fault.Refusal.{Refusal}
+use Rattle.frame_header.specs.Fields.{ClassFields}
+use Rattle.outside.proofs.FilesLemmas.{there_holds}
+use Rattle.outside.specs.Files.{Files, Holds, IfTold, IsFileMissing, IsFileThere, Told, Untold}
+use Rattle.outside.specs.Seen.{Seen}
+use Rattle.pack_edits.specs.Modes.{limited_result, limited_task, survey_fault_or}
+use Rattle.sync_survey.proofs.{BytesFaultLemmas.surveyed_of_bytes, FoldersLemmas.survey_of-short}
+use Rattle.sync_survey.proofs.SurveyPartsLemmas.{all_faults-none_sound, AreSound, frames_from}
+use Rattle.sync_survey.proofs.SurveyPartsLemmas.{sound-no_all_faults, surveyed-parts, surveyed-told}
+use Rattle.sync_survey.proofs.SurveyedFileLemmas.{survey_of-parts}
+use Rattle.sync_survey.specs.Faults.{class_from, longest_file, SurveyFields}
+use Rattle.sync_survey.specs.{MainData.{rows_of, StreamFrame}, Row.Row, Survey.survey_of}
+use Rattle.sync_survey.specs.{Walk.head_of, declared.places.Head.Head}
+use Rattle.sync_survey.specs.declared.survey_fault.SurveyFault.{SurveyFault, TheVariants.Absent}
+
+-- ---- where more frames are allowed
+
+same_count : (n : ℕ) → (n == n) ≡ false → ⊥
+same_count n is = search rules
+
+-- sound frames are no more than are allowed
+pub few-rows : (file : List ℕ) (head : Option Head) (class : ClassFields) (allowed : ℕ)
+    (rows : List Row) → AreSound file head class allowed rows → length rows ≤ allowed
+few-rows file head class allowed rows sound =
+    elim (slice_get_cases rows allowed).1 as (λ _. length rows ≤ allowed) [
+      | inl found ↦ absurd (same_count allowed (sound allowed found.0 found.2).few)
+      | inr past ↦ past.0
+    ]
+
+sound-more : (file : List ℕ) (head : Option Head) (class : ClassFields) (allowed other : ℕ)
+    (rows : List Row) → allowed ≤ other → AreSound file head class allowed rows
+    → AreSound file head class other rows
+sound-more file head class allowed other rows more sound = λ i r is.
+    let here = sound i r is in
+    record {
+      same = here.same;
+      word = here.word;
+      main = here.main;
+      few = ne_eqb i other (λ e. omega (
+        arith,
+        few-rows file head class allowed rows sound,
+        more,
+        e,
+        slice_get_within rows i r is,
+      ));
+    }
+
+-- a survey with fewer allowed frames is the survey with more
+pub survey_of-more : (file : List ℕ) (allowed other : ℕ) (s : SurveyFields) → allowed ≤ other
+    → survey_of file allowed ≡ Ok s → survey_of file other ≡ Ok s
+survey_of-more file allowed other s more e =
+    let whole = survey_of-parts file allowed s e in
+    let parts = surveyed-parts file allowed s whole.1 in
+    let start = parts.0 in
+    let read = parts.1 in
+    let rows = rows_of file (frames_from file start) in
+    let head = head_of file start.first in
+    survey_of-short file other whole.0
+    ∙ surveyed-told file other start (record {
+      start_is = read.start_is;
+      frames = sound-no_all_faults file head (class_from start) other rows
+          (sound-more file head (class_from start) allowed other rows more
+          (all_faults-none_sound file head (class_from start) allowed rows read.frames));
+      end = read.end;
+    })
+    ∙ ap Ok parts.2
+
+-- ---- where the source has no fault
+
+limited-sound : (allowed : ℕ) (o : Option (List ℕ)) (made : Result (List ℕ) EditFault)
+    → ((file : List ℕ) → o ≡ Some file → (s : SurveyFields) × (survey_of file allowed ≡ Ok s))
+    → limited_result (Some allowed) o made ≡ made
+limited-sound allowed None made sound = refl
+limited-sound allowed (Some file) made sound = ap (λ r. survey_fault_or r made) (sound file refl).1
+
+-- what was made within the limit is made without it
+pub limited-made : (allowed : ℕ) (o : Option (List ℕ)) (made : Result (List ℕ) EditFault)
+    (new : List ℕ) → limited_result (Some allowed) o made ≡ Ok new → made ≡ Ok new
+limited-made allowed None made new is = is
+limited-made allowed (Some file) made new is = at (survey_of file allowed) is
+  where
+    at : (r : Result SurveyFields SurveyFault) → survey_fault_or r made ≡ Ok new → made ≡ Ok new
+    at (Err fault) is = absurd cc
+    at (Ok s) is = is
+
+limited-late : (allowed : ℕ) (file : List ℕ) (made : Result (List ℕ) EditFault) → length file
+    ≤ longest_file → IfErr made IsLateFault
+    → IfErr (limited_result (Some allowed) (Some file) made) IsLateFault
+limited-late allowed file made few late = at (survey_of file allowed) refl
+  where
+    at : (r : Result SurveyFields SurveyFault) → survey_of file allowed ≡ r
+        → IfErr (survey_fault_or r made) IsLateFault
+    at (Err fault) is = of_bytes_behind fault
+        (surveyed_of_bytes file allowed fault (sym (survey_of-short file allowed few) ∙ is))
+    at (Ok s) is = late
+
+module _ (allowed : ℕ) (task : Task) where
+  -- by what the folder tells, the source has no fault
+  abbrev pub IsFaultless : Files → Type 0
+  IsFaultless files = (file : List ℕ) → Holds files task.source file
+      → (s : SurveyFields) × (survey_of file allowed ≡ Ok s)
+
+  limited-refuses : (files : Files) (fault : EditFault) → IsFaultless files
+      → TaskRefuses task files fault → TaskRefuses (limited_task (Some allowed) task) files fault
+  limited-refuses (Untold touched) fault sound is = tt
+  limited-refuses (Told f) fault sound is =
+      limited-sound allowed (f task.source) (task.makes f) sound ∙ is
+
+  limited-before : (files : Files) (P : EditFault → Type 0) → IsFaultless files
+      → IfTold files (λ f. IfErr (task.makes f) P)
+      → IfTold files (λ f. IfErr ((limited_task (Some allowed) task).makes f) P)
+  limited-before (Untold touched) P sound is = tt
+  limited-before (Told f) P sound is =
+      subst (λ r. IfErr r P) (sym (limited-sound allowed (f task.source) (task.makes f) sound)) is
+
+  module _ (old new : Seen) (fault : EditFault) (sound : IsFaultless old.files) where
+    -- a fault before the output is one with the limit too
+    pub limited-early : IsEarlyFault task old new fault
+        → IsEarlyFault (limited_task (Some allowed) task) old new fault
+    limited-early h = each_why (why_of fault) h (record {
+      rejected = λ r.
+          record { defined = limited-refuses old.files fault sound r.defined; stays = r.stays };
+      missing = λ m. record {
+        defined = limited-refuses old.files fault sound m.defined;
+        rose = m.rose;
+        files =
+            m.files;
+      };
+      unread = λ u. record {
+        before = limited-before old.files (IsNotBefore fault) sound u.before;
+        rose = u.rose;
+        files = u.files;
+      };
+      shorter = λ l. record { ended = l.ended; files = l.files };
+      unwritten = λ k w. absurd w;
+      unsent = λ w. absurd w;
+      no_memory = λ n. n;
+    })
+
+  -- a fault has the numbers of the task without the limit
+  pub limited-numbers : (fault : EditFault) → HasTaskNumbers task fault
+      → HasTaskNumbers (limited_task (Some allowed) task) fault
+  limited-numbers (Input place fault) h = h
+  limited-numbers (Refused refusal) h = h
+  limited-numbers Memory h = tt
+  limited-numbers _ h = absurd h
+
+  -- what the task makes is made within the limit
+  pub limited-making : (made : List ℕ → List ℕ) (files : Files) → IsFaultless files
+      → IsMaking task made files → IsMaking (limited_task (Some allowed) task) made files
+  limited-making made files sound is = record { there = is.there; makes = at files sound is.makes }
+    where
+      at : (files : Files) → IsFaultless files → IfTold files (λ f. (bytes : List ℕ)
+          → f task.source ≡ Some bytes → AreBytes bytes × (task.makes f ≡ Ok (made bytes)))
+          → IfTold files (λ f. (bytes : List ℕ) → f task.source ≡ Some bytes → AreBytes bytes
+          × (limited_result (Some allowed) (f task.source) (task.makes f) ≡ Ok (made bytes)))
+      at (Untold touched) sound makes = tt
+      at (Told f) sound makes = λ bytes held. let m = makes bytes held in
+          (m.0, limited-sound allowed (f task.source) (task.makes f) sound ∙ m.1)
+
+  -- a proper task is so with the limit
+  pub limited-proper : IsProperTask task → IsProperTask (limited_task (Some allowed) task)
+  limited-proper proper = record {
+    some = proper.some;
+    first = proper.first;
+    late =
+        λ f bytes held few.
+        subst (λ o. IfErr (limited_result (Some allowed) o (task.makes f)) IsLateFault)
+        (sym held) (limited-late allowed bytes (task.makes f) few (proper.late f bytes held few));
+    streams = λ f bytes new held octets is. proper.streams f bytes new held octets
+        (limited-made allowed (f task.source) (task.makes f) new is);
+  }
+
+-- ---- a fault of the survey
+
+module _ (allowed : ℕ) (make : Making) (stream : List ℕ → List StreamFrame)
+    (refuses : Refusal → Bool) (input : List ℕ) where
+  abbrev of_file : Task
+  of_file = file_task make stream refuses input
+
+  file-refused : (files : Files) (fault : SurveyFault) → IsFileThere files input
+      → ((bytes : List ℕ) → Holds files input bytes → survey_of bytes allowed ≡ Err fault)
+      → TaskRefuses (limited_task (Some allowed) of_file) files (Input 0 fault)
+  file-refused (Untold touched) fault there is = tt
+  file-refused (Told f) fault there is =
+      let held = there_holds f input there in
+      ap (λ o. limited_result (Some allowed) o (input_result make (f input))) held.1
+      ∙ ap (λ r. survey_fault_or r (input_result make (f input))) (is held.0 held.1)
+
+  file-missing : (files : Files) → IsFileMissing files input
+      → TaskRefuses (limited_task (Some allowed) of_file) files (Input 0 Absent)
+  file-missing (Untold touched) missing = tt
+  file-missing (Told f) missing =
+      ap (λ o. limited_result (Some allowed) o (input_result make o)) missing
+
+  module _ (old new : Seen) (fault : EditFault) where
+    -- a fault of the file by the limit comes before the output is created
+    pub survey-early : IsFileFault 0 allowed input old new fault
+        → IsEarlyFault (limited_task (Some allowed) of_file) old new fault
+    survey-early h = each_why (why_of fault) h (record {
+      rejected = λ r. record {
+        defined = subst (TaskRefuses (limited_task (Some allowed) of_file) old.files) (sym r.1)
+            (file-refused old.files r.0 r.2.there r.2.bytes);
+        stays = r.2.stays;
+      };
+      missing = λ m. record {
+        defined = subst (TaskRefuses (limited_task (Some allowed) of_file) old.files) (sym m.is)
+            (file-missing old.files m.missing);
+        rose = missed_name (input ∷ []) 0 refl m;
+        files =
+            m.files;
+      };
+      unread = λ u. record {
+        before = before_first old.files (limited_task (Some allowed) of_file).makes fault u.is;
+        rose = unread_name (input ∷ []) 0 refl u;
+        files = u.files;
+      };
+      shorter = λ l. record { ended = lost_name (input ∷ []) 0 refl l; files = l.files };
+      unwritten = λ k w. absurd w;
+      unsent = λ w. absurd w;
+      no_memory = λ n. n;
+    })

@@ -1,0 +1,89 @@
+-- What is placed from a menu is the plan.
+use Rattle.std.proofs.Common.{arith, false, List, lit≤, map, None, Option, refl, Some, subst, sym}
+use Rattle.std.proofs.Common.{true, ℕ, [], ◌++◌, ◌+◌, ◌-◌, ◌∙◌, ◌∷◌, ◌≡◌, ◌≤◌}
+use Rattle.std.proofs.lemmas.List.{append-nil}
+use Rattle.frame_header.specs.{Fields.{ClassFields, SlotFields}, Tables.{class_of, window_of}}
+use Rattle.frame_header.specs.declared.version.Version.{Version, TheVariants.One}
+use Rattle.rate_plan.specs.Menus.{IsMenuPlan, menu_choices, menu_items}
+use Rattle.slot_plan.proofs.{AreaLemmas.only_one, PlacedLemmas.plan-placed}
+use Rattle.slot_plan.proofs.ReserveLemmas.{needed-can}
+use Rattle.slot_plan.specs.Parts.{lead_in_item, need_item, open_frame, part_items, PlanItem}
+use Rattle.slot_plan.specs.Reserve.{AreItemsPlaced, IsLeastSlot, IsPlacedLeadIn, PlacesMore}
+use Rattle.slot_plan.specs.{Reserve.{PlacesPart, reserve_before}, declared.needs.Need.Need}
+use Rattle.slot_plan.specs.declared.needs.Placed.{Placed}
+
+-- no window is longer than 511 bytes
+pub window-most : (version : Version) → window_of version ≤ 511
+window-most One = lit≤ tt
+window-most _ = lit≤ tt
+
+nothing-placed : (window free : ℕ) → AreItemsPlaced window free [] []
+unfolding AreItemsPlaced
+nothing-placed window free = tt
+
+nothing : reserve_before [] ≡ 0
+unfolding reserve_before
+nothing = refl
+
+-- all were placed after nothing
+places-all : (window after : ℕ) (items : List PlanItem) (new : List Placed)
+    → PlacesMore window 0 after items [] [] new → AreItemsPlaced window 0 items new
+places-all window after items new on =
+    let all = on.goes [] [] nothing (nothing-placed window after) in
+    let more : on.more ++ [] ≡ new = append-nil on.more ∙ sym on.appended in
+    subst (AreItemsPlaced window 0 items) more
+    (subst (λ l. AreItemsPlaced window 0 l (on.more ++ [])) (append-nil items) all)
+
+-- a lead-in with the least of the slots of a menu is placed among them
+lead-among : (window : ℕ) (class : ClassFields) (menu : List SlotFields) (slot : SlotFields)
+    (items : List PlanItem) (placed : List Placed)
+    → IsLeastSlot (reserve_before (map open_frame items)) class false menu slot
+    → AreItemsPlaced window 0 (lead_in_item class (slot ∷ []) ∷ items) placed
+    → AreItemsPlaced window 0 (lead_in_item class menu ∷ items) placed
+unfolding AreItemsPlaced
+lead-among window class menu slot items [] least all = absurd all
+lead-among window class menu slot items (p ∷ placed) least all =
+    let wanted : reserve_before (map open_frame items)
+    ≡ (0 + reserve_before (map open_frame items)) - 0 = omega arith in
+    let here = subst (λ s. IsLeastSlot (reserve_before (map open_frame items)) class false menu s)
+    (only_one slot p.slot all.2.chosen) least in
+    (all.0, all.1, subst (λ n. IsLeastSlot n class false menu p.slot) wanted here, all.3)
+
+not-false : true ≡ false → ⊥
+not-false e = absurd cc
+
+menu-placed : (window : ℕ) (menu : List SlotFields) (needs : List Need)
+    (lead_in : Option SlotFields) (placed : List Placed)
+    → IsPlacedLeadIn window menu (menu_choices menu) needs lead_in
+    → AreItemsPlaced window 0 (part_items (menu_choices menu) needs lead_in) placed
+    → IsMenuPlan window menu needs placed
+unfolding IsPlacedLeadIn part_items menu_items
+menu-placed window menu needs None placed can all = record {
+  lead_in = false;
+  without = ((λ _. can), (λ _. refl));
+  whole = plan-placed window (menu_items false menu needs) placed all;
+}
+menu-placed window menu [] (Some slot) placed is all = absurd is
+menu-placed window menu (first ∷ needs) (Some slot) placed is all =
+    let items : List PlanItem = map (need_item (menu_choices menu)) (first ∷ needs) in
+    record {
+      lead_in = true;
+      without = (
+        (λ e. absurd (not-false e)),
+        (λ can. absurd (omega (arith, is.0, (needed-can window (map open_frame items) can).0))),
+      );
+      whole = plan-placed window (menu_items true menu (first ∷ needs)) placed
+          (lead-among window (class_of first.header) menu slot items placed is.2 all);
+    }
+
+-- a part that is placed by what is needed after each frame is its plan from the menu
+pub menu-part : (window : ℕ) (menu : List SlotFields) (needs : List Need) (after : ℕ)
+    (old new : List Placed) → old ≡ []
+    → PlacesPart window menu (menu_choices menu) needs 0 after old new
+    → IsMenuPlan window menu needs new
+menu-part window menu needs after old new none part =
+    let places = subst (λ l. PlacesMore window 0 after
+    (part_items (menu_choices menu) needs part.lead_in) [] l new) none part.places in
+    menu-placed window menu needs part.lead_in new
+    part.least (places-all window after
+    (part_items (menu_choices menu) needs part.lead_in) new places)

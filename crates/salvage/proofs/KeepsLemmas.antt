@@ -1,0 +1,423 @@
+-- Of a file without fault all is read that its survey tells.
+use Rattle.std.proofs.Common.{ap, append-nil, ap₂, arith, Bool, cond, drop, Err, false, is_some}
+use Rattle.std.proofs.Common.{length, length-drop, List, map, None, not, Ok, Option}
+use Rattle.std.proofs.Common.{option_and_then, option_to_list, refl, slice_get, Some, subst, suc}
+use Rattle.std.proofs.Common.{sym, true, zero, ℕ, [], ◌&&◌, ◌++◌, ◌+◌, ◌<◌, ◌==◌, ◌||◌, ◌∙◌, ◌∷◌}
+use Rattle.std.proofs.{Common.{◌≡◌, ◌≤◌}, lemmas.Bool.{not-false, or_left, or_right}}
+use Rattle.std.specs.List.{cons_option, enumerate_from}
+use Rattle.frame_header.specs.{Fields.{ClassFields, HeaderFields, same_class}, Tables.class_of}
+use Rattle.salvage.proofs.ProgressLemmas.{few_counted}
+use Rattle.salvage.proofs.SearchLemmas.{first_here, first_later, next_usable-some, not_usable}
+use Rattle.salvage.proofs.WalkLemmas.{things-item, things-past}
+use Rattle.salvage.specs.DamagedFiles.{damaged_by, damaged_fields, damaged_from, damaged_with_count}
+use Rattle.salvage.specs.DamagedFiles.{DamagedFields, gap_between, things_from}
+use Rattle.salvage.specs.Laws.{SalvageKeepsStreams}
+use Rattle.salvage.specs.SoundFrames.{end_of_sound, FrameRuns, is_sound, judged_row, judged_rows}
+use Rattle.salvage.specs.SoundFrames.{judged_runs, runs_of, sound_end}
+use Rattle.salvage.specs.UsableFrames.{frame_if_usable, has_right_crc, is_head, is_usable}
+use Rattle.salvage.specs.UsableFrames.{usable_frame_at}
+use Rattle.salvage.specs.Walk.{blocks_of_things, first_frame, gaps_of, is_item_read, IsItem}
+use Rattle.salvage.specs.Walk.{item_if_read, item_read, PlacedThing, things}
+use Rattle.salvage.specs.declared.usable.Role.{Role, TheVariants.{First, Later}}
+use Rattle.side_info.specs.Frame.{right_crc, stored_crc}
+use Rattle.sync_survey.proofs.{FaultsLemmas.marked-length, ProgressLemmas.first_of_stream}
+use Rattle.sync_survey.proofs.RunsLemmas.{frames-next, item_of-is, run-ends}
+use Rattle.sync_survey.proofs.StartLemmas.{anchored_frame-is, first_of-is, start-front, start_is}
+use Rattle.sync_survey.proofs.SurveyPartsLemmas.{all_faults-none_sound, AreSound, frames_from}
+use Rattle.sync_survey.proofs.SurveyPartsLemmas.{some_frames, StandWell, surveyed-parts, told_from}
+use Rattle.sync_survey.proofs.WalkLemmas.{no_fault, nothing_left, numbered-blocks, numbered-frames}
+use Rattle.sync_survey.proofs.WalkLemmas.{numbered-stop}
+use Rattle.sync_survey.specs.Faults.{class_from, has_wrong_crc, overlaps, overruns, SurveyFields}
+use Rattle.sync_survey.specs.Items.{item_at, item_fits, size_of}
+use Rattle.sync_survey.specs.MainData.{data_end_after, data_end_before, end_of_data, is_lost}
+use Rattle.sync_survey.specs.MainData.{is_silent, lacks_data, marked_row, marked_rows, place}
+use Rattle.sync_survey.specs.{MainData.{points_too_far, row_of, rows_of}, Row.Row}
+use Rattle.sync_survey.specs.Runs.{AreEndToEnd, block_of_item, blocks_of, frame_of_item, frames_of}
+use Rattle.sync_survey.specs.Runs.{item_if_whole, item_run, PlacedItem, whole_item_at}
+use Rattle.sync_survey.specs.Start.{anchored_frame, first_anchored, front_end_of, longest_junk}
+use Rattle.sync_survey.specs.Start.{start_after_junk, start_at}
+use Rattle.sync_survey.specs.Walk.{all_blocks, head_of, numbered_frames, numbered_offset}
+use Rattle.sync_survey.specs.{Walk.stream_run, declared.items.Item.Item}
+use Rattle.sync_survey.specs.declared.items.Item.TheVariants.{Block, Frame, Free, Zero}
+use Rattle.sync_survey.specs.declared.places.{Head.Head, PlacedFrame.PlacedFrame, Start.Start}
+use Rattle.sync_survey.specs.declared.runs.Region.TheVariants.{Front, Stream}
+use Rattle.sync_survey.specs.declared.survey_fault.SurveyFault.{SurveyFault}
+
+-- ---- frames without fault are usable
+
+right_by : (protected right : Bool) → (protected && not right) ≡ false
+    → (not protected || right) ≡ true
+right_by true false is = absurd cc
+right_by _ _ is = refl
+
+-- the frame is of the class, and its check word isn't wrong
+pub record HasNoFault (file : List ℕ) (class : ClassFields) (r : Row) : Type 0 where
+  pub same : not (same_class (class_of r.header) class) ≡ false
+  pub word : has_wrong_crc (stored_crc (drop r.offset file)) r ≡ false
+
+word_by : (file : List ℕ) (class : ClassFields) (p : PlacedFrame)
+    → HasNoFault file class (row_of file p) → has_right_crc p.header (drop p.offset file) ≡ true
+word_by file class p sound = right_by p.header.protected (stored_crc (drop p.offset file)
+    == right_crc p.header (drop p.offset file)) sound.word
+
+usable_by : (file : List ℕ) (class : ClassFields) (p : PlacedFrame)
+    → HasNoFault file class (row_of file p) → is_usable (Later class) p (drop p.offset file) ≡ true
+usable_by file class p sound =
+    ap₂ (λ (a b : Bool). a && b) (not-false _ sound.same) (word_by file class p sound)
+
+abbrev AreUsable : List ℕ → ClassFields → List PlacedFrame → Type 0
+AreUsable file class [] = Unit {0}
+AreUsable file class (p ∷ ps) =
+    (is_usable (Later class) p (drop p.offset file) ≡ true) × AreUsable file class ps
+
+usable_all : (file : List ℕ) (class : ClassFields) (ps : List PlacedFrame)
+    → ((i : ℕ) (r : Row) → slice_get (rows_of file ps) i ≡ Some r → HasNoFault file class r)
+    → AreUsable file class ps
+usable_all file class [] sound = tt
+usable_all file class (p ∷ ps) sound = (
+  usable_by file class p (sound zero (row_of file p) refl),
+  usable_all file class ps (λ i r is. sound (suc i) r is),
+)
+
+-- ---- its items are all that is read
+
+abbrev as_thing : PlacedItem → PlacedThing
+as_thing p = record { offset = p.offset; thing = IsItem p.item }
+
+read_by : (file : List ℕ) (class : ClassFields) (at : ℕ) (item : Item)
+    → whole_item_at Stream file at ≡ Some item → is_item_read file (Later class) at item ≡ true
+    → item_read file (Later class) at ≡ Some item
+unfolding item_read
+read_by file class at item here reads =
+    ap (item_if_read file (Later class) at) here ∙ ap (λ b. cond b (Some item) None) reads
+
+item_reads : (file : List ℕ) (class : ClassFields) (at : ℕ) (item : Item) (ps : List PlacedFrame)
+    → AreUsable file class (cons_option (frame_of_item at item) ps)
+    → is_item_read file (Later class) at item ≡ true
+item_reads file class at (Frame h) ps usable = usable.0
+item_reads file class at _ ps usable = refl
+
+rest_usable : (file : List ℕ) (class : ClassFields) (o : Option PlacedFrame) (ps : List PlacedFrame)
+    → AreUsable file class (cons_option o ps) → AreUsable file class ps
+rest_usable file class None ps usable = usable
+rest_usable file class (Some p) ps usable = usable.1
+
+things_are : (file : List ℕ) (class : ClassFields) (from : ℕ) (ps : List PlacedItem) (to : ℕ)
+    → AreEndToEnd Stream file from ps to → AreUsable file class (frames_of ps) → length file ≤ to
+    → things file class from ≡ map as_thing ps
+things_are file class from [] to ends usable past =
+    things-past file class from (omega (arith, ends, past))
+things_are file class from (p ∷ ps) to ends usable past =
+    ap (things file class) (sym ends.0)
+    ∙ things-item file class p.offset p.item (read_by file class
+    p.offset p.item ends.1 (item_reads file class p.offset p.item (frames_of ps) usable))
+    ∙ ap (λ l. as_thing p ∷ l) (things_are file class (p.offset + size_of p.item) ps to
+    ends.2 (rest_usable file class (frame_of_item p.offset p.item) (frames_of ps) usable) past)
+
+no_gaps : (ps : List PlacedItem) → gaps_of (map as_thing ps) ≡ []
+no_gaps [] = refl
+no_gaps (p ∷ ps) = no_gaps ps
+
+same_blocks : (ps : List PlacedItem) → blocks_of_things (map as_thing ps) ≡ blocks_of ps
+same_blocks [] = refl
+same_blocks (p ∷ ps) = ap (cons_option (block_of_item p.offset p.item)) (same_blocks ps)
+
+abbrev runs_as : List PlacedFrame → List (List PlacedFrame) → FrameRuns
+runs_as first later = record { first = first; later = later }
+
+frame_run : (o : Option PlacedFrame) (runs : FrameRuns) (ps : List PlacedFrame)
+    → runs ≡ runs_as ps []
+    → runs_as (option_to_list o ++ runs.first) runs.later ≡ runs_as (cons_option o ps) []
+frame_run None runs ps is = is
+frame_run (Some q) runs ps is = ap (λ (t : FrameRuns). runs_as (q ∷ t.first) t.later) is
+
+one_run : (ps : List PlacedItem) → runs_of (map as_thing ps) ≡ runs_as (frames_of ps) []
+one_run [] = refl
+one_run (p ∷ ps) =
+    frame_run (frame_of_item p.offset p.item) (runs_of (map as_thing ps)) (frames_of ps)
+    (one_run ps)
+
+-- ---- its marks are the same
+
+sound_well : (place ended : ℕ) (r : Row) → StandWell place ended r → is_sound place ended r ≡ true
+sound_well place ended r well = ap₂ (λ (a b : Bool). a && b)
+    (ap₂ (λ (a b : Bool). not a && not b) well.begins well.apart) (ap not well.within)
+
+unsound_far : (place ended : ℕ) (r : Row) → points_too_far place r ≡ true
+    → is_sound place ended r ≡ false
+unsound_far place ended r far =
+    ap (λ b. (not b && not (overlaps place ended r)) && not (overruns place r)) far
+
+second : (a b : Bool) → (a && b) ≡ true → b ≡ true
+second true b is = is
+second false b is = absurd cc
+
+not_sound : (place ended : ℕ) (r : Row) (lost : Bool) → lacks_data place ended r ≡ lost
+    → (lost ≡ false → StandWell place ended r) → not (is_sound place ended r) ≡ lost
+not_sound place ended r true is well = ap not (unsound_far place ended r (second _ _ is))
+not_sound place ended r false is well = ap not (sound_well place ended r (well refl))
+
+swap : (silent sound : Bool) (end ended : ℕ)
+    → cond (sound && not silent) end ended ≡ cond (silent || not sound) ended end
+swap true true end ended = refl
+swap true false end ended = refl
+swap false true end ended = refl
+swap false false end ended = refl
+
+end_same : (place ended : ℕ) (r : Row) → not (is_sound place ended r) ≡ lacks_data place ended r
+    → sound_end place ended (Some r) ≡ data_end_after place ended (Some r)
+end_same place ended r same =
+    swap (is_silent r) (is_sound place ended r) (end_of_data place r) ended
+    ∙ ap (λ b. cond (is_silent r || b) ended (end_of_data place r)) same
+
+module _ (file : List ℕ) (head : Option Head) (class : ClassFields) (allowed : ℕ) (rows : List Row)
+    (sound : AreSound file head class allowed rows) where
+  one_same : (i : ℕ) (r : Row) → slice_get rows i ≡ Some r
+      → not (is_sound (place head rows i) (data_end_before head rows i) r) ≡ is_lost head rows i r
+  one_same i r is = not_sound (place head rows i) (data_end_before head rows i) r
+      (is_lost head rows i r) refl (sound i r is).main
+
+  end_step : (i : ℕ) (o : Option Row) → slice_get rows i ≡ o → end_of_sound head rows i
+      ≡ data_end_before head rows i → sound_end (place head rows i) (end_of_sound head rows i) o
+      ≡ data_end_after (place head rows i) (data_end_before head rows i) o
+  end_step i None is so_far = so_far
+  end_step i (Some r) is so_far = ap (λ n. sound_end (place head rows i) n (Some r)) so_far
+      ∙ end_same (place head rows i) (data_end_before head rows i) r (one_same i r is)
+
+  ends_same : (i : ℕ) → end_of_sound head rows i ≡ data_end_before head rows i
+  unfolding end_of_sound data_end_before
+  ends_same zero = refl
+  ends_same (suc i) = end_step i (slice_get rows i) refl (ends_same i)
+
+  row_same : (i : ℕ) (r : Row) → slice_get rows i ≡ Some r
+      → judged_row head rows i r ≡ marked_row head rows i r
+  row_same i r is =
+      ap (λ n. record r { lost = not (is_sound (place head rows i) n r) }) (ends_same i)
+      ∙ ap (λ b. record r { lost = b }) (one_same i r is)
+
+each_same : (f g : ℕ → Row → Row) (n : ℕ) (xs : List Row)
+    → ((i : ℕ) (x : Row) → slice_get xs i ≡ Some x → f (n + i) x ≡ g (n + i) x)
+    → map (λ (p : ℕ × Row). f p.0 p.1) (enumerate_from n xs)
+    ≡ map (λ (p : ℕ × Row). g p.0 p.1) (enumerate_from n xs)
+each_same f g n [] same = refl
+each_same f g n (x ∷ xs) same =
+    let here : n + 0 ≡ n = omega arith in
+    ap₂ (λ (a : Row) (l : List Row). a ∷ l) (subst (λ m. f m x ≡ g m x) here (same zero x refl))
+    (each_same f g (n + 1) xs (λ i y is. let next : n + suc i ≡ n + 1 + i = omega arith in
+    subst (λ m. f m y ≡ g m y) next (same (suc i) y is)))
+
+judged-marked : (file : List ℕ) (head : Option Head) (class : ClassFields) (allowed : ℕ)
+    (rows : List Row) → AreSound file head class allowed rows
+    → judged_rows head rows ≡ marked_rows head rows
+unfolding judged_rows marked_rows
+judged-marked file head class allowed rows sound =
+    each_same (judged_row head rows) (marked_row head rows) 0 rows
+    (λ i r is. let same : i ≡ 0 + i = omega arith in subst (λ m. judged_row head rows m r
+    ≡ marked_row head rows m r) same (row_same file head class allowed rows sound i r is))
+
+-- ---- its first frame is the first that is read
+
+head_seen : (file : List ℕ) (p : PlacedFrame) (head : Head) → head_of file p ≡ Some head
+    → is_head p (drop p.offset file) ≡ true
+unfolding head_of
+head_seen file p head is = ap is_some is
+
+first_usable : (file : List ℕ) (class : ClassFields) (start : Start) (o : Option Head)
+    → whole_item_at Stream file start.first.offset ≡ Some (Frame start.first.header)
+    → head_of file start.first ≡ o → ((i : ℕ) (r : Row) → slice_get (rows_of file (numbered_frames o
+    (frames_of (stream_run file start).items))) i ≡ Some r → HasNoFault file class r)
+    → is_usable First start.first (drop start.first.offset file) ≡ true
+first_usable file class start (Some head) here is sound =
+    or_right _ _ (head_seen file start.first head is)
+first_usable file class start None here is sound =
+    let frames = frames-next Stream file start.first.offset (Frame start.first.header) here in
+    or_left _ _ (word_by file class start.first (sound zero (row_of file start.first)
+    (ap (λ ps. slice_get (rows_of file ps) zero) frames)))
+
+read_first : (file : List ℕ) (at : ℕ) (h : HeaderFields) → whole_item_at Stream file at
+    ≡ Some (Frame h) → is_usable First (record { offset = at; header = h }) (drop at file) ≡ true
+    → option_and_then (frame_of_item at) (item_read file First at)
+    ≡ Some (record { offset = at; header = h })
+unfolding item_read
+read_first file at h here usable =
+    ap (λ o. option_and_then (frame_of_item at) (item_if_read file First at o)) here
+    ∙ ap (λ b. option_and_then (frame_of_item at) (cond b (Some (Frame h)) None)) usable
+
+no_frame : (file : List ℕ) (at : ℕ) (item : Item) (b : Bool) → item_at file at ≡ item
+    → ((h : HeaderFields) → item ≡ Frame h → ⊥)
+    → option_and_then (frame_of_item at) (item_read file First at) ≡ None
+unfolding item_read whole_item_at
+no_frame file at (Frame h) b is none = absurd (none h refl)
+no_frame file at (Block block) b is none =
+    ap (λ i. option_and_then (frame_of_item at)
+    (item_if_read file First at (item_if_whole Stream file at i))) is
+    ∙ by_fit (item_fits file at (Block block))
+  where
+    by_fit : (f : Bool) → option_and_then (frame_of_item at)
+        (item_if_read file First at (cond f (Some (Block block)) None))
+        ≡ None
+    by_fit true = refl
+    by_fit false = refl
+no_frame file at Zero b is none =
+    ap (λ i. option_and_then (frame_of_item at)
+    (item_if_read file First at (item_if_whole Stream file at i))) is
+    ∙ by_fit (item_fits file at Zero)
+  where
+    by_fit : (f : Bool)
+        → option_and_then (frame_of_item at) (item_if_read file First at (cond f (Some Zero) None))
+        ≡ None
+    by_fit true = refl
+    by_fit false = refl
+no_frame file at _ b is none =
+    ap (λ i. option_and_then (frame_of_item at)
+    (item_if_read file First at (item_if_whole Stream file at i))) is
+
+usable_here : (file : List ℕ) (role : Role) (at : ℕ) (p : PlacedFrame) → anchored_frame file at
+    ≡ Some p → is_usable role p (drop p.offset file) ≡ true → usable_frame_at file role at ≡ Some p
+unfolding usable_frame_at
+usable_here file role at p here usable =
+    ap (frame_if_usable file role) here ∙ ap (λ b. cond b (Some p) None) usable
+
+module _ (file : List ℕ) (at : ℕ) (start : Start)
+    (within : start.first.offset + size_of (Frame start.first.header) ≤ length file)
+    (usable : is_usable First start.first (drop start.first.offset file) ≡ true) where
+  junk_first : (item : Item) → item_at file at ≡ item → ((h : HeaderFields) → item ≡ Frame h → ⊥)
+      → first_anchored longest_junk file (at + 1) ≡ Some start.first
+      → 0 < size_of (Frame start.first.header) → first_frame file at ≡ Some start.first
+  unfolding first_anchored
+  junk_first item is none found some =
+      let first = first_of-is (anchored_frame file) longest_junk (at + 1) start.first found in
+      let place = (anchored_frame-is file first.0 start.first first.1.here).offset in
+      first_later file at (no_frame file at item true is none)
+      ∙ next_usable-some file First (at + 1) first.0 start.first first.1.low (omega
+      (arith, place, within, some)) (usable_here file First first.0 start.first first.1.here usable)
+      (λ k low high. not_usable file First k (first.1.none k low high))
+
+  start_same : (o : Option PlacedFrame) → start_after_junk at o ≡ Ok start → o ≡ Some start.first
+  start_same None e = absurd cc
+  start_same (Some p) e =
+      let same : record { front_end = at; first = p } ≡ start = cc in
+      ap (λ s. Some s.first) same
+
+  here_first : (h : HeaderFields) (b : Bool) (fault : SurveyFault)
+      → whole_item_at Stream file start.first.offset ≡ Some (Frame start.first.header)
+      → cond b (Ok (record { front_end = at; first = record { offset = at; header = h } }))
+      (Err fault) ≡ Ok start → first_frame file at ≡ Some start.first
+  here_first h true fault here e =
+      let same : record { front_end = at; first = record { offset = at; header = h } } ≡ start =
+      cc in
+      let first : record { offset = at; header = h } ≡ start.first = ap (λ s. s.first) same in
+      first_here file at (record { offset = at; header = h })
+      (read_first file at h
+      (subst (λ p. whole_item_at Stream file p.offset ≡ Some (Frame p.header)) (sym first) here)
+      (subst (λ p. is_usable First p (drop p.offset file) ≡ true) (sym first) usable))
+      ∙ ap Some first
+  here_first h false fault here e = absurd cc
+
+  first_by : (item : Item) → item_at file at ≡ item → start_at file at item ≡ Ok start
+      → whole_item_at Stream file start.first.offset ≡ Some (Frame start.first.header)
+      → 0 < size_of (Frame start.first.header) → first_frame file at ≡ Some start.first
+  first_by (Frame h) is e here some = here_first h (item_fits file at (Frame h)) _ here e
+  first_by Free is e here some = absurd cc
+  first_by (Block b) is e here some = absurd cc
+  first_by item is e here some = junk_first item is (λ h e. absurd cc) (start_same _ e) some
+
+-- ---- all that is read
+
+damaged_first : (file : List ℕ) (first : PlacedFrame)
+    → first_frame file (front_end_of file) ≡ Some first → damaged_fields file
+    ≡ damaged_with_count (front_end_of file) (damaged_from file (front_end_of file) first)
+unfolding damaged_fields
+damaged_first file first is = ap (damaged_by file (front_end_of file)) is
+
+-- what a survey tells is read, and the junk is a gap
+abbrev with_junk : SurveyFields → DamagedFields
+with_junk s = record { survey = s; gaps = gap_between s.junk s.first }
+
+told_read : (file : List ℕ) (start : Start) (ps : List PlacedItem)
+    → start.front_end ≡ front_end_of file → things_from file start.first ≡ map as_thing ps
+    → frames_of ps ≡ frames_from file start → blocks_of ps ≡ blocks_of (stream_run file start).items
+    → judged_rows (head_of file start.first) (rows_of file (frames_from file start))
+    ≡ marked_rows (head_of file start.first) (rows_of file (frames_from file start))
+    → damaged_from file (front_end_of file) start.first ≡ with_junk (told_from file start)
+unfolding damaged_from
+told_read file start ps front are frames blocks marks =
+    let head = head_of file start.first in
+    let rows : judged_runs file head (runs_of (things_from file start.first))
+    ≡ marked_rows head (rows_of file (frames_from file start)) =
+    ap (λ ts. judged_runs file head (runs_of ts)) are ∙ ap (judged_runs file head) (one_run ps)
+    ∙ append-nil (judged_rows head (rows_of file (frames_of ps)))
+    ∙ ap (λ l. judged_rows head (rows_of file l)) frames ∙ marks in
+    let pieces : blocks_of (item_run Front file 0).items
+    ++ blocks_of_things (things_from file start.first)
+    ≡ all_blocks file start =
+    ap (λ l. blocks_of (item_run Front file 0).items ++ l)
+    (ap blocks_of_things are ∙ same_blocks ps ∙ blocks) in
+    let gaps : gap_between (front_end_of file) start.first.offset
+    ++ gaps_of (things_from file start.first) ≡ gap_between start.front_end start.first.offset =
+    ap (λ l. gap_between (front_end_of file) start.first.offset ++ l) (ap gaps_of are ∙ no_gaps ps)
+    ∙ append-nil (gap_between (front_end_of file) start.first.offset)
+    ∙ ap (λ n. gap_between n start.first.offset) (sym front) in
+    λ i. record {
+      survey = record {
+        frames = rows i;
+        blocks = pieces i;
+        head = head;
+        junk = sym front i;
+        first = start.first.offset;
+        class = class_from start;
+        length = length file;
+      };
+      gaps = gaps i;
+    }
+
+length_rows : (file : List ℕ) (ps : List PlacedFrame) → length (rows_of file ps) ≡ length ps
+length_rows file [] = refl
+length_rows file (p ∷ ps) = ap suc (length_rows file ps)
+
+-- of a file without fault all is read that its survey tells
+pub keeps_streams : SalvageKeepsStreams
+keeps_streams = λ file allowed s is few.
+    let parts = surveyed-parts file allowed s is in
+    let start = parts.0 in
+    let read = parts.1 in
+    let told = parts.2 in
+    let head = head_of file start.first in
+    let rows = rows_of file (frames_from file start) in
+    let sound = all_faults-none_sound file head (class_from start) allowed rows read.frames in
+    let fine : (i : ℕ) (r : Row) → slice_get rows i ≡ Some r
+    → HasNoFault file (class_from start) r =
+    λ i r is. record { same = (sound i r is).same; word = (sound i r is).word } in
+    let here = first_of_stream file start read.start_is in
+    let item = item_of-is Stream file start.first.offset (Frame start.first.header) here in
+    let usable = first_usable file (class_from start) start head here refl fine in
+    let at = front_end_of file in
+    let first = first_by file at start item.within usable (item_at file at) refl
+    (sym (start_is file at (item_at file at) refl refl) ∙ read.start_is) here item.some in
+    let from = numbered_offset start.first head in
+    let items = (item_run Stream file from).items in
+    let frames = numbered-frames file start head here in
+    let nothing = nothing_left file
+    (stream_run file start).stop (no_fault file (frames_from file start) _ read.end) in
+    let past : length file ≤ (item_run Stream file from).stop = omega (
+      arith,
+      ap length nothing,
+      length-drop (stream_run file start).stop file,
+      numbered-stop file start head here,
+    ) in
+    let are = things_are file (class_from start) from items (item_run Stream file from).stop
+    (run-ends Stream file from) (subst (AreUsable file (class_from start)) (sym frames)
+    (usable_all file (class_from start) (frames_from file start) fine)) past in
+    let marks = judged-marked file head (class_from start) allowed rows sound in
+    let all_read = told_read file start items (start-front file start read.start_is) are frames
+    (numbered-blocks file start head here) marks ∙ ap with_junk told in
+    let some : s.frames ≡ [] → ⊥ = λ none. absurd (omega (
+      arith,
+      some_frames file (frames_from file start) _ read.end,
+      length_rows file (frames_from file start),
+      marked-length head rows,
+      ap (λ (t : SurveyFields). length t.frames) told,
+      ap length none,
+    )) in
+    damaged_first file start.first first ∙ ap (damaged_with_count at) all_read
+    ∙ few_counted at s.frames (with_junk s) some few

@@ -1,0 +1,475 @@
+-- One thing more is read.
+use Rattle.std.proofs.Common.{ap, append-nil, ap₂, arith, Bool, cond, drop, Err, false, IfSome}
+use Rattle.std.proofs.Common.{length, List, ltb, None, Ok, Option, option_to_list, refl, slice_get}
+use Rattle.std.proofs.Common.{Some, subst, sym, true, ℕ, [], ◌++◌, ◌+◌, ◌-◌, ◌<◌, ◌==◌, ◌∙◌, ◌∷◌}
+use Rattle.std.proofs.{Common.{◌≡◌, ◌≤◌}, lemmas.Bool.{and_parts, ltb-true}}
+use Rattle.std.{proofs.lemmas.Option.slice_get_past, specs.List.prefix_len}
+use Rattle.frame_header.proofs.{ClassLemmas.same_class-is, HeaderLemmas.IsClass-class_of}
+use Rattle.frame_header.specs.{Fields.{ClassFields, HeaderFields, IsHeader}, Tables.class_of}
+use Rattle.salvage.proofs.KeptLemmas.{kept_frame, kept_gap, kept_none}
+use Rattle.salvage.proofs.{ReadFaultLemmas.damaged_of-short, SoundLemmas.runs-left}
+use Rattle.salvage.proofs.WalkLemmas.{item_passed, things-gap, things-item, things-past}
+use Rattle.salvage.specs.DamagedFiles.{damaged_by, damaged_fields, damaged_from, damaged_of}
+use Rattle.salvage.specs.DamagedFiles.{damaged_with_count, DamagedFields, excess_or_damaged}
+use Rattle.salvage.specs.DamagedFiles.{gap_between, most_frames, no_frame_or_damaged}
+use Rattle.salvage.specs.JudgedFrames.{AddsGap, AddsItem, empty_state, IsPastMost, item_rows}
+use Rattle.salvage.specs.JudgedFrames.{row_judged_in, rows_left, state_after_frame}
+use Rattle.salvage.specs.{JudgedFrames.state_after_item, KeptFrames.AreKeptTo}
+use Rattle.salvage.specs.Progress.{BeginsAsRead, begun_class, found_view, GapsAreLaid}
+use Rattle.salvage.specs.Progress.{IsDamagedLaidOut, IsLaidTo, IsReadTo, RowsAreOfClass}
+use Rattle.salvage.specs.{Progress.whole_damaged, Steps.admits_item}
+use Rattle.salvage.specs.Walk.{blocks_of_things, first_frame, gap_end, gaps_of, item_read, things}
+use Rattle.salvage.specs.declared.{begun.Begun.Begun, found.DamagedSoFar.DamagedSoFar, gap.Gap.Gap}
+use Rattle.salvage.specs.declared.usable.Role.TheVariants.{Later}
+use Rattle.side_info.proofs.FrameLemmas.{fits-side_in, overhead-few}
+use Rattle.sync_survey.proofs.FrontLemmas.{blocks_more, pieces_later}
+use Rattle.sync_survey.proofs.RunsLemmas.{kept_more, kept_whole}
+use Rattle.sync_survey.proofs.StepLemmas.{area_within, item_header, laid_later, laid_push}
+use Rattle.sync_survey.{proofs.StepLemmas.row_shown, specs.Faults.longest_file}
+use Rattle.sync_survey.specs.{Items.{item_front, size_of}, Looks.Shows}
+use Rattle.sync_survey.specs.{MainData.{head_area, row_in}, Row.Row}
+use Rattle.sync_survey.specs.{Runs.{block_of_item, blocks_of, item_run}, Start.front_end_of}
+use Rattle.sync_survey.specs.Survey.{BlocksAreLaid, FramesAreLaid, IsWholeHead}
+use Rattle.sync_survey.specs.SurveyFaultKinds.{RefusesRightly}
+use Rattle.sync_survey.specs.{Walk.{head_of, IsFrameOf, numbered_offset}, declared.items.Item.Item}
+use Rattle.sync_survey.specs.declared.{items.Item.TheVariants.{Frame, Zero}, places.Head.Head}
+use Rattle.sync_survey.specs.declared.{places.Piece.Piece, rows.ReservoirState.ReservoirState}
+use Rattle.sync_survey.specs.declared.runs.Region.TheVariants.{Front}
+use Rattle.sync_survey.specs.declared.survey_fault.SurveyFault.{SurveyFault}
+use Rattle.sync_survey.specs.declared.survey_fault.SurveyFault.TheVariants.{NoFrame, TooManyFrames}
+
+-- ---- what was found, and what is left
+
+module _ (file : List ℕ) (b : Begun) (old new : DamagedSoFar) where
+  left_by : (m : ReservoirState) (n : ℕ) → new.before ≡ m → new.at ≡ n
+      → rows_left file new.before (things file (begun_class b) new.at)
+      ≡ rows_left file m (things file (begun_class b) n)
+  left_by m n before at =
+      ap₂ (λ (m : ReservoirState) (n : ℕ). rows_left file m (things file (begun_class b) n)) before
+      at
+
+  -- a gap up to the next usable frame is one more thing that was read
+  pub gap_read : IsReadTo file b old → old.at < length file
+      → item_read file (Later (begun_class b)) old.at ≡ None
+      → AddsGap (gap_end file (begun_class b) old.at) old new → IsReadTo file b new
+  gap_read so_far before none adds =
+      let end = gap_end file (begun_class b) old.at in
+      let here = things-gap file (begun_class b) old.at before none in
+      record {
+        rows =
+            ap (λ l. new.rows.items ++ l) (left_by empty_state end adds.before adds.at)
+            ∙ kept_more old.rows.items [] new.rows.items (rows_left file old.before (things file
+            (begun_class b) old.at)) (rows_left file empty_state (things file (begun_class b) end))
+            (whole_damaged file b).survey.frames adds.rows
+            (ap (rows_left file old.before) here) so_far.rows;
+        blocks =
+            ap (λ n. new.pieces.items ++ blocks_of_things (things file (begun_class b) n)) adds.at
+            ∙ kept_more old.pieces.items [] new.pieces.items
+            (blocks_of_things (things file (begun_class b) old.at))
+            (blocks_of_things (things file (begun_class b) end))
+            (whole_damaged file b).survey.blocks adds.pieces (ap blocks_of_things here)
+            so_far.blocks;
+        gaps =
+            ap (λ n. new.gaps.items ++ gaps_of (things file (begun_class b) n)) adds.at
+            ∙ kept_more old.gaps.items (record { offset = old.at; length = end - old.at } ∷ [])
+            new.gaps.items (gaps_of (things file (begun_class b) old.at))
+            (gaps_of (things file (begun_class b) end)) (whole_damaged file b).gaps adds.gaps
+            (ap gaps_of here) so_far.gaps;
+      }
+
+  rows_shown : (item : Item) (front : List ℕ) (left : ℕ) → Shows file old.at front left
+      → item_rows old.before old.at front item ≡ item_rows old.before old.at (drop old.at file) item
+  rows_shown (Frame h) front left shows =
+      ap (λ (r : Row). row_judged_in old.before r ∷ []) (row_shown
+      file old.at front left shows h (omega (arith, overhead-few (class_of h) h.protected)))
+  rows_shown _ front left shows = refl
+
+  before_shown : (item : Item) (front : List ℕ) (left : ℕ) → Shows file old.at front left
+      → state_after_item old.before old.at front item
+      ≡ state_after_item old.before old.at (drop old.at file) item
+  before_shown (Frame h) front left shows =
+      ap (state_after_frame old.before) (row_shown file old.at front
+      left shows h (omega (arith, overhead-few (class_of h) h.protected)))
+  before_shown _ front left shows = refl
+
+  -- an item that is read is one more, with its frame or block kept
+  pub item_more : (item : Item) (size : ℕ) (front : List ℕ) (left : ℕ) → IsReadTo file b old
+      → Shows file old.at front left → item_read file (Later (begun_class b)) old.at ≡ Some item
+      → (item ≡ Zero → size ≡ prefix_len (λ b. b == 0) front)
+      → ((item ≡ Zero → ⊥) → size ≡ size_of item) → AddsItem item size front old new
+      → IsReadTo file b new
+  item_more item size front left so_far shows is zeros own adds =
+      let passed =
+      item_passed file (begun_class b) old.at front left item size shows is zeros own in
+      let end = old.at + size in
+      let main = state_after_item old.before old.at (drop old.at file) item in
+      record {
+        rows =
+            ap (λ l. new.rows.items ++ l)
+            (left_by main end (adds.before ∙ before_shown item front left shows) adds.at)
+            ∙ kept_more old.rows.items (item_rows old.before old.at (drop old.at file) item)
+            new.rows.items (rows_left file old.before (things file (begun_class b) old.at))
+            (rows_left file main (things file (begun_class b) end))
+            (whole_damaged file b).survey.frames (adds.rows ∙ ap (λ l. old.rows.items ++ l)
+            (rows_shown item front left shows)) (passed.rows old.before) so_far.rows;
+        blocks =
+            ap (λ n. new.pieces.items ++ blocks_of_things (things file (begun_class b) n)) adds.at
+            ∙ kept_more old.pieces.items (option_to_list (block_of_item old.at item))
+            new.pieces.items (blocks_of_things (things file (begun_class b) old.at))
+            (blocks_of_things (things file (begun_class b) end))
+            (whole_damaged file b).survey.blocks adds.pieces
+            passed.blocks so_far.blocks;
+        gaps =
+            ap (λ n. new.gaps.items ++ gaps_of (things file (begun_class b) n)) adds.at
+            ∙ kept_more old.gaps.items []
+            new.gaps.items (gaps_of (things file (begun_class b) old.at))
+            (gaps_of (things file (begun_class b) end))
+            (whole_damaged file b).gaps adds.gaps passed.gaps so_far.gaps;
+      }
+
+-- the file was read to its end
+pub record IsReadWhole (file : List ℕ) (b : Begun) (found : DamagedSoFar) : Type 0 where
+  pub rows : found.rows.items ≡ (whole_damaged file b).survey.frames
+  pub blocks : found.pieces.items ≡ (whole_damaged file b).survey.blocks
+  pub gaps : found.gaps.items ≡ (whole_damaged file b).gaps
+
+-- at the end of the file it was read whole
+pub read_whole : (file : List ℕ) (b : Begun) (found : DamagedSoFar) → IsReadTo file b found
+    → length file ≤ found.at → IsReadWhole file b found
+read_whole file b found so_far end =
+    let none = things-past file (begun_class b) found.at end in
+    record {
+      rows = kept_whole found.rows.items _ _ (ap (rows_left file found.before) none) so_far.rows;
+      blocks = kept_whole found.pieces.items _ _ (ap blocks_of_things none) so_far.blocks;
+      gaps = kept_whole found.gaps.items _ _ (ap gaps_of none) so_far.gaps;
+    }
+
+-- ---- where things are
+
+class_push : (class : ClassFields) (rows : List Row) (r : Row) → RowsAreOfClass class rows
+    → IsHeader r.header → class_of r.header ≡ class → RowsAreOfClass class (rows ++ r ∷ [])
+class_push class [] r all known same = (known, same, tt)
+class_push class (q ∷ rows) r all known same =
+    (all.0, all.1, class_push class rows r all.2 known same)
+
+gaps_push : (from : ℕ) (gaps : List Gap) (to later : ℕ) (g : Gap) → GapsAreLaid from gaps to
+    → to ≤ g.offset → 1 ≤ g.length → g.offset + g.length ≤ later
+    → GapsAreLaid from (gaps ++ g ∷ []) later
+gaps_push from [] to later g laid low some high = (omega (arith, laid, low), some, high)
+gaps_push from (q ∷ gaps) to later g laid low some high =
+    (laid.0, laid.1, gaps_push (q.offset + q.length) gaps to later g laid.2 low some high)
+
+-- gaps that end before an offset end before any later one
+pub gaps_later : (from : ℕ) (gaps : List Gap) (to later : ℕ) → GapsAreLaid from gaps to → to ≤ later
+    → GapsAreLaid from gaps later
+gaps_later from [] to later laid low = omega (arith, laid, low)
+gaps_later from (q ∷ gaps) to later laid low =
+    (laid.0, laid.1, gaps_later (q.offset + q.length) gaps to later laid.2 low)
+
+same_items : {X : Type 0} (P : List X → Type 0) (old new : List X) → new ≡ old ++ [] → P old → P new
+same_items P old new same holds = subst P (sym (same ∙ append-nil old)) holds
+
+module _ (b : Begun) (old new : DamagedSoFar) (laid : IsLaidTo b old) where
+  -- a gap that is added is behind all that was read before it
+  pub gap_laid : (to : ℕ) → old.at < to → to ≤ b.size → AddsGap to old new → IsLaidTo b new
+  gap_laid to some within adds =
+      let here : new.at ≡ to = adds.at in
+      let later : old.at ≤ new.at = omega (arith, here, some) in
+      record {
+        rows = same_items (λ l. FramesAreLaid b.start.first.offset l new.at)
+            old.rows.items new.rows.items adds.rows
+            (laid_later b.start.first.offset old.rows.items old.at new.at laid.rows later);
+        class =
+            same_items (RowsAreOfClass (begun_class b))
+            old.rows.items new.rows.items adds.rows laid.class;
+        pieces = same_items (λ l. BlocksAreLaid 0 l new.at) old.pieces.items new.pieces.items
+            adds.pieces (pieces_later 0 old.pieces.items old.at new.at laid.pieces later);
+        gaps =
+            subst (λ l. GapsAreLaid 0 l new.at) (sym adds.gaps)
+            (gaps_push 0 old.gaps.items old.at new.at (record {
+              offset = old.at;
+              length = to - old.at;
+            }) laid.gaps (omega arith) (omega (arith, some)) (omega (arith, some, here)));
+        low = omega (arith, ap (λ m. m.place) adds.before);
+        within = omega (arith, here, within);
+        few = same_items (λ l. length l ≤ most_frames)
+            old.rows.items new.rows.items adds.rows laid.few;
+        kept = subst (AreKeptTo b.head new.rows.items) (sym adds.before)
+            (same_items (λ l. AreKeptTo b.head l empty_state) old.rows.items new.rows.items
+            adds.rows (kept_gap b.head old.rows.items old.before laid.kept));
+      }
+
+  other_laid : (item : Item) (size : ℕ) (front : List ℕ) → size_of item ≤ size
+      → old.at + size ≤ b.size → item_rows old.before old.at front item ≡ []
+      → state_after_item old.before old.at front item ≡ old.before
+      → AddsItem item size front old new → IsLaidTo b new
+  other_laid item size front least within no_row same adds =
+      let here : new.at ≡ old.at + size = adds.at in
+      let later : old.at ≤ new.at = omega (arith, here) in
+      let rows : new.rows.items ≡ old.rows.items ++ [] =
+      adds.rows ∙ ap (λ l. old.rows.items ++ l) no_row in
+      record {
+        rows = same_items (λ l. FramesAreLaid b.start.first.offset l new.at)
+            old.rows.items new.rows.items
+            rows (laid_later b.start.first.offset old.rows.items old.at new.at laid.rows later);
+        class = same_items (RowsAreOfClass (begun_class b)) old.rows.items new.rows.items rows
+            laid.class;
+        pieces = subst (BlocksAreLaid 0 new.pieces.items) (sym here) (blocks_more old.pieces.items
+            new.pieces.items old.at size item laid.pieces least adds.pieces);
+        gaps = same_items (λ l. GapsAreLaid 0 l new.at) old.gaps.items new.gaps.items adds.gaps
+            (gaps_later 0 old.gaps.items old.at new.at laid.gaps later);
+        low = omega (arith, ap (λ m. m.place) (adds.before ∙ same), laid.low, here);
+        within = omega (arith, here, within);
+        few = same_items (λ l. length l ≤ most_frames) old.rows.items new.rows.items rows laid.few;
+        kept = subst (AreKeptTo b.head new.rows.items) (sym (adds.before ∙ same)) (same_items
+            (λ l. AreKeptTo b.head l old.before) old.rows.items new.rows.items rows laid.kept);
+      }
+
+  frame_laid : (h : HeaderFields) (size : ℕ) (front : List ℕ)
+      → (length old.rows.items ≤ most_frames → length new.rows.items ≤ most_frames) → IsHeader h
+      → class_of h ≡ begun_class b → size_of (Frame h) ≤ size → old.at + size ≤ b.size
+      → AddsItem (Frame h) size front old new → IsLaidTo b new
+  frame_laid h size front few known same least within adds =
+      let here : new.at ≡ old.at + size = adds.at in
+      let later : old.at ≤ new.at = omega (arith, here) in
+      let row = row_judged_in old.before (row_in old.at h front) in
+      record {
+        rows =
+            subst (λ l. FramesAreLaid b.start.first.offset l new.at) (sym adds.rows)
+            (laid_push b.start.first.offset old.rows.items old.at new.at row laid.rows (fits-side_in
+            h front (IsClass-class_of h known)) (omega arith) (omega (arith, least, here)));
+        class = subst (RowsAreOfClass (begun_class b)) (sym adds.rows)
+            (class_push (begun_class b) old.rows.items row laid.class known same);
+        pieces = same_items (λ l. BlocksAreLaid 0 l new.at) old.pieces.items new.pieces.items
+            adds.pieces (pieces_later 0 old.pieces.items old.at new.at laid.pieces later);
+        gaps = same_items (λ l. GapsAreLaid 0 l new.at) old.gaps.items new.gaps.items adds.gaps
+            (gaps_later 0 old.gaps.items old.at new.at laid.gaps later);
+        low = omega (arith, ap (λ m. m.place) adds.before, laid.low, here, least, area_within h);
+        within = omega (arith, here, within);
+        few = few laid.few;
+        kept = subst (AreKeptTo b.head new.rows.items) (sym adds.before) (subst (λ l.
+            AreKeptTo b.head l (state_after_frame old.before (row_in old.at h front)))
+            (sym adds.rows)
+            (kept_frame b.head old.rows.items old.before laid.kept (row_in old.at h front)));
+      }
+
+  -- whatever item it is that is kept
+  pub item_laid : (item : Item) (size : ℕ) (front : List ℕ)
+      → (length old.rows.items ≤ most_frames → length new.rows.items ≤ most_frames)
+      → item ≡ item_front front → admits_item (Later (begun_class b)) old.at item front ≡ true
+      → size_of item ≤ size → old.at + size ≤ b.size → AddsItem item size front old new
+      → IsLaidTo b new
+  item_laid (Frame h) size front few is admits least within adds =
+      let same : class_of h ≡ begun_class b =
+      same_class-is (class_of h) (begun_class b) (and_parts _ _ admits).0 in
+      frame_laid h size front few (item_header front (Frame h) is h refl) same least within adds
+  item_laid item size front few is admits least within adds =
+      other_laid item size front least within refl refl adds
+
+-- ---- what is read of the whole file
+
+-- the file is read from its first frame on
+pub damaged_is : (file : List ℕ) (b : Begun) → BeginsAsRead file b
+    → damaged_fields file ≡ damaged_with_count b.start.front_end (whole_damaged file b)
+unfolding damaged_fields
+damaged_is file b begins =
+    ap (λ n. damaged_by file n (first_frame file n)) (sym begins.front)
+    ∙ ap (damaged_by file b.start.front_end) begins.first
+
+get_first : (xs ys : List Row) (r : Row) (n : ℕ) → length xs ≡ n
+    → slice_get (xs ++ r ∷ ys) n ≡ Some r
+get_first [] ys r n is = ap (slice_get (r ∷ ys)) (sym is)
+get_first (x ∷ xs) ys r n is =
+    ap (slice_get (x ∷ (xs ++ r ∷ ys))) (sym is) ∙ get_first xs ys r (length xs) refl
+
+many_counted : (front_end : ℕ) (rows : List Row) (d : DamagedFields) (r : Row)
+    → slice_get rows most_frames ≡ Some r
+    → no_frame_or_damaged front_end rows d ≡ Err (TooManyFrames r.offset)
+many_counted front_end [] d r is = absurd cc
+many_counted front_end (q ∷ rows) d r is = ap (λ o. excess_or_damaged o d) is
+
+-- a frame more than there may be is the fault of the file
+pub past_most : (file : List ℕ) (b : Begun) (found : DamagedSoFar) (item : Item)
+    (fault : SurveyFault) → BeginsAsRead file b → length file ≤ longest_file → IsReadTo file b found
+    → item_read file (Later (begun_class b)) found.at ≡ Some item → IsPastMost item found fault
+    → damaged_of file ≡ Err fault
+past_most file b found (Frame h) fault begins few so_far is past =
+    let here = things-item file (begun_class b) found.at (Frame h) is in
+    let row = row_judged_in found.before (row_in found.at h (drop found.at file)) in
+    let rest =
+    rows_left file (state_after_frame found.before (row_in found.at h (drop found.at file)))
+    (things file (begun_class b) (found.at + size_of (Frame h))) in
+    let rows : found.rows.items ++ row ∷ rest ≡ (whole_damaged file b).survey.frames =
+    sym (ap (λ l. found.rows.items ++ rows_left file found.before l) here) ∙ so_far.rows in
+    damaged_of-short file few
+    ∙ damaged_is file b begins
+    ∙ many_counted b.start.front_end (whole_damaged file b).survey.frames (whole_damaged file b) row
+    (ap (λ l.
+    slice_get l most_frames) (sym rows) ∙ get_first found.rows.items rest row most_frames past.1)
+    ∙ ap Err (sym past.0)
+past_most file b found _ fault begins few so_far is past = absurd past
+
+-- no frame besides the head
+none_counted : (front_end : ℕ) (rows : List Row) (d : DamagedFields) → rows ≡ []
+    → no_frame_or_damaged front_end rows d ≡ Err (NoFrame front_end)
+none_counted front_end rows d is = ap (λ l. no_frame_or_damaged front_end l d) is
+
+-- if no frame was found, the file is refused where its front ends
+pub no_frames : (file : List ℕ) (b : Begun) (found : DamagedSoFar) → BeginsAsRead file b
+    → length file ≤ longest_file → IsReadWhole file b found → found.rows.items ≡ []
+    → damaged_of file ≡ Err (NoFrame b.start.front_end)
+no_frames file b found begins few read none =
+    damaged_of-short file few ∙ damaged_is file b begins ∙ none_counted b.start.front_end
+    (whole_damaged file b).survey.frames (whole_damaged file b) (sym read.rows ∙ none)
+
+-- no first frame
+first_none : (file : List ℕ) (front_end : ℕ) → front_end ≡ front_end_of file
+    → first_frame file front_end ≡ None → damaged_fields file ≡ Err (NoFrame front_end)
+unfolding damaged_fields
+first_none file front_end front none = ap (λ n. damaged_by file n (first_frame file n)) (sym front)
+    ∙ ap (damaged_by file front_end) none
+
+-- so it is without a first frame
+pub no_first : (file : List ℕ) (front_end : ℕ) → front_end ≡ front_end_of file → length file
+    ≤ longest_file → first_frame file front_end ≡ None → damaged_of file ≡ Err (NoFrame front_end)
+no_first file front_end front few none =
+    damaged_of-short file few ∙ first_none file front_end front none
+
+-- frames that are some, and not too many, are counted without fault
+pub few_counted : (front_end : ℕ) (rows : List Row) (d : DamagedFields) → (rows ≡ [] → ⊥)
+    → length rows ≤ most_frames → no_frame_or_damaged front_end rows d ≡ Ok d
+few_counted front_end [] d some few = absurd (some refl)
+few_counted front_end (r ∷ rows) d some few =
+    ap (λ o. excess_or_damaged o d) (slice_get_past (r ∷ rows) most_frames few)
+
+-- what the code tells is what is read
+told_is : (file : List ℕ) (b : Begun) (found : DamagedSoFar) → BeginsAsRead file b
+    → length file ≡ b.size → IsReadWhole file b found → whole_damaged file b ≡ found_view b found
+unfolding damaged_from
+told_is file b found begins size read = λ i. record {
+  survey = record {
+    frames = sym read.rows i;
+    blocks = sym read.blocks i;
+    head = sym begins.head i;
+    junk = b.start.front_end;
+    first = b.start.first.offset;
+    class = begun_class b;
+    length = size i;
+  };
+  gaps = sym read.gaps i;
+}
+
+-- if frames were found, not too many, they are what is read
+pub all_read : (file : List ℕ) (b : Begun) (found : DamagedSoFar) → BeginsAsRead file b
+    → length file
+    ≤ longest_file → length file ≡ b.size → IsReadWhole file b found → (found.rows.items ≡ [] → ⊥)
+    → length found.rows.items ≤ most_frames → damaged_of file ≡ Ok (found_view b found)
+all_read file b found begins few size read some most =
+    damaged_of-short file few
+    ∙ damaged_is file b begins
+    ∙ few_counted b.start.front_end (whole_damaged file b).survey.frames (whole_damaged file b)
+    (λ none. some (read.rows ∙ none)) (subst (λ l. length l ≤ most_frames) read.rows most)
+    ∙ ap Ok (told_is file b found begins size read)
+
+-- a frame too many refuses the file, with the right numbers
+pub past_rightly : (item : Item) (found : DamagedSoFar) (fault : SurveyFault)
+    → IsPastMost item found fault → RefusesRightly fault
+past_rightly (Frame h) found fault past = subst RefusesRightly (sym past.0) (refl, tt)
+past_rightly _ found fault past = absurd past
+
+-- ---- where the reading begins
+
+-- nothing was found yet
+pub record IsFirst (b : Begun) (found : DamagedSoFar) : Type 0 where
+  pub rows : found.rows.items ≡ []
+  pub gaps : found.gaps.items ≡ gap_between b.start.front_end b.start.first.offset
+  pub before : found.before ≡ record { place = head_area b.head; ended = 0 }
+  pub at : found.at ≡ numbered_offset b.start.first b.head
+
+-- at the first frame the blocks of the front were read
+pub begun_read : (file : List ℕ) (b : Begun) (found : DamagedSoFar) → BeginsAsRead file b
+    → IsFirst b found → found.pieces.items ≡ blocks_of (item_run Front file 0).items
+    → IsReadTo file b found
+unfolding damaged_from
+begun_read file b found begins first blocks =
+    let ahead =
+    λ (h : Option Head). things file (begun_class b) (numbered_offset b.start.first h) in
+    record {
+      rows =
+          ap (λ (l : List Row). l
+          ++ rows_left file found.before (things file (begun_class b) found.at)) first.rows
+          ∙ ap₂ (λ (m : ReservoirState) (n : ℕ). rows_left file m (things file (begun_class b) n))
+          first.before first.at
+          ∙ ap (λ (h : Option Head). rows_left file (record { place = head_area h; ended = 0 })
+          (ahead h)) begins.head
+          ∙ sym (runs-left file (head_of file b.start.first) (ahead (head_of file b.start.first)));
+      blocks = ap₂ (λ (l : List Piece) (n : ℕ). l
+          ++ blocks_of_things (things file (begun_class b) n)) blocks
+          first.at ∙ ap (λ (h : Option Head). blocks_of (item_run Front file 0).items
+          ++ blocks_of_things (ahead h)) begins.head;
+      gaps = ap₂ (λ (l : List Gap) (n : ℕ). l ++ gaps_of (things file (begun_class b) n))
+          first.gaps first.at ∙ ap (λ (h : Option Head).
+          gap_between b.start.front_end b.start.first.offset ++ gaps_of (ahead h)) begins.head;
+    }
+
+between_laid : (from to at : ℕ) (less : Bool) → ltb from to ≡ less → from ≤ to → to ≤ at
+    → GapsAreLaid 0 (cond less (record { offset = from; length = to - from } ∷ []) []) at
+between_laid from to at true is low high =
+    (omega arith, omega (arith, ltb-true from to is), omega (arith, low, high))
+between_laid from to at false is low high = omega arith
+
+-- and they are in order before it
+pub begun_laid : (b : Begun) (found : DamagedSoFar) → IsFirst b found
+    → b.start.front_end ≤ b.start.first.offset
+    → BlocksAreLaid 0 found.pieces.items b.start.front_end → found.before.place ≤ 1441
+    → b.start.first.offset ≤ found.at → found.at ≤ b.size → IsLaidTo b found
+begun_laid b found first junk blocks low behind within = record {
+  rows = subst (λ l. FramesAreLaid b.start.first.offset l found.at) (sym first.rows) behind;
+  class = subst (RowsAreOfClass (begun_class b)) (sym first.rows) tt;
+  pieces = pieces_later 0 found.pieces.items b.start.front_end found.at blocks
+      (omega (arith, junk, behind));
+  gaps = subst (λ l. GapsAreLaid 0 l found.at) (sym first.gaps) (between_laid b.start.front_end
+      b.start.first.offset found.at (ltb b.start.front_end b.start.first.offset) refl junk behind);
+  low = omega (arith, low);
+  within = within;
+  few = omega (arith, ap length first.rows);
+  kept = subst (AreKeptTo b.head found.rows.items) (sym first.before)
+      (subst (λ l. AreKeptTo b.head l (record { place = head_area b.head; ended = 0 }))
+      (sym first.rows) (kept_none b.head));
+}
+
+-- ---- where it ends
+
+head_within : (b : Begun) (head : Option Head)
+    → b.start.first.offset + size_of (Frame b.start.first.header) ≤ b.size
+    → IfSome head (IsFrameOf b.start.first)
+    → IfSome head (IsWholeHead b.start.first.offset (begun_class b) b.size)
+head_within b None whole same = tt
+head_within b (Some head) whole same = record {
+  place = same.0;
+  class_is = ap class_of same.1;
+  within = omega (arith, same.0, ap (λ h. size_of (Frame h)) same.1, whole);
+}
+
+some_of : (rows : List Row) → (rows ≡ [] → ⊥) → 0 < length rows
+some_of [] none = absurd (none refl)
+some_of (r ∷ rows) none = omega arith
+
+-- what was read to the end is laid out
+pub laid_out : (b : Begun) (found : DamagedSoFar) → b.start.front_end ≤ b.start.first.offset
+    → b.start.first.offset + size_of (Frame b.start.first.header) ≤ b.size
+    → IfSome b.head (IsFrameOf b.start.first) → IsLaidTo b found → (found.rows.items ≡ [] → ⊥)
+    → b.size ≤ longest_file → IsDamagedLaidOut (found_view b found)
+laid_out b found junk whole same laid some long = record {
+  junk = junk;
+  first = omega (arith, whole);
+  head = head_within b b.head whole same;
+  frames = laid_later b.start.first.offset found.rows.items found.at b.size laid.rows laid.within;
+  class = laid.class;
+  blocks = pieces_later 0 found.pieces.items found.at b.size laid.pieces laid.within;
+  gaps = gaps_later 0 found.gaps.items found.at b.size laid.gaps laid.within;
+  some = some_of found.rows.items some;
+  few = laid.few;
+  long = long;
+  kept = laid.kept.frames;
+}

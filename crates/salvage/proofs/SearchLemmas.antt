@@ -1,0 +1,244 @@
+-- The next usable frame.
+use Rattle.std.proofs.Common.{ap, ap₂, arith, Bool, cond, drop, Err, false, get_or, IfOk, inl, inr}
+use Rattle.std.proofs.Common.{leb, length, List, None, Ok, Option, option_and_then, refl, Result}
+use Rattle.std.proofs.Common.{Some, subst, suc, sym, true, zero, ℕ, [], ◌+◌, ◌-◌, ◌<◌, ◌∙◌, ◌∷◌}
+use Rattle.std.proofs.Common.{◌≡◌, ◌≤◌, ◌⊎◌}
+use Rattle.std.proofs.lemmas.Bool.{and_right, false≢true, leb-false, leb-true}
+use Rattle.std.specs.Option.{option_or}
+use Rattle.frame_header.specs.{Fields.HeaderFields, Tables.{class_of, length_of}}
+use Rattle.outside.specs.Files.{Files, Holds}
+use Rattle.salvage.proofs.{RawHeaderLemmas.header_begins, UsableLemmas.usable_behind}
+use Rattle.salvage.specs.Steps.{HasNoUsableFrame, may_begin_header}
+use Rattle.salvage.specs.UsableFrames.{frame_if_usable, is_usable, next_usable_frame}
+use Rattle.salvage.specs.{UsableFrames.usable_frame_at, Walk.{first_frame, item_read}}
+use Rattle.salvage.specs.declared.usable.Role.{Role, TheVariants.First}
+use Rattle.sync_survey.proofs.{ItemsLemmas.stands, LooksLemmas.item_at-behind}
+use Rattle.sync_survey.proofs.StartLemmas.{anchored_frame-past, first_of-none, first_of-some}
+use Rattle.sync_survey.specs.Items.{header_front, IsItemFront, item_at, item_fits, item_front}
+use Rattle.sync_survey.specs.{Looks.Shows, Runs.frame_of_item}
+use Rattle.sync_survey.specs.Start.{anchored_frame, anchored_item, has_anchor, is_anchor}
+use Rattle.sync_survey.specs.declared.items.Item.{Item, TheVariants.Frame}
+use Rattle.sync_survey.specs.declared.places.PlacedFrame.{PlacedFrame}
+use Rattle.sync_survey.specs.declared.survey_fault.SurveyFault.{SurveyFault}
+
+-- ---- no usable anchored frame
+
+-- a frame that isn't anchored isn't usable
+pub not_usable : (file : List ℕ) (role : Role) (at : ℕ) → anchored_frame file at ≡ None
+    → usable_frame_at file role at ≡ None
+unfolding usable_frame_at
+not_usable file role at none = ap (frame_if_usable file role) none
+
+get_drop : (xs : List ℕ) (k i : ℕ) → get_or (drop k xs) i 0 ≡ get_or xs (k + i) 0
+get_drop xs zero i = ap (λ n. get_or xs n 0) (omega arith)
+get_drop [] (suc k) i = refl
+get_drop (x ∷ xs) (suc k) i =
+    let next : suc (k + i) ≡ suc k + i = omega arith in
+    get_drop xs k i ∙ ap (λ n. get_or (x ∷ xs) n 0) next
+
+-- where none may begin, none does
+pub bare_at : (front : List ℕ) → ((i : ℕ) → get_or front i 0 < 256) → (k : ℕ)
+    → may_begin_header (get_or front k 0) (get_or front (k + 1) 0) ≡ false → (h : HeaderFields)
+    → item_front (drop k front) ≡ Frame h → ⊥
+bare_at front few k bare h is =
+    let header : header_front (drop k front) ≡ Ok h =
+    subst (IsItemFront (drop k front)) is (stands (drop k front)) in
+    let begins = header_begins (drop k front) h
+    (λ i. subst (λ n. n < 256) (sym (get_drop front k i)) (few (k + i))) header in
+    let same = ap₂ (λ (m n : ℕ). may_begin_header m n)
+    (get_drop front k 0 ∙ ap (λ n. get_or front n 0) (omega arith)) (get_drop front k 1) in
+    false≢true (sym bare ∙ sym same ∙ begins)
+
+-- ---- where there is no anchored frame
+
+-- a header other than this one isn't here
+pub header_same : (bytes : List ℕ) (h g : HeaderFields) → header_front bytes ≡ Ok h
+    → item_front bytes ≡ Frame g → h ≡ g
+header_same bytes h g read is =
+    let header : header_front bytes ≡ Ok g = subst (IsItemFront bytes) is (stands bytes) in
+    cc
+
+-- where an item is a frame, its header is the one with which the bytes begin
+pub header_of : (bytes : List ℕ) (g : HeaderFields) → item_front bytes ≡ Frame g
+    → header_front bytes ≡ Ok g
+header_of bytes g is = subst (IsItemFront bytes) is (stands bytes)
+
+-- the frame at this place has no anchor, or isn't usable
+module _ (role : Role) (offset : ℕ) (front : List ℕ) (k : ℕ) (g : HeaderFields)
+    (here : header_front (drop k front) ≡ Ok g)
+    (near : k + length_of (class_of g) g.slot ≤ 4064) where
+  -- without an anchor none usable begins here
+  pub bare_unanchored : is_anchor (class_of g)
+      (item_front (drop (k + length_of (class_of g) g.slot) front)) ≡ false
+      → HasNoUsableFrame role offset front k
+  bare_unanchored none = λ h is.
+      subst
+      (λ (f : HeaderFields). (k + length_of (class_of f) f.slot ≤ 4064)
+      × ((is_anchor (class_of f) (item_front (drop (k + length_of (class_of f) f.slot) front))
+      ≡ false)
+      ⊎ (is_usable role (record { offset = offset + k; header = f }) (drop k front) ≡ false)))
+      (header_same (drop k front) g h here is) (near, inl none)
+
+  -- nor does one if the frame isn't usable
+  pub bare_unusable : is_usable role (record { offset = offset + k; header = g }) (drop k front)
+      ≡ false → HasNoUsableFrame role offset front k
+  bare_unusable none = λ h is.
+      subst
+      (λ (f : HeaderFields). (k + length_of (class_of f) f.slot ≤ 4064)
+      × ((is_anchor (class_of f) (item_front (drop (k + length_of (class_of f) f.slot) front))
+      ≡ false)
+      ⊎ (is_usable role (record { offset = offset + k; header = f }) (drop k front) ≡ false)))
+      (header_same (drop k front) g h here is) (near, inr none)
+
+-- what holds at the places up to one, and there, holds before the next
+pub bare_more : (P : ℕ → Type 0) (from at : ℕ) → ((k : ℕ) → from ≤ k → k < at → P k) → P at
+    → (k : ℕ) → from ≤ k → k < at + 1 → P k
+bare_more P from at before here k some low = by_place (leb at k) refl
+  where
+    by_place : (b : Bool) → leb at k ≡ b → P k
+    by_place true is =
+        let same : at ≡ k = omega (arith, leb-true at k is, low) in
+        subst P same here
+    by_place false is = before k some (leb-false at k is)
+
+-- what holds up to one place, and from there to another, holds up to the other
+pub bare_joined : (P : ℕ → Type 0) (from mid to : ℕ) → ((k : ℕ) → from ≤ k → k < mid → P k)
+    → ((k : ℕ) → mid ≤ k → k < to → P k) → (k : ℕ) → from ≤ k → k < to → P k
+bare_joined P from mid to before behind k low high = by_place (leb mid k) refl
+  where
+    by_place : (b : Bool) → leb mid k ≡ b → P k
+    by_place true is = behind k (leb-true mid k is) high
+    by_place false is = before k low (leb-false mid k is)
+
+-- a frame that isn't usable is none, anchored or not
+unusable : (file : List ℕ) (role : Role) (p : PlacedFrame) (b : Bool)
+    → is_usable role p (drop p.offset file) ≡ false
+    → frame_if_usable file role (cond b (Some p) None) ≡ None
+unusable file role p true is = ap (λ u. cond u (Some p) None) is
+unusable file role p false is = refl
+
+module _ (file : List ℕ) (at : ℕ) (front : List ℕ) (left : ℕ)
+    (shows : Shows file at front left) where
+  no_anchor : (k : ℕ) (h : HeaderFields) → k + length_of (class_of h) h.slot ≤ 4064
+      → is_anchor (class_of h) (item_front (drop (k + length_of (class_of h) h.slot) front)) ≡ false
+      → has_anchor file (at + k) h ≡ false
+  no_anchor k h near none =
+      let size = length_of (class_of h) h.slot in
+      let place : at + (k + size) ≡ (at + k) + size = omega arith in
+      let behind : item_front (drop (k + size) front) ≡ item_at file ((at + k) + size) =
+      item_at-behind file at front left shows (k + size) near ∙ ap (item_at file) place in
+      and_right (item_fits file (at + k) (Frame h)) (is_anchor (class_of h)
+      (item_at file ((at + k) + size))) (sym (ap (is_anchor (class_of h)) behind) ∙ none)
+
+  bare_frame : (role : Role) (k : ℕ) (h : HeaderFields) → item_front (drop k front) ≡ Frame h
+      → k + length_of (class_of h) h.slot ≤ 4064
+      → (is_anchor (class_of h) (item_front (drop (k + length_of (class_of h) h.slot) front))
+      ≡ false) ⊎ (is_usable role (record { offset = at + k; header = h }) (drop k front) ≡ false)
+      → frame_if_usable file role (anchored_item file (at + k) (Frame h)) ≡ None
+  bare_frame role k h shown near (inl none) = ap (λ b. frame_if_usable file role
+      (cond b (Some (record { offset = at + k; header = h })) None)) (no_anchor k h near none)
+  bare_frame role k h shown near (inr none) =
+      unusable file role (record { offset = at + k; header = h }) (has_anchor file (at + k) h)
+      (sym (usable_behind file at front left shows role k h near shown) ∙ none)
+
+  bare_by : (role : Role) (k : ℕ) (item : Item) → item_front (drop k front) ≡ item
+      → HasNoUsableFrame role at front k
+      → frame_if_usable file role (anchored_item file (at + k) item) ≡ None
+  bare_by role k (Frame h) shown bare =
+      let found = bare h shown in
+      bare_frame role k h shown found.0 found.1
+  bare_by role k _ shown bare = refl
+
+  bare_usable : (role : Role) (k : ℕ) → k ≤ 4064 → HasNoUsableFrame role at front k
+      → usable_frame_at file role (at + k) ≡ None
+  unfolding usable_frame_at anchored_frame
+  bare_usable role k near bare =
+      let item = item_front (drop k front) in
+      ap (λ i. frame_if_usable file role (anchored_item file (at + k) i))
+      (sym (item_at-behind file at front left shows k near)) ∙ bare_by role k item refl bare
+
+  -- none is at the offsets that are passed
+  pub passed_bare : (role : Role) (n earlier : ℕ) → n ≤ 4064
+      → ((k : ℕ) → 0 < k → k < n → HasNoUsableFrame role at front k) → at < earlier
+      → earlier < at + n → usable_frame_at file role earlier ≡ None
+  passed_bare role n earlier near bare low high =
+      let k = earlier - at in
+      let same : at + k ≡ earlier = omega (arith, low) in
+      subst (λ m. usable_frame_at file role m ≡ None) same (bare_usable role k
+      (omega (arith, near, high, low)) (bare k (omega (arith, low)) (omega (arith, high, low))))
+
+-- none is before a later offset
+pub none_later : (file : List ℕ) (role : Role) (from at later earlier : ℕ)
+    → ((k : ℕ) → from ≤ k → k < at → usable_frame_at file role k ≡ None)
+    → usable_frame_at file role at ≡ None
+    → ((k : ℕ) → at < k → k < later → usable_frame_at file role k ≡ None) → from ≤ earlier
+    → earlier < later → usable_frame_at file role earlier ≡ None
+none_later file role from at later earlier before here behind low high =
+    by_place (leb earlier at) (leb at earlier) refl refl
+  where
+    by_place : (a b : Bool) → leb earlier at ≡ a → leb at earlier ≡ b
+        → usable_frame_at file role earlier ≡ None
+    by_place true true is is' =
+        let same : at ≡ earlier = omega (arith, leb-true earlier at is, leb-true at earlier is') in
+        subst (λ k. usable_frame_at file role k ≡ None) same here
+    by_place true false is is' = before earlier low (leb-false at earlier is')
+    by_place false b is is' = behind earlier (leb-false earlier at is) high
+
+-- ---- the search
+
+-- a usable frame before which there is none is the next
+pub next_usable-some : (file : List ℕ) (role : Role) (from at : ℕ) (p : PlacedFrame) → from ≤ at
+    → at < length file → usable_frame_at file role at ≡ Some p
+    → ((k : ℕ) → from ≤ k → k < at → usable_frame_at file role k ≡ None)
+    → next_usable_frame file role from ≡ Some p
+unfolding next_usable_frame
+next_usable-some file role from at p low high here none =
+    first_of-some (usable_frame_at file role) (length file) from at p
+    (record { low = low; high = omega (arith, high); here = here; none = none })
+
+none_by_end : (file : List ℕ) (role : Role) (from to at : ℕ) → length file ≤ to
+    → ((k : ℕ) → from ≤ k → k < to → usable_frame_at file role k ≡ None) → from ≤ at → (b : Bool)
+    → leb to at ≡ b → usable_frame_at file role at ≡ None
+none_by_end file role from to at end none low true e =
+    not_usable file role at (anchored_frame-past file at (omega (arith, end, leb-true to at e)))
+none_by_end file role from to at end none low false e = none at low (leb-false to at e)
+
+-- without one before the end of the file there is no next
+pub next_usable-none : (file : List ℕ) (role : Role) (from to : ℕ) → length file ≤ to
+    → ((k : ℕ) → from ≤ k → k < to → usable_frame_at file role k ≡ None)
+    → next_usable_frame file role from ≡ None
+unfolding next_usable_frame
+next_usable-none file role from to end none =
+    first_of-none (usable_frame_at file role) (length file) from
+    (λ at low high. none_by_end file role from to at end none low (leb to at) refl)
+
+-- ---- the first frame
+
+-- a frame where the front ends is the first
+pub first_here : (file : List ℕ) (front_end : ℕ) (p : PlacedFrame)
+    → option_and_then (frame_of_item front_end) (item_read file First front_end) ≡ Some p
+    → first_frame file front_end ≡ Some p
+unfolding first_frame
+first_here file front_end p here =
+    ap (λ o. option_or o (next_usable_frame file First (front_end + 1))) here
+
+-- if none is there, the first is the next usable one behind it
+pub first_later : (file : List ℕ) (front_end : ℕ)
+    → option_and_then (frame_of_item front_end) (item_read file First front_end) ≡ None
+    → first_frame file front_end ≡ next_usable_frame file First (front_end + 1)
+unfolding first_frame
+first_later file front_end none =
+    ap (λ o. option_or o (next_usable_frame file First (front_end + 1))) none
+
+-- so what the search behind it finds is the first frame
+pub first_behind : (name : List ℕ) (files mid : Files) (front_end : ℕ)
+    (r : Result (Option PlacedFrame) SurveyFault) → mid ≡ files
+    → ((bytes : List ℕ) → Holds files name bytes
+    → option_and_then (frame_of_item front_end) (item_read bytes First front_end) ≡ None) → IfOk r
+    (λ o. (bytes : List ℕ) → Holds mid name bytes
+    → o ≡ next_usable_frame bytes First (front_end + 1))
+    → IfOk r (λ o. (bytes : List ℕ) → Holds files name bytes → o ≡ first_frame bytes front_end)
+first_behind name files mid front_end (Ok o) same none next =
+    λ bytes holds. next bytes (subst (λ f. Holds f name bytes) (sym same) holds)
+    ∙ sym (first_later bytes front_end (none bytes holds))
+first_behind name files mid front_end (Err fault) same none next = tt

@@ -1,0 +1,190 @@
+-- A look shows whether a frame is usable.
+use Rattle.std.proofs.Common.{ap, ap₂, arith, Bool, cond, drop, Err, false, is_some, length, List}
+use Rattle.std.proofs.Common.{min, None, not, Ok, Option, refl, Result, Some, sym, take, true, ℕ}
+use Rattle.std.proofs.Common.{◌&&◌, ◌+◌, ◌-◌, ◌<◌, ◌==◌, ◌||◌, ◌∙◌, ◌≡◌, ◌≤◌}
+use Rattle.std.proofs.lemmas.{Bool.leb-true, List.{drop-drop, drop-take, take-take}}
+use Rattle.bit_fields.specs.Bits.{bits}
+use Rattle.frame_header.proofs.{HeaderLemmas.IsClass-class_of, LengthLemmas.length-most}
+use Rattle.frame_header.specs.{Fields.{HeaderFields, same_class}, Reading.header_at}
+use Rattle.frame_header.specs.Tables.{class_of, length_of, overhead_of, side_size_of}
+use Rattle.frame_header.specs.declared.header.NotHeader.{NotHeader, TheVariants.No}
+use Rattle.salvage.specs.Steps.{admits_item}
+use Rattle.salvage.specs.UsableFrames.{frame_if_usable, has_right_crc, is_head, is_usable}
+use Rattle.salvage.specs.UsableFrames.{usable_frame_at}
+use Rattle.salvage.specs.{Walk.{is_item_read, item_if_read, item_read}, declared.usable.Role.Role}
+use Rattle.salvage.specs.declared.usable.Role.TheVariants.{First, Later}
+use Rattle.side_info.proofs.FrameLemmas.{overhead-few, side_in-take, word_said-take}
+use Rattle.side_info.specs.{CheckWord.check_word_of, Frame.{side_in, side_part, side_place}}
+use Rattle.side_info.specs.Side.{side_at}
+use Rattle.sync_survey.proofs.{LooksLemmas.item_at-shown, RunsLemmas.item_of-whole}
+use Rattle.sync_survey.proofs.StepLemmas.{item_header, overhead_few}
+use Rattle.sync_survey.specs.{Items.{header_front, item_front, size_of}, Looks.{look_size, Shows}}
+use Rattle.sync_survey.specs.{Runs.{belongs, whole_item_at}, Start.anchored_frame}
+use Rattle.sync_survey.specs.{Walk.head_in_bytes, declared.items.Item.Item}
+use Rattle.sync_survey.specs.declared.items.Item.TheVariants.{Block, Frame, Zero}
+use Rattle.sync_survey.specs.declared.places.PlacedFrame.{PlacedFrame}
+use Rattle.sync_survey.specs.declared.runs.Region.TheVariants.{Stream}
+
+-- a header anywhere is that of a frame with few bytes
+pub length_few : (front : List ℕ) (h : HeaderFields) → item_front front ≡ Frame h
+    → length_of (class_of h) h.slot ≤ 1441
+length_few front h is =
+    let known = item_header front (Frame h) (sym is) h refl in
+    length-most (class_of h) h.slot (IsClass-class_of h known) known.slot
+
+-- the look shows all that is judged
+pub room_shown : (front : List ℕ) (h : HeaderFields) (left : ℕ) → item_front front ≡ Frame h
+    → size_of (Frame h) ≤ left → length front ≡ min look_size left
+    → overhead_of (class_of h) h.protected ≤ length front
+room_shown front h left is within many =
+    omega (arith, overhead_few front (Frame h) h (sym is) refl, length_few front h is, within, many)
+
+-- ---- the check word of the bytes
+
+header_cases : (b : Bool) (r : Result HeaderFields NotHeader) (h : HeaderFields)
+    → cond b r (Err No) ≡ Ok h → (b ≡ true) × (r ≡ Ok h)
+header_cases true r h e = (refl, e)
+header_cases false r h e = absurd cc
+
+-- a header with which bytes begin is read from four bytes
+pub header_four : (bytes : List ℕ) (h : HeaderFields) → header_front bytes ≡ Ok h
+    → (4 ≤ length bytes) × (header_at (take 4 bytes) ≡ Ok h)
+unfolding header_front
+header_four bytes h e =
+    let cases = header_cases _ _ h e in
+    (leb-true 4 (length bytes) cases.0, cases.1)
+
+-- the side information of a protected frame is after its check word
+pub side_protected : (h : HeaderFields) (bytes : List ℕ) → h.protected ≡ true → side_in h bytes
+    ≡ side_at (class_of h) (bits (take (side_size_of (class_of h)) (drop 6 bytes)))
+unfolding side_in side_part
+side_protected h bytes is = ap (λ p. side_at (class_of h)
+    (bits (take (side_size_of (class_of h)) (drop (side_place p) bytes)))) is
+
+-- ---- what is judged is seen by fewer bytes too
+
+word-take : (h : HeaderFields) (n : ℕ) (bytes : List ℕ) → 6 ≤ n
+    → overhead_of (class_of h) h.protected ≤ n
+    → has_right_crc h (take n bytes) ≡ has_right_crc h bytes
+word-take h n bytes six room =
+    ap₂ (λ (said right : ℕ). not h.protected || (said == right)) (word_said-take n bytes six)
+    (ap (check_word_of h) (side_in-take h n bytes room))
+
+head-take : (p : PlacedFrame) (n : ℕ) (bytes : List ℕ)
+    → length_of (class_of p.header) p.header.slot ≤ n → is_head p (take n bytes) ≡ is_head p bytes
+head-take p n bytes few = ap (λ l. is_some (head_in_bytes p l))
+    (take-take (length_of (class_of p.header) p.header.slot) n bytes few)
+
+usable-take : (role : Role) (p : PlacedFrame) (n : ℕ) (bytes : List ℕ) → 6 ≤ n
+    → overhead_of (class_of p.header) p.header.protected ≤ n
+    → length_of (class_of p.header) p.header.slot ≤ n
+    → is_usable role p (take n bytes) ≡ is_usable role p bytes
+usable-take First p n bytes six room few =
+    ap₂ (λ (a b : Bool). a || b) (word-take p.header n bytes six room) (head-take p n bytes few)
+usable-take (Later class) p n bytes six room few = ap
+    (λ (b : Bool). same_class (class_of p.header) class && b) (word-take p.header n bytes six room)
+
+module _ (file : List ℕ) (at : ℕ) (front : List ℕ) (left : ℕ)
+    (shows : Shows file at front left) where
+  -- whether a frame is usable is seen from the look
+  pub usable_shown : (role : Role) (p : PlacedFrame) → p.offset ≡ at → item_front front
+      ≡ Frame p.header → is_usable role p front ≡ is_usable role p (drop p.offset file)
+  usable_shown role p here is =
+      ap (is_usable role p) shows.front_is
+      ∙ usable-take role p look_size (drop at file) (omega arith) (omega (
+        arith,
+        overhead-few (class_of p.header) p.header.protected,
+      )) (omega (arith, length_few front p.header is))
+      ∙ ap (λ n. is_usable role p (drop n file)) (sym here)
+
+  -- whether a frame is usable that is at a later place of the look, and ends within it
+  pub usable_behind : (role : Role) (k : ℕ) (h : HeaderFields)
+      → k + length_of (class_of h) h.slot ≤ 4064 → item_front (drop k front) ≡ Frame h
+      → is_usable role (record { offset = at + k; header = h }) (drop k front)
+      ≡ is_usable role (record { offset = at + k; header = h }) (drop (at + k) file)
+  usable_behind role k h near is =
+      let n = look_size - k in
+      let split : look_size ≡ k + n = omega (arith, near) in
+      let room = overhead_few (drop k front) (Frame h) h (sym is) refl in
+      let seen : drop k front ≡ take n (drop (at + k) file) =
+      ap (drop k) shows.front_is ∙ ap (λ m. drop k (take m (drop at file))) split
+      ∙ drop-take k n (drop at file) ∙ ap (take n) (drop-drop k at file) in
+      ap (is_usable role (record { offset = at + k; header = h })) seen
+      ∙ usable-take role (record { offset = at + k; header = h }) n (drop (at + k) file)
+      (omega (arith, near)) (omega (arith, near, room)) (omega (arith, near))
+
+  -- ---- an anchored frame
+
+  usable_by : (role : Role) (o : Option PlacedFrame) → o ≡ anchored_frame file at
+      → frame_if_usable file role o ≡ usable_frame_at file role at
+  unfolding usable_frame_at
+  usable_by role o is = ap (frame_if_usable file role) is
+
+  -- where no frame is anchored none is usable
+  pub none_anchored : (role : Role) → None ≡ anchored_frame file at
+      → None ≡ usable_frame_at file role at
+  none_anchored role is = usable_by role None is
+
+  -- an anchored frame that passes the test is usable
+  pub frame_anchored : (role : Role) (p : PlacedFrame) → Some p ≡ anchored_frame file at
+      → p.offset ≡ at → item_front front ≡ Frame p.header → is_usable role p front ≡ true
+      → Some p ≡ usable_frame_at file role at
+  frame_anchored role p anchored here is usable =
+      sym (ap (λ b. cond b (Some p) None) (sym (usable_shown role p here is) ∙ usable))
+      ∙ usable_by role (Some p) anchored
+
+  -- one that doesn't pass it isn't
+  pub frame_refused : (role : Role) (p : PlacedFrame) → Some p ≡ anchored_frame file at
+      → p.offset ≡ at → item_front front ≡ Frame p.header → is_usable role p front ≡ false
+      → None ≡ usable_frame_at file role at
+  frame_refused role p anchored here is usable =
+      sym (ap (λ b. cond b (Some p) None) (sym (usable_shown role p here is) ∙ usable))
+      ∙ usable_by role (Some p) anchored
+
+  -- ---- an item that is read
+
+  read_by : (role : Role) (o : Option Item) → whole_item_at Stream file at ≡ o
+      → item_read file role at ≡ item_if_read file role at o
+  unfolding item_read
+  read_by role o is = ap (item_if_read file role at) is
+
+  -- where no whole item is none is read
+  pub none_read : (role : Role) → whole_item_at Stream file at ≡ None
+      → item_read file role at ≡ None
+  none_read role is = read_by role None is
+
+  read_shown : (role : Role) (item : Item) → item_front front ≡ item
+      → admits_item role at item front ≡ is_item_read file role at item
+  read_shown role (Frame h) is = usable_shown role (record { offset = at; header = h }) refl is
+  read_shown role _ is = refl
+
+  whole_by : (item : Item) (size : ℕ) → item ≡ item_front front → belongs Stream item ≡ true → 0
+      < size_of item → size_of item ≤ size → size ≤ left → whole_item_at Stream file at ≡ Some item
+  whole_by item size is here some least within =
+      item_of-whole Stream file at item (sym (item_at-shown file at front left shows) ∙ sym is) here
+      (omega (arith, some, least, within, shows.left_is))
+
+  -- the item that is passed is whole
+  pub step_whole : (item : Item) (size : ℕ) → item ≡ item_front front
+      → ((item ≡ Zero → ⊥) → size ≡ size_of item) → 0 < size → size_of item ≤ size → size ≤ left
+      → whole_item_at Stream file at ≡ Some item
+  step_whole (Frame h) size is own some least within =
+      whole_by (Frame h) size is refl (omega (arith, own (λ e. cc), some)) least within
+  step_whole (Block b) size is own some least within =
+      whole_by (Block b) size is refl (omega (arith, own (λ e. cc), some)) least within
+  step_whole Zero size is own some least within =
+      whole_by Zero size is refl (omega arith) least within
+  step_whole _ size is own some least within = absurd (omega (arith, own (λ e. cc), some))
+
+  -- it is read, or not
+  pub item_taken : (role : Role) (item : Item) → whole_item_at Stream file at ≡ Some item
+      → item ≡ item_front front → admits_item role at item front ≡ true
+      → item_read file role at ≡ Some item
+  item_taken role item here is admits = read_by role (Some item) here
+      ∙ ap (λ b. cond b (Some item) None) (sym (read_shown role item (sym is)) ∙ admits)
+
+  -- nor is one that isn't admitted
+  pub item_refused : (role : Role) (item : Item) → whole_item_at Stream file at ≡ Some item → item
+      ≡ item_front front → admits_item role at item front ≡ false → item_read file role at ≡ None
+  item_refused role item here is admits = read_by role (Some item) here
+      ∙ ap (λ b. cond b (Some item) None) (sym (read_shown role item (sym is)) ∙ admits)

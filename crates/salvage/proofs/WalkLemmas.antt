@@ -1,0 +1,244 @@
+-- What is in a damaged file, thing by thing.
+use Rattle.std.proofs.Common.{ap, arith, Bool, cond, drop, false, length, List, ltb, None, Option}
+use Rattle.std.proofs.Common.{option_to_list, refl, Some, subst, suc, sym, true, zero, ℕ, [], ◌++◌}
+use Rattle.std.proofs.Common.{◌+◌, ◌-◌, ◌<◌, ◌∙◌, ◌∷◌, ◌≡◌, ◌≤◌}
+use Rattle.std.{proofs.lemmas.Bool.{le-ltb, lt-ltb, ltb-true}, specs.List.prefix_len}
+use Rattle.frame_header.specs.Fields.{ClassFields}
+use Rattle.salvage.specs.JudgedFrames.{item_rows, rows_left, state_after_item}
+use Rattle.salvage.specs.UsableFrames.{frame_if_usable, next_usable_frame, usable_frame_at}
+use Rattle.salvage.specs.Walk.{blocks_of_things, gap_end, gaps_of, IsGap, IsItem, item_if_read}
+use Rattle.salvage.specs.Walk.{item_read, ItemOrGap, offset_or_end, PlacedThing, size_of_thing}
+use Rattle.salvage.specs.Walk.{thing_at, thing_or_gap, things, things_up_to}
+use Rattle.salvage.specs.declared.usable.Role.{Role, TheVariants.Later}
+use Rattle.sync_survey.proofs.LooksLemmas.{zero_at, zero_test, zeros_shown}
+use Rattle.sync_survey.proofs.RunsLemmas.{cons_list, IsItemOf, item_of-is, whole_cases}
+use Rattle.sync_survey.proofs.StartLemmas.{anchored_frame-is, first_of-is, IsAnchoredAt}
+use Rattle.sync_survey.specs.{Items.size_of, Looks.Shows, Runs.{block_of_item, whole_item_at}}
+use Rattle.sync_survey.specs.{Start.anchored_frame, declared.items.Item.Item}
+use Rattle.sync_survey.specs.declared.items.Item.TheVariants.{Frame, Zero}
+use Rattle.sync_survey.specs.declared.places.PlacedFrame.{PlacedFrame}
+use Rattle.sync_survey.specs.declared.rows.ReservoirState.{ReservoirState}
+use Rattle.sync_survey.specs.declared.runs.Region.TheVariants.{Stream}
+
+-- ---- an item that is read
+
+read_by : (file : List ℕ) (role : Role) (at : ℕ) (o : Option Item) (item : Item)
+    → whole_item_at Stream file at ≡ o → item_if_read file role at o ≡ Some item
+    → whole_item_at Stream file at ≡ Some item
+read_by file role at None item is e = absurd cc
+read_by file role at (Some i) item is e = is ∙ ap Some (whole_cases _ i item e).1
+
+-- an item that is read at an offset is a whole one of the stream
+pub item_read-is : (file : List ℕ) (role : Role) (at : ℕ) (item : Item)
+    → item_read file role at ≡ Some item → IsItemOf Stream file at item
+unfolding item_read
+item_read-is file role at item e =
+    item_of-is Stream file at item (read_by file role at (whole_item_at Stream file at) item refl e)
+
+-- ---- the next frame
+
+usable_cases : (b : Bool) (p q : PlacedFrame) → cond b (Some p) None ≡ Some q → p ≡ q
+usable_cases true p q e = cc
+usable_cases false p q e = absurd cc
+
+usable_by : (file : List ℕ) (role : Role) (at : ℕ) (o : Option PlacedFrame) (p : PlacedFrame)
+    → anchored_frame file at ≡ o → frame_if_usable file role o ≡ Some p
+    → anchored_frame file at ≡ Some p
+usable_by file role at None p is e = absurd cc
+usable_by file role at (Some q) p is e = is ∙ ap Some (usable_cases _ q p e)
+
+usable_anchored-is : (file : List ℕ) (role : Role) (at : ℕ) (p : PlacedFrame)
+    → usable_frame_at file role at ≡ Some p → IsAnchoredAt file at p
+unfolding usable_frame_at
+usable_anchored-is file role at p e =
+    anchored_frame-is file at p (usable_by file role at (anchored_frame file at) p refl e)
+
+-- it is within the file, not before where it is looked for
+pub record IsNext (file : List ℕ) (from : ℕ) (p : PlacedFrame) : Type 0 where
+  pub low : from ≤ p.offset
+  pub frame : IsItemOf Stream file p.offset (Frame p.header)
+
+-- the next usable frame is within the file, not before where it is looked for
+pub next_usable-is : (file : List ℕ) (role : Role) (from : ℕ) (p : PlacedFrame)
+    → next_usable_frame file role from ≡ Some p → IsNext file from p
+unfolding next_usable_frame
+next_usable-is file role from p e =
+    let first = first_of-is (usable_frame_at file role) (length file) from p e in
+    let there = usable_anchored-is file role first.0 p first.1.here in
+    record { low = omega (arith, first.1.low, there.offset); frame = there.frame }
+
+-- ---- a gap
+
+-- it has some bytes, and ends within the file
+pub record IsGapTo (file : List ℕ) (at to : ℕ) : Type 0 where
+  pub some : at < to
+  pub within : to ≤ length file
+
+gap_by : (file : List ℕ) (class : ClassFields) (at : ℕ) (o : Option PlacedFrame) → at < length file
+    → next_usable_frame file (Later class) (at + 1) ≡ o → IsGapTo file at (offset_or_end file o)
+gap_by file class at None before is = record { some = before; within = omega arith }
+gap_by file class at (Some p) before is =
+    let next = next_usable-is file (Later class) (at + 1) p is in
+    record { some = omega (arith, next.low); within = omega (arith, next.frame.within) }
+
+-- a gap has at least a byte, and ends within the file
+pub gap_end-is : (file : List ℕ) (class : ClassFields) (at : ℕ) → at < length file
+    → IsGapTo file at (gap_end file class at)
+unfolding gap_end
+gap_end-is file class at before =
+    gap_by file class at (next_usable_frame file (Later class) (at + 1)) before refl
+
+-- it ends at the next usable frame behind its first byte, or at the end of the file
+pub gap_end-by : (file : List ℕ) (class : ClassFields) (at : ℕ)
+    → offset_or_end file (next_usable_frame file (Later class) (at + 1)) ≡ gap_end file class at
+unfolding gap_end
+gap_end-by file class at = refl
+
+-- ---- things one after the other
+
+module _ (file : List ℕ) (class : ClassFields) where
+  thing_read : (at : ℕ) (o : Option Item) → item_read file (Later class) at ≡ o
+      → thing_at file class at ≡ thing_or_gap file class at o
+  unfolding thing_at
+  thing_read at o is = ap (thing_or_gap file class at) is
+
+  some_by : (at : ℕ) (o : Option Item) → at < length file → item_read file (Later class) at ≡ o
+      → 0 < size_of_thing (thing_or_gap file class at o)
+  some_by at None before is = omega (arith, (gap_end-is file class at before).some)
+  some_by at (Some item) before is = (item_read-is file (Later class) at item is).some
+
+  thing_some : (at : ℕ) → at < length file → 0 < size_of_thing (thing_at file class at)
+  unfolding thing_at
+  thing_some at before = some_by at (item_read file (Later class) at) before refl
+
+  abbrev onward : ℕ → (ℕ → List PlacedThing) → Bool → List PlacedThing
+  onward at next more = cond more (record { offset = at; thing = thing_at file class at }
+      ∷ next (at + size_of_thing (thing_at file class at))) []
+
+  one_more : (n at : ℕ) → things_up_to (suc n) file class at
+      ≡ onward at (things_up_to n file class) (ltb at (length file))
+  unfolding things_up_to
+  one_more n at = refl
+
+  none_more : (at : ℕ) → things_up_to zero file class at ≡ []
+  unfolding things_up_to
+  none_more at = refl
+
+  past : (n at : ℕ) → length file ≤ at → things_up_to n file class at ≡ []
+  past zero at le = none_more at
+  past (suc n) at le =
+      one_more n at ∙ ap (onward at (things_up_to n file class)) (le-ltb at (length file) le)
+
+  onward-same : (at : ℕ) (next later : ℕ → List PlacedThing) (b : Bool)
+      → (b ≡ true → next (at + size_of_thing (thing_at file class at))
+      ≡ later (at + size_of_thing (thing_at file class at))) → onward at next b ≡ onward at later b
+  onward-same at next later true same =
+      ap (λ l. record { offset = at; thing = thing_at file class at } ∷ l) (same refl)
+  onward-same at next later false same = refl
+
+  -- any bound that is at least the number of bytes left gives the same things
+  enough : (m n at : ℕ) → length file ≤ m + at → length file ≤ n + at
+      → things_up_to m file class at ≡ things_up_to n file class at
+  enough zero n at le le' = past zero at (omega (arith, le)) ∙ sym (past n at (omega (arith, le)))
+  enough (suc m) zero at le le' =
+      past (suc m) at (omega (arith, le')) ∙ sym (past zero at (omega (arith, le')))
+  enough (suc m) (suc n) at le le' =
+      one_more m at
+      ∙ onward-same at (things_up_to m file class) (things_up_to n file class)
+      (ltb at (length file)) (λ before.
+      let some = thing_some at (ltb-true at (length file) before) in
+      enough m n (at + size_of_thing (thing_at file class at)) (omega (arith, le, some))
+      (omega (arith, le', some)))
+      ∙ sym (one_more n at)
+
+  things-step : (at : ℕ)
+      → things file class at ≡ onward at (things file class) (ltb at (length file))
+  unfolding things
+  things-step at = enough (length file) (suc (length file)) at (omega arith) (omega arith)
+      ∙ one_more (length file) at
+
+  -- past the end of the file there is nothing
+  pub things-past : (at : ℕ) → length file ≤ at → things file class at ≡ []
+  things-past at le =
+      things-step at ∙ ap (onward at (things file class)) (le-ltb at (length file) le)
+
+  things-next : (at : ℕ) (thing : ItemOrGap) → at < length file → thing_at file class at ≡ thing
+      → things file class at
+      ≡ record { offset = at; thing = thing } ∷ things file class (at + size_of_thing thing)
+  things-next at thing before is =
+      things-step at ∙ ap (onward at (things file class)) (lt-ltb at (length file) before)
+      ∙ ap (λ t. record { offset = at; thing = t } ∷ things file class (at + size_of_thing t)) is
+
+  -- where an item is read it is the first thing, and the others are behind it
+  pub things-item : (at : ℕ) (item : Item) → item_read file (Later class) at ≡ Some item
+      → things file class at
+      ≡ record { offset = at; thing = IsItem item } ∷ things file class (at + size_of item)
+  things-item at item is =
+      let here = item_read-is file (Later class) at item is in
+      things-next at (IsItem item) (omega (arith, here.within, here.some))
+      (thing_read at (Some item) is)
+
+  -- where none is read a gap is the first thing, and the others are behind it
+  pub things-gap : (at : ℕ) → at < length file → item_read file (Later class) at ≡ None
+      → things file class at ≡ record { offset = at; thing = IsGap (gap_end file class at - at) }
+      ∷ things file class (gap_end file class at)
+  things-gap at before is =
+      let ends = gap_end-is file class at before in
+      let end : at + (gap_end file class at - at) ≡ gap_end file class at =
+      omega (arith, ends.some) in
+      things-next at (IsGap (gap_end file class at - at)) before (thing_read at None is) ∙ ap (λ n.
+      record { offset = at; thing = IsGap (gap_end file class at - at) } ∷ things file class n) end
+
+  zero_next : (bytes : List ℕ) (at : ℕ) → drop at file ≡ 0 ∷ bytes → things file class at
+      ≡ record { offset = at; thing = IsItem Zero } ∷ things file class (at + 1)
+  unfolding item_read
+  zero_next bytes at is =
+      things-item at Zero
+      (ap (item_if_read file (Later class) at) (zero_at Stream file bytes at is))
+
+  -- ---- what is passed with an item
+
+  -- an item of so many bytes is the first of what is left, and behind it are the others
+  pub record IsPassed (at : ℕ) (item : Item) (size : ℕ) : Type 0 where
+    pub rows : (b : ReservoirState)
+        → rows_left file b (things file class at) ≡ item_rows b at (drop at file) item
+        ++ rows_left file (state_after_item b at (drop at file) item)
+        (things file class (at + size))
+    pub blocks : blocks_of_things (things file class at)
+        ≡ option_to_list (block_of_item at item) ++ blocks_of_things (things file class (at + size))
+    pub gaps : gaps_of (things file class at) ≡ gaps_of (things file class (at + size))
+
+  passed_own : (at : ℕ) (item : Item) (size : ℕ) → item_read file (Later class) at ≡ Some item
+      → size ≡ size_of item → IsPassed at item size
+  passed_own at item size is own =
+      let here = things-item at item is in
+      subst (IsPassed at item) (sym own)
+      (record {
+        rows = λ b. ap (rows_left file b) here;
+        blocks = ap blocks_of_things here
+            ∙ cons_list (block_of_item at item)
+            (blocks_of_things (things file class (at + size_of item)));
+        gaps = ap gaps_of here;
+      })
+
+  passed_zeros : (at : ℕ) (front : List ℕ) (left : ℕ) (size : ℕ) → Shows file at front left
+      → size ≡ prefix_len zero_test front → IsPassed at Zero size
+  passed_zeros at front left size shows many = record {
+    rows = λ b. zeros_shown file at front left shows (λ n. rows_left file b (things file class n))
+        size many (λ bytes n zero. ap (rows_left file b) (zero_next bytes n zero));
+    blocks =
+        zeros_shown file at front left shows (λ n. blocks_of_things (things file class n)) size many
+        (λ bytes n zero. ap blocks_of_things (zero_next bytes n zero));
+    gaps = zeros_shown file at front left shows (λ n. gaps_of (things file class n)) size many
+        (λ bytes n zero. ap gaps_of (zero_next bytes n zero));
+  }
+
+  -- an item that is read, with all zero bytes that are shown after a zero byte
+  pub item_passed : (at : ℕ) (front : List ℕ) (left : ℕ) (item : Item) (size : ℕ)
+      → Shows file at front left → item_read file (Later class) at ≡ Some item
+      → (item ≡ Zero → size ≡ prefix_len zero_test front)
+      → ((item ≡ Zero → ⊥) → size ≡ size_of item) → IsPassed at item size
+  item_passed at front left Zero size shows is zeros own =
+      passed_zeros at front left size shows (zeros refl)
+  item_passed at front left item size shows is zeros own =
+      passed_own at item size is (own (λ e. cc))

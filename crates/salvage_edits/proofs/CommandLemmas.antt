@@ -1,0 +1,366 @@
+-- What the command leaves, by its steps.
+use Rattle.std.proofs.Common.{ap, ap₂, arith, Err, IfErr, inl, length, List, None, Ok, Option, refl}
+use Rattle.std.proofs.Common.{Result, slice_get, Some, subst, sym, ℕ, [], ◌∙◌, ◌∷◌, ◌≡◌, ◌≤◌}
+use Rattle.std.{proofs.lemmas.List.length-map, specs.Result.IsErrAnd}
+use Rattle.bit_fields.specs.Bits.{AreBytes}
+use Rattle.commands.proofs.MakeLemmas.{clash_left, early_left, one_done, one_left, one_streams}
+use Rattle.commands.proofs.RefusingLemmas.{before_first}
+use Rattle.commands.proofs.TellingLemmas.{telling-done, telling-left, telling-streams, telling-text}
+use Rattle.commands.specs.AfterCall.{HasNumbers, HasPassNumbers, IsCommandDone, IsCommandFault}
+use Rattle.commands.specs.{AfterCall.IsLateFault, Command.{AreSoundFiles, Command, HoldsStreams}}
+use Rattle.commands.specs.{FaultKinds.input_edit_fault, SentText.IsCommandText}
+use Rattle.commands.specs.SingleOutput.{clash_in, files_holding, HasTaskNumbers, IsEarlyFault}
+use Rattle.commands.specs.SingleOutput.{IsMaking, IsPassFault, NeedsMemory, one_command}
+use Rattle.commands.specs.{SingleOutput.TaskRefuses, declared.fault.EditFault.EditFault}
+use Rattle.commands.specs.declared.fault.EditFault.TheVariants.{EqualNames, Input, Memory, Refused}
+use Rattle.commands.specs.declared.fault.EditFault.TheVariants.{Write}
+use Rattle.cut_edits.proofs.LaidPassLemmas.{file-is, work_layable}
+use Rattle.cut_edits.specs.{Chosen.{chosen_file, IsSelected}, Layable.{IsWorkOf, work_file}}
+use Rattle.laying.specs.{Laid.selected_part, NeedsFit.own_choice, Surveys.CanBeRelaid}
+use Rattle.laying.specs.declared.selected.Selected.{Selected}
+use Rattle.outside.{proofs.FilesLemmas.there_holds, specs.Counts.Counts}
+use Rattle.outside.specs.Files.{Contents, Files, Holds, IfTold, IsFileMissing, IsFileThere}
+use Rattle.outside.specs.{Files.{OnlyTouches, Told, Untold}, Seen.{Seen, seen_folder}}
+use Rattle.salvage.proofs.{LaidOutLemmas.damaged_of-is, ReadFaultLemmas.damaged_of-short}
+use Rattle.salvage.specs.DamagedFiles.{damaged_by, damaged_fields, damaged_from, damaged_of}
+use Rattle.salvage.specs.DamagedFiles.{DamagedFields, excess_or_damaged, IsDamagedFault}
+use Rattle.salvage.specs.DamagedFiles.{IsDamagedOf, most_frames, no_frame_or_damaged}
+use Rattle.salvage.specs.{DamagedFiles.RefusesDamaged, EmptiedFrames.emptied_from}
+use Rattle.salvage.specs.{Text.salvage_text, Walk.first_frame, declared.mended.Mended.Mended}
+use Rattle.salvage_edits.proofs.HadLemmas.{damaged-had}
+use Rattle.salvage_edits.proofs.OrderLemmas.{report-text-same, reports-order}
+use Rattle.salvage_edits.proofs.StreamLemmas.{salvaged-holds}
+use Rattle.salvage_edits.specs.Ordered.{IsReportInOrder, report_text}
+use Rattle.salvage_edits.specs.Ready.{IsMended, IsReportOf, IsSalvageReady, ReadsDamaged}
+use Rattle.salvage_edits.specs.Salvaged.{all_chosen, input_left_stream, input_salvage_text}
+use Rattle.salvage_edits.specs.Salvaged.{input_salvaged, left_stream, left_stream_or_none}
+use Rattle.salvage_edits.specs.Salvaged.{salvage_command, salvage_task, salvage_text_or_none}
+use Rattle.salvage_edits.specs.Salvaged.{salvaged_file, salvaged_or_fault}
+use Rattle.salvage_edits.specs.declared.work.SalvageWork.{SalvageWork}
+use Rattle.sync_survey.specs.Faults.{HoldsStream, longest_file, survey_view, SurveyFields}
+use Rattle.sync_survey.specs.{HeadApart.emptied_row, Row.Row, Start.front_end_of}
+use Rattle.sync_survey.specs.Survey.{HoldsOctets, IsSurveyLaidOut}
+use Rattle.sync_survey.specs.SurveyFaultKinds.{HasRightNumbers}
+use Rattle.sync_survey.specs.declared.places.PlacedFrame.{PlacedFrame}
+use Rattle.sync_survey.specs.declared.survey_fault.SurveyFault.{SurveyFault}
+use Rattle.sync_survey.specs.declared.survey_fault.SurveyFault.TheVariants.{Absent}
+use Rattle.sync_survey.specs.declared.survey_fault.SurveyFault.TheVariants.{Memory as NoRoom, Read}
+use Rattle.sync_survey.specs.declared.survey_fault.SurveyFault.TheVariants.{Shrunk, TooLong}
+use Rattle.sync_survey.specs.declared.surveys.Survey.{Survey}
+
+-- ---- a file that may be read
+
+-- what is read of the input, where the command isn't refused
+pub record IsReadAt (o : Option (List ℕ)) : Type 0 where
+  pub file : List ℕ
+  pub there : o ≡ Some file
+  pub left : DamagedFields
+  pub read : damaged_of file ≡ Ok left
+
+read-by : (file bytes : List ℕ) (r : Result DamagedFields SurveyFault) → damaged_of file ≡ r
+    → salvaged_or_fault file r ≡ Ok bytes → IsReadAt (Some file)
+read-by file bytes (Err fault) is e = absurd cc
+read-by file bytes (Ok d) is e = record { file = file; there = refl; left = d; read = is }
+
+-- a file of which something is made was read
+pub read-where : (o : Option (List ℕ)) (bytes : List ℕ) → input_salvaged o ≡ Ok bytes → IsReadAt o
+read-where None bytes e = absurd cc
+read-where (Some file) bytes e = read-by file bytes (damaged_of file) refl e
+
+many-late : (file : List ℕ) (o : Option Row) (d : DamagedFields)
+    → IfErr (salvaged_or_fault file (excess_or_damaged o d)) IsLateFault
+many-late file None d = tt
+many-late file (Some r) d = refl
+
+counted-late : (file : List ℕ) (front_end : ℕ) (rows : List Row) (d : DamagedFields)
+    → IfErr (salvaged_or_fault file (no_frame_or_damaged front_end rows d)) IsLateFault
+counted-late file front_end [] d = refl
+counted-late file front_end (r ∷ rows) d = many-late file (slice_get (r ∷ rows) most_frames) d
+
+read-late : (file : List ℕ) (front_end : ℕ) (o : Option PlacedFrame)
+    → IfErr (salvaged_or_fault file (damaged_by file front_end o)) IsLateFault
+read-late file front_end None = refl
+read-late file front_end (Some first) = counted-late file front_end
+    (damaged_from file front_end first).survey.frames (damaged_from file front_end first)
+
+damaged-late : (file : List ℕ) → IfErr (salvaged_or_fault file (damaged_fields file)) IsLateFault
+unfolding damaged_fields
+damaged-late file = read-late file (front_end_of file) (first_frame file (front_end_of file))
+
+-- the refusals of a file that isn't too long are late
+pub salvage-late : (input : List ℕ) (f : Contents) (bytes : List ℕ) → f input ≡ Some bytes
+    → length bytes ≤ longest_file → IfErr ((salvage_task input).makes f) IsLateFault
+salvage-late input f bytes held few =
+    subst (λ o. IfErr (input_salvaged o) IsLateFault) (sym held)
+    (subst (λ r. IfErr (salvaged_or_fault bytes r) IsLateFault)
+    (sym (damaged_of-short bytes few)) (damaged-late bytes))
+
+-- ---- a fault of the reading
+
+module _ (input : List ℕ) where
+  refuses-bytes : (files : Files) (fault : SurveyFault) → IsFileThere files input
+      → ((bytes : List ℕ) → Holds files input bytes → damaged_of bytes ≡ Err fault)
+      → TaskRefuses (salvage_task input) files (Input 0 fault)
+  refuses-bytes (Untold touched) fault there is = tt
+  refuses-bytes (Told f) fault there is = let held = there_holds f input there in
+      ap input_salvaged held.1 ∙ ap (salvaged_or_fault held.0) (is held.0 held.1)
+
+  refuses-absent : (files : Files) → IsFileMissing files input
+      → TaskRefuses (salvage_task input) files (Input 0 Absent)
+  refuses-absent (Untold touched) missing = tt
+  refuses-absent (Told f) missing = ap input_salvaged missing
+
+  module _ (files after : Files) (before counts : Counts) (same : after ≡ files) where
+    rejected : (fault : SurveyFault) → RefusesDamaged input files before counts fault
+        → TaskRefuses (salvage_task input) files (Input 0 fault)
+        × (seen_folder after counts ≡ seen_folder files before)
+    rejected fault h = (refuses-bytes files fault h.there h.bytes, ap₂ seen_folder same h.counts)
+
+    -- a fault of reading comes before the output is created
+    pub early-fault : (fault : SurveyFault) → IsDamagedFault input files before counts fault
+        → IsEarlyFault (salvage_task input) (seen_folder files before) (seen_folder after counts)
+        (input_edit_fault fault)
+    early-fault Absent h = record { defined = refuses-absent files h.0; rose = h.1; files = same }
+    early-fault Read h = record {
+      before = before_first files (salvage_task input).makes (Input 0 Read) refl;
+      rose = h;
+      files = same;
+    }
+    early-fault (Shrunk first second) h = record {
+      ended = record { rose = h.ended; counts = h.counts; untold = h.nothing_told };
+      files = same;
+    }
+    early-fault NoRoom h =
+        record { there = h.there; few = h.few; stays = ap₂ seen_folder same h.counts }
+    early-fault x h = let r = rejected x h in record { defined = r.0; stays = r.1 }
+
+  -- a fault of reading has the right numbers
+  pub early-numbers : (fault : SurveyFault) → HasRightNumbers fault
+      → HasTaskNumbers (salvage_task input) (input_edit_fault fault)
+  early-numbers (TooLong n) h = (omega arith, λ e. absurd cc, h, inl refl)
+  early-numbers NoRoom h = tt
+  early-numbers _ h = (omega arith, λ e. absurd cc, h, inl refl)
+
+  -- want of memory, once the input was read
+  pub early-memory : (old new : Seen) (d : DamagedFields) → IsFileThere old.files input
+      → IsDamagedOf input old.files d → new ≡ old → NeedsMemory input old new
+  early-memory old new d there read stays = record {
+    there = there;
+    few = λ bytes holds. (damaged_of-is bytes d (read bytes holds)).0;
+    stays =
+        stays;
+  }
+
+  -- a fault of the reading is one of the whole call
+  pub fault-on : {T U : Type 0} {old new : Seen} {fault : EditFault} (r : Result U EditFault)
+      → IsErrAnd r (λ y. y ≡ fault) → ReadsDamaged {T = T} input (Err fault) old new
+      → ReadsDamaged input r old new
+  fault-on (Ok x) is reads = absurd is
+  fault-on {old = old} {new = new} (Err e) is reads = record {
+    refused = subst (IsEarlyFault (salvage_task input) old new) (sym is) reads.refused;
+    numbers = subst (HasTaskNumbers (salvage_task input)) (sym is) reads.numbers;
+    done = tt;
+    files = reads.files;
+    counts = reads.counts;
+  }
+
+  -- and so is want of memory once it was read
+  pub memory-on : {T U : Type 0} {x : T} {old new : Seen} (r : Result U EditFault)
+      → IsErrAnd r (λ y. y ≡ Memory) → (m : Mended) → IsFileThere old.files input
+      → IsMended input old.files m → new ≡ old → ReadsDamaged input (Ok x) old new
+      → ReadsDamaged input r old new
+  memory-on {U = U} {old = old} {new = new} r is m there mended stays reads =
+      fault-on {T = U} r is (record {
+        refused = early-memory old new mended.of there mended.read stays;
+        numbers = tt;
+        done = tt;
+        files = reads.files;
+        counts = reads.counts;
+      })
+
+  -- ---- what was made ready
+
+  -- what was mended is the survey of the file
+  mended-has : (files : Files) (m : Mended) (is : IsMended input files m) → (bytes : List ℕ)
+      → Holds files input bytes → CanBeRelaid bytes (survey_view m.survey)
+  mended-has files m is bytes holds = subst (CanBeRelaid bytes) (sym is.survey)
+      (damaged-had bytes is.of (damaged_of-is bytes is.of (is.read bytes holds)).1 is.laid)
+
+  -- the work that was made of what is left is ready for the pass
+  pub ready-of : (files : Files) (m : Mended) (selected : Selected) (work : SalvageWork)
+      → IsMended input files m → IsWorkOf m.survey selected work.laid → IsFileThere files input
+      → HoldsOctets input files → IsSurveyLaidOut (survey_view m.survey)
+      → IsSelected own_choice (all_chosen (survey_view m.survey)) (survey_view m.survey) selected
+      → work.sending ≡ [] → ((d : DamagedFields) → m.emptied.items ≡ emptied_from 0 d.survey.frames
+      → m.gaps.items ≡ d.gaps → IsReportOf d work.report) → IsSalvageReady input files work
+  ready-of files m selected work is made there octets placed own unsaid reports = record {
+    octets = octets;
+    of = is.of;
+    read = is.read;
+    laid = is.laid;
+    layable = work_layable m.survey selected work.laid made input files there placed
+        (mended-has files m is) own.writable;
+    survey = ap survey_view made.survey_is ∙ is.survey;
+    selected = subst (λ (s : Survey). IsSelected own_choice (all_chosen (survey_view s))
+        (survey_view s) work.laid.selected) (sym made.survey_is) (subst (IsSelected own_choice
+        (all_chosen (survey_view m.survey)) (survey_view m.survey)) (sym made.selected_is) own);
+    unsaid = unsaid;
+    reports = reports is.of is.emptied is.gaps;
+  }
+
+  module _ (files : Files) (work : SalvageWork) (ready : IsSalvageReady input files work) where
+    abbrev file_of : List ℕ → List ℕ
+    file_of = work_file work.laid
+
+    salvaged-is : (bytes : List ℕ) → file_of bytes ≡ salvaged_file bytes ready.of
+    unfolding salvaged_file
+    salvaged-is bytes =
+        file-is (all_chosen (survey_view work.laid.survey)) (selected_part work.laid.selected) bytes
+        (survey_view work.laid.survey) ready.selected.laid
+        ∙ ap (λ (s : SurveyFields). chosen_file (all_chosen s) bytes s) ready.survey
+
+    -- the work makes the file of the definition
+    pub ready-makes : IsMaking (salvage_task input) file_of files
+    ready-makes = record { there = ready.layable.there; makes = at files ready.read ready.octets }
+      where
+        at : (fs : Files) → IsDamagedOf input fs ready.of → HoldsOctets input fs
+            → IfTold fs (λ f. (bytes : List ℕ) → f input ≡ Some bytes
+            → AreBytes bytes × (input_salvaged (f input) ≡ Ok (file_of bytes)))
+        at (Untold touched) read octets = tt
+        at (Told f) read octets = λ bytes held. (
+          octets bytes held,
+          ap input_salvaged held ∙ ap (salvaged_or_fault bytes) (read bytes held)
+              ∙ ap Ok (sym (salvaged-is bytes)),
+        )
+
+    -- that file holds what is left
+    pub ready-holds : IfTold files (λ f. (bytes : List ℕ) → f input ≡ Some bytes
+        → AreSoundFiles f [] × HoldsStream (file_of bytes) (input_left_stream (f input)))
+    ready-holds = at files ready.read
+      where
+        at : (fs : Files) → IsDamagedOf input fs ready.of
+            → IfTold fs (λ f. (bytes : List ℕ) → f input ≡ Some bytes
+            → AreSoundFiles f [] × HoldsStream (file_of bytes) (input_left_stream (f input)))
+        at (Untold touched) read = tt
+        at (Told f) read = λ bytes held.
+            let whole = (damaged_of-is bytes ready.of (read bytes held)).1 in
+            let stream : input_left_stream (f input) ≡ left_stream bytes ready.of =
+            ap input_left_stream held ∙ ap (left_stream_or_none bytes) (read bytes held) in (
+              tt,
+              subst (λ n. HoldsStream n (input_left_stream (f input))) (sym (salvaged-is bytes))
+                  (subst (HoldsStream (salvaged_file bytes ready.of)) (sym stream)
+                  (salvaged-holds bytes ready.of whole ready.laid)),
+            )
+
+    frames-same : length (survey_view work.laid.survey).frames ≡ length ready.of.survey.frames
+    frames-same = ap (λ (s : SurveyFields). length s.frames) ready.survey
+        ∙ length-map ready.of.survey.frames emptied_row
+
+    -- the text is that of what was read
+    pub ready-text : (output all : List ℕ) → IsCommandText (salvage_command input output) files all
+        → all ≡ report_text (length (survey_view work.laid.survey).frames) work.report
+    ready-text output all is =
+        let told = telling-text (λ f. input_salvage_text (f input))
+        (one_command (salvage_task input) output) files all is in
+        told.2 ∙ at files told.1 ready.layable.there ready.read
+        ∙ sym (report-text-same ready.of work.report ready.reports)
+        ∙ sym (ap (λ n. report_text n work.report) frames-same)
+      where
+        told-same : (f g : Contents) → Told f ≡ Told g → f ≡ g
+        told-same f g e = cc
+
+        at : (fs : Files) {f : Contents} → fs ≡ Told f → IsFileThere fs input
+            → IsDamagedOf input fs ready.of → input_salvage_text (f input) ≡ salvage_text ready.of
+        at (Untold touched) e there read = absurd cc
+        at (Told g) {f} e there read =
+            let held = there_holds g input there in
+            ap (λ (h : Contents). input_salvage_text (h input)) (sym (told-same g f e))
+            ∙ ap input_salvage_text held.1 ∙ ap salvage_text_or_none (read held.0 held.1)
+
+    -- the entries of its report are in order
+    pub ready-order : IsReportInOrder work.report
+    ready-order = reports-order ready.of work.report ready.laid ready.reports
+
+-- ---- what is left
+
+-- a clash leaves all as it was, with its number
+pub left-clash : (input output : List ℕ) (place : ℕ) (now : Seen)
+    → clash_in (salvage_task input) output ≡ Some place
+    → IsCommandFault (salvage_command input output) now now (EqualNames place)
+left-clash input output place now clash =
+    telling-left (λ f. input_salvage_text (f input))
+    (one_command (salvage_task input) output) now now
+    (EqualNames place) (clash_left (salvage_task input) output place now clash)
+
+module _ (input output : List ℕ) (free : clash_in (salvage_task input) output ≡ None) where
+  abbrev text : Contents → List ℕ
+  text f = input_salvage_text (f input)
+
+  abbrev silent : Command
+  silent = one_command (salvage_task input) output
+
+  -- a fault before the output leaves all as it was
+  pub left-early : (old new : Seen) (fault : EditFault)
+      → IsEarlyFault (salvage_task input) old new fault
+      → IsCommandFault (salvage_command input output) old new fault
+  left-early old new fault h = telling-left text silent old new fault
+      (early_left (salvage_task input) output free (salvage-late input) old new fault h)
+
+  module _ (old mid new : Seen) (work : SalvageWork) (stays : mid ≡ old)
+      (ready : IsSalvageReady input
+      old.files work) (touches : OnlyTouches (output ∷ []) mid.files new.files) where
+    abbrev made : List ℕ → List ℕ
+    made = work_file work.laid
+
+    making : IsMaking (salvage_task input) made old.files
+    making = ready-makes input old.files work ready
+
+    -- if the output holds what is made, and no count changed, the command is done
+    pub left-done : ((bytes : List ℕ) → Holds mid.files input bytes
+        → new.files ≡ files_holding mid.files output (made bytes)) → new.counts ≡ mid.counts
+        → IsCommandDone (salvage_command input output) old new
+    left-done wrote counts = telling-done text silent old new (one_done (salvage_task input) output
+        free made old mid new stays making touches done wrote counts)
+      where
+        done : Result (Unit {0}) EditFault
+        done = Ok tt
+
+    -- a fault of the pass leaves the output begun
+    pub left-part : (fault : EditFault) → HasPassNumbers fault
+        → IsPassFault made (input ∷ []) output mid new fault
+        → IsCommandFault (salvage_command input output) old new fault
+    left-part fault numbers h =
+        telling-left text silent old new fault (one_left (salvage_task input) output free made old
+        mid new stays making touches refl failed numbers h)
+      where
+        failed : Result (Unit {0}) EditFault
+        failed = Err fault
+
+  -- what is written holds the stream
+  pub left-streams : (files : Files) (work : SalvageWork) → IsSalvageReady input files work
+      → HoldsStreams (salvage_command input output) files
+  left-streams files work ready =
+      telling-streams text silent files
+      (one_streams (salvage_task input) output free (work_file work.laid) files
+      (ready-makes input files work ready) (ready-holds input files work ready) done)
+    where
+      done : Result (Unit {0}) EditFault
+      done = Ok tt
+
+-- ---- what the numbers of a fault say
+
+module _ (input output : List ℕ) where
+  -- a fault before the output has the right numbers
+  pub numbers-early : (fault : EditFault) → HasTaskNumbers (salvage_task input) fault
+      → HasNumbers (salvage_command input output) fault
+  numbers-early (Input place fault) h = h
+  numbers-early (Refused refusal) h = h
+  numbers-early Memory h = tt
+  numbers-early _ h = absurd h
+
+  -- so has one of the pass
+  pub numbers-pass : (fault : EditFault) → HasPassNumbers fault
+      → HasNumbers (salvage_command input output) fault
+  numbers-pass (Input place fault) h = (omega (arith, h.0), h.1, h.2, inl h.0)
+  numbers-pass (Write place) h = omega (arith, h)
+  numbers-pass _ h = absurd h

@@ -1,0 +1,432 @@
+-- The frames of an input that follows the one before it are the last of the run, from that of its
+-- first played position on.
+use Rattle.std.proofs.Common.{ap, append-nil, append_assoc, ap₂, arith, Bool, drop, eqb, false}
+use Rattle.std.proofs.Common.{flat_map, length, List, map, min, None, Option, refl, Some, subst}
+use Rattle.std.proofs.Common.{suc, sym, take, true, zero, ℕ, [], ◌%◌, ◌*◌, ◌++◌, ◌+◌, ◌-◌, ◌/◌, ◌∙◌}
+use Rattle.std.proofs.{Common.{◌∷◌, ◌≡◌, ◌≤◌}, lemmas.Bool.{and_parts, eqb-true, leb-true}}
+use Rattle.std.proofs.lemmas.List.{drop-append-le, drop-drop, length-append, length-drop}
+use Rattle.std.proofs.lemmas.List.{length-map, length-take-le, map-append, take-append-drop}
+use Rattle.std.proofs.lemmas.{Nat.div-add-mod', Option.slice_get-map, Slice.Eq.bytes_eq-Decides}
+use Rattle.std.specs.Option.{option_or}
+use Rattle.std.specs.Prelude.{bytes_eq, if◌then◌else◌, nat_le, option_and_then, option_map}
+use Rattle.std.specs.Prelude.{slice_get, unwrap_or, ◌&&◌}
+use Rattle.exact_span.specs.{Overlaps.shared_overlap, PlayedPositions.{rest_of, samples_in}}
+use Rattle.exact_span.specs.declared.{overlap.Overlap.Overlap, played.Played.Played}
+use Rattle.frame_header.specs.{Fields.{ClassFields, SlotFields}, Tables.window_of}
+use Rattle.seam_plan.specs.Frames.{Brought, needs_of, RunFrame}
+use Rattle.seam_plan.specs.Joins.{frame_in_slot, has_lead_in, is_lead_in_wanted, join_slot}
+use Rattle.seam_plan.specs.{Joins.joining_frames, Laws.{FollowersGoOn, InputGoesOn, run_after}}
+use Rattle.seam_plan.specs.Seams.{are_frames_alike, compared_frames, ends_alike, following_joint}
+use Rattle.seam_plan.specs.Seams.{joint_of, joint_with, joint_without_lead_in, JointFrames}
+use Rattle.seam_plan.specs.Seams.{joints_from, joints_of, overlap_joint, whole_joint}
+use Rattle.seam_plan.specs.declared.seam.Seam.TheVariants.{Follows, LeadIn}
+
+-- ---- lists
+
+-- an item behind so many is that of the list, so many places on
+pub get-drop : {X : Type 0} (n : ℕ) (xs : List X) (i : ℕ)
+    → slice_get (drop n xs) i ≡ slice_get xs (n + i)
+get-drop zero xs i = ap (slice_get xs) (omega arith)
+get-drop (suc n) [] i = refl
+get-drop (suc n) (x ∷ xs) i =
+    let next : suc (n + i) ≡ suc n + i = omega arith in
+    get-drop n xs i ∙ ap (slice_get (x ∷ xs)) next
+
+abbrev pub sounds : List RunFrame → List (List ℕ)
+sounds frames = map (λ (f : RunFrame). f.sound) frames
+
+pub record IsSoundOf (frames : List RunFrame) (i : ℕ) (sound : List ℕ) : Type 0 where
+  pub frame : RunFrame
+  pub found : slice_get frames i ≡ Some frame
+  pub is : frame.sound ≡ sound
+
+-- a sound in the list of sounds is that of a frame at the same place
+pub sound-of : (frames : List RunFrame) (i : ℕ) (sound : List ℕ)
+    → slice_get (sounds frames) i ≡ Some sound → IsSoundOf frames i sound
+sound-of frames i sound is =
+    at (slice_get frames i) refl (sym (slice_get-map (λ (f : RunFrame). f.sound) frames i) ∙ is)
+  where
+    at : (o : Option RunFrame) → slice_get frames i ≡ o
+        → option_map (λ (f : RunFrame). f.sound) o ≡ Some sound → IsSoundOf frames i sound
+    at None found none = absurd cc
+    at (Some f) found some = record { frame = f; found = found; is = cc }
+
+-- ---- frames that are alike, and frames that join
+
+alike-sounds : (fs gs : List RunFrame) → are_frames_alike fs gs ≡ true → sounds fs ≡ sounds gs
+unfolding are_frames_alike
+alike-sounds [] [] is = refl
+alike-sounds [] (g ∷ gs) is = absurd cc
+alike-sounds (f ∷ fs) [] is = absurd cc
+alike-sounds (f ∷ fs) (g ∷ gs) is =
+    let parts = and_parts (bytes_eq f.sound g.sound) (are_frames_alike fs gs) is in
+    ap₂ (λ (x : List ℕ) (xs : List (List ℕ)). x ∷ xs) ((bytes_eq-Decides f.sound g.sound).0 parts.0)
+    (alike-sounds fs gs parts.1)
+
+-- to join changes no sound
+pub joining-sounds : (window : ℕ) (run rest frames : List RunFrame)
+    → joining_frames window run rest ≡ Some frames → sounds frames ≡ sounds rest
+unfolding joining_frames
+joining-sounds window run [] frames is = let same : [] ≡ frames = cc in ap sounds (sym same)
+joining-sounds window run (f ∷ fs) frames is =
+    at (join_slot window (needs_of run) f.need (needs_of fs)) is
+  where
+    at : (o : Option SlotFields) → option_map (λ slot. frame_in_slot slot f ∷ fs) o ≡ Some frames
+        → sounds frames ≡ sounds (f ∷ fs)
+    at None none = absurd cc
+    at (Some slot) some = let same : frame_in_slot slot f ∷ fs ≡ frames = cc in ap sounds (sym same)
+
+-- ---- what is shared
+
+-- the frames that are shared are whole, and there; those that are to be alike are from that of the
+-- first played position on
+record IsShared (class : ClassFields) (rest start frames : ℕ) (overlap : Overlap) : Type 0 where
+  whole : start + rest ≡ overlap.frames * samples_in class
+  there : overlap.frames ≤ frames
+  early : overlap.first_alike ≤ start / samples_in class
+  within : overlap.first_alike ≤ overlap.frames
+
+module _ (class : ClassFields) (rest start frames : ℕ) (overlap : Overlap) where
+  abbrev samples : ℕ
+  samples = samples_in class
+
+  abbrev whole_frames : ℕ
+  whole_frames = (start + rest) / samples
+
+  abbrev made : Overlap
+  made = record { frames = whole_frames; first_alike = min (start / samples) (whole_frames - 1) }
+
+  shared-test : (b : Bool) → (eqb ((start + rest) % samples) 0 && nat_le whole_frames frames) ≡ b
+      → (if b then Some made else None) ≡ Some overlap
+      → IsShared class rest start frames overlap
+  shared-test false test none = absurd cc
+  shared-test true test some =
+      let parts = and_parts (eqb ((start + rest) % samples) 0) (nat_le whole_frames frames) test in
+      let same : made ≡ overlap = cc in
+      subst (IsShared class rest start frames) same
+      (record {
+        whole = omega (
+          arith,
+          div-add-mod' (start + rest) samples,
+          eqb-true ((start + rest) % samples) 0 parts.0,
+        );
+        there = leb-true whole_frames frames parts.1;
+        early = omega arith;
+        within = omega arith;
+      })
+
+  is-shared : shared_overlap class rest start frames ≡ Some overlap
+      → IsShared class rest start frames overlap
+  unfolding shared_overlap
+  is-shared is =
+      shared-test (eqb ((start + rest) % samples) 0 && nat_le whole_frames frames) refl is
+
+-- ---- an input that follows
+
+record IsFollowing (class : ClassFields) (run : List RunFrame) (before input : Brought)
+    (joint : JointFrames) : Type 0 where
+  ended : Played
+  played : Played
+  ended_is : before.played ≡ Some ended
+  played_is : input.played ≡ Some played
+  overlap : Overlap
+  shared : IsShared class (rest_of class (length before.frames) ended) played.start
+      (length input.frames) overlap
+  alike : ends_alike run (compared_frames overlap input) ≡ true
+  frames : joining_frames (window_of class.version) run (drop overlap.frames input.frames)
+      ≡ Some joint.frames
+  seam : joint.seam ≡ Follows overlap.frames
+
+module _ (class : ClassFields) (run : List RunFrame) (before input : Brought) where
+  abbrev shared_by : Played → Played → Option Overlap
+  shared_by p q =
+      shared_overlap class (rest_of class (length before.frames) p) q.start (length input.frames)
+
+  abbrev joined_by : Overlap → Option (List RunFrame)
+  joined_by overlap =
+      joining_frames (window_of class.version) run (drop overlap.frames input.frames)
+
+  module _ (joint : JointFrames) where
+    by_joined : (overlap : Overlap) (o : Option (List RunFrame)) → joined_by overlap ≡ o
+        → option_map (joint_with (Follows overlap.frames)) o ≡ Some joint
+        → (joined_by overlap ≡ Some joint.frames) × (joint.seam ≡ Follows overlap.frames)
+    by_joined overlap None found none = absurd cc
+    by_joined overlap (Some frames) found some =
+        let same : joint_with (Follows overlap.frames) frames ≡ joint = cc in (
+          found ∙ ap (λ (j : JointFrames). Some j.frames) same,
+          ap (λ (j : JointFrames). j.seam) (sym same),
+        )
+
+    by_alike : (p q : Played) (overlap : Overlap) (b : Bool) → before.played ≡ Some p
+        → input.played ≡ Some q → shared_by p q ≡ Some overlap
+        → ends_alike run (compared_frames overlap input) ≡ b
+        → (if b then option_map (joint_with (Follows overlap.frames)) (joined_by overlap) else None)
+        ≡ Some joint
+        → IsFollowing class run before input joint
+    by_alike p q overlap false ended_is played_is shared test none = absurd cc
+    by_alike p q overlap true ended_is played_is shared test some =
+        let joined = by_joined overlap (joined_by overlap) refl some in
+        record {
+          ended = p;
+          played = q;
+          ended_is = ended_is;
+          played_is = played_is;
+          overlap = overlap;
+          shared = is-shared class (rest_of class (length before.frames) p) q.start
+              (length input.frames) overlap shared;
+          alike = test;
+          frames = joined.0;
+          seam = joined.1;
+        }
+
+    by_shared : (p q : Played) (o : Option Overlap) → before.played ≡ Some p → input.played ≡ Some q
+        → shared_by p q ≡ o
+        → option_and_then (overlap_joint class run input) o ≡ Some joint
+        → IsFollowing class run before input joint
+    by_shared p q None ended_is played_is shared none = absurd cc
+    by_shared p q (Some overlap) ended_is played_is shared some =
+        by_alike p q overlap
+        (ends_alike run (compared_frames overlap input)) ended_is played_is shared
+        refl some
+
+    by_played : (p : Played) (o : Option Played) → before.played ≡ Some p → input.played ≡ o
+        → option_and_then (overlap_joint class run input) (option_and_then (shared_by p) o)
+        ≡ Some joint → IsFollowing class run before input joint
+    by_played p None ended_is played_is none = absurd cc
+    by_played p (Some q) ended_is played_is some =
+        by_shared p q (shared_by p q) ended_is played_is refl some
+
+    by_ended : (o : Option Played) → before.played ≡ o
+        → option_and_then (overlap_joint class run input)
+        (option_and_then (λ (p : Played). option_and_then (shared_by p) input.played) o)
+        ≡ Some joint
+        → IsFollowing class run before input joint
+    by_ended None ended_is none = absurd cc
+    by_ended (Some p) ended_is some = by_played p input.played ended_is refl some
+
+    is-following : following_joint class run before input ≡ Some joint
+        → IsFollowing class run before input joint
+    unfolding following_joint
+    is-following is = by_ended before.played refl is
+
+  -- an input without its lead-in doesn't follow
+  abbrev IsWithout : Option JointFrames → Type 0
+  IsWithout None = Unit {0}
+  IsWithout (Some joint) = joint.seam ≡ LeadIn
+
+  without-seam : IsWithout (joint_without_lead_in class run input)
+  unfolding joint_without_lead_in
+  without-seam =
+      by_test (has_lead_in (window_of class.version) input
+      && is_lead_in_wanted (window_of class.version)
+      input)
+    where
+      by_joined : (o : Option (List RunFrame)) → IsWithout (option_map (joint_with LeadIn) o)
+      by_joined None = tt
+      by_joined (Some frames) = refl
+
+      by_test : (b : Bool)
+          → IsWithout
+          (if b then option_map (joint_with LeadIn)
+          (joining_frames (window_of class.version) run (drop 1 input.frames)) else None)
+      by_test true = by_joined (joining_frames (window_of class.version) run (drop 1 input.frames))
+      by_test false = tt
+
+  -- nor does a whole one
+  joint-follows : (out : ℕ) → (joint_of class run before input).seam ≡ Follows out
+      → following_joint class run before input ≡ Some (joint_of class run before input)
+  joint-follows out is =
+      at (following_joint class run before input)
+      (joint_without_lead_in class run input) without-seam is
+    where
+      at : (x y : Option JointFrames) → IsWithout y
+          → (unwrap_or (option_or x y) (whole_joint input)).seam ≡ Follows out
+          → x ≡ Some (unwrap_or (option_or x y) (whole_joint input))
+      at (Some joint) y without seam = refl
+      at None (Some joint) without seam = let never : LeadIn ≡ Follows out =
+          sym without ∙ seam in absurd cc
+      at None None without seam = absurd cc
+
+  -- ---- the frames of the run
+
+  module _ (joint : JointFrames) (is : IsFollowing class run before input joint) where
+    abbrev shared : ℕ
+    shared = is.overlap.frames
+
+    abbrev first : ℕ
+    first = is.overlap.first_alike
+
+    abbrev from_end : ℕ
+    from_end = length run - (shared - first)
+
+    abbrev new : List RunFrame
+    new = run ++ joint.frames
+
+    compared-length : length (compared_frames is.overlap input) ≡ shared - first
+    compared-length =
+        length-take-le (shared - first) (drop first input.frames)
+        (omega (arith, length-drop first input.frames, is.shared.there))
+
+    alike-parts : (nat_le (length (compared_frames is.overlap input)) (length run) ≡ true)
+        × (are_frames_alike (drop (length run - length (compared_frames is.overlap input)) run)
+        (compared_frames is.overlap input) ≡ true)
+    alike-parts =
+        and_parts (nat_le (length (compared_frames is.overlap input)) (length run))
+        (are_frames_alike (drop (length run - length (compared_frames is.overlap input)) run)
+        (compared_frames is.overlap input)) is.alike
+
+    enough : shared - first ≤ length run
+    enough = omega (
+      arith,
+      compared-length,
+      leb-true (length (compared_frames is.overlap input)) (length run) alike-parts.0,
+    )
+
+    last-sounds : sounds (drop from_end run) ≡ sounds (compared_frames is.overlap input)
+    last-sounds =
+        ap (λ n. sounds (drop (length run - n) run)) (sym compared-length)
+        ∙ alike-sounds (drop (length run - length (compared_frames is.overlap input)) run)
+        (compared_frames is.overlap input) alike-parts.1
+
+    added-sounds : sounds joint.frames ≡ sounds (drop shared input.frames)
+    added-sounds =
+        joining-sounds (window_of class.version) run (drop shared input.frames) joint.frames
+        is.frames
+
+    -- the frames that are alike and those that are added are the input's from the first of these on
+    input-parts : compared_frames is.overlap input ++ drop shared input.frames
+        ≡ drop first input.frames
+    input-parts =
+        let at : first + (shared - first) ≡ shared = omega (arith, is.shared.within) in
+        ap (λ (l : List RunFrame). compared_frames is.overlap input ++ l)
+        (ap (λ n. drop n input.frames) (sym at)
+        ∙ sym (drop-drop (shared - first) first input.frames))
+        ∙ take-append-drop (shared - first) (drop first input.frames)
+
+    new-sounds : sounds (drop from_end new) ≡ sounds (drop first input.frames)
+    new-sounds =
+        ap sounds (drop-append-le from_end run joint.frames (omega arith))
+        ∙ map-append (λ (f : RunFrame). f.sound) (drop from_end run) joint.frames
+        ∙ ap₂ (λ (x y : List (List ℕ)). x ++ y) last-sounds added-sounds
+        ∙ sym (map-append (λ (f : RunFrame). f.sound) (compared_frames is.overlap input)
+        (drop shared input.frames))
+        ∙ ap sounds input-parts
+
+    added-length : length joint.frames ≡ length input.frames - shared
+    added-length =
+        sym (length-map joint.frames (λ (f : RunFrame). f.sound))
+        ∙ ap (λ (l : List (List ℕ)). length l) added-sounds
+        ∙ length-map (drop shared input.frames) (λ (f : RunFrame). f.sound)
+        ∙ length-drop shared input.frames
+
+    new-length : length new + shared ≡ length run + length input.frames
+    new-length = omega (arith, length-append run joint.frames, added-length, is.shared.there)
+
+    abbrev from : ℕ
+    from = is.played.start / samples_in class
+
+    alike-at : (i : ℕ) (f : RunFrame) → from ≤ i → slice_get input.frames i ≡ Some f
+        → (g : RunFrame) × (slice_get new (i + length new - length input.frames) ≡ Some g)
+        × (g.sound ≡ f.sound)
+    alike-at i f late found =
+        let in_input : first + (i - first) ≡ i = omega (arith, late, is.shared.early) in
+        let in_run : from_end + (i - first) ≡ i + length new - length input.frames =
+        omega (
+          arith,
+          late,
+          is.shared.early,
+          is.shared.within,
+          is.shared.there,
+          new-length,
+          enough,
+        ) in
+        let own : slice_get (sounds (drop first input.frames)) (i - first) ≡ Some f.sound =
+        slice_get-map (λ (f : RunFrame). f.sound) (drop first input.frames) (i - first)
+        ∙ ap (option_map (λ (f : RunFrame). f.sound))
+        (get-drop first input.frames (i - first) ∙ ap (slice_get input.frames) in_input
+        ∙ found) in
+        let there =
+        sound-of (drop from_end new) (i - first) f.sound
+        (ap (λ (l : List (List ℕ)). slice_get l (i - first)) new-sounds ∙ own) in (
+          there.frame,
+          sym (get-drop from_end new (i - first) ∙ ap (slice_get new) in_run)
+              ∙ there.found,
+          there.is,
+        )
+
+    goes-on : (out : ℕ) → joint.seam ≡ Follows out → InputGoesOn class before input run new out
+    goes-on out seam =
+        let both : Follows shared ≡ Follows out = sym is.seam ∙ seam in
+        let same : shared ≡ out = cc in
+        subst (InputGoesOn class before input run new) same
+        (record {
+          ended = is.ended;
+          played = is.played;
+          ended_is = is.ended_is;
+          played_is = is.played_is;
+          meets = is.shared.whole;
+          has = is.shared.there;
+          longer = new-length;
+          alike = record {
+            within = omega
+                (arith, is.shared.early, is.shared.within, is.shared.there, new-length, enough);
+            alike = alike-at;
+          };
+        })
+
+-- ---- the joints of a run
+
+abbrev pub added : List JointFrames → List RunFrame
+added joints = flat_map (λ (j : JointFrames). j.frames) joints
+
+added-next : (joints : List JointFrames) (n : ℕ) (joint : JointFrames) → slice_get joints n
+    ≡ Some joint → added (take (suc n) joints) ≡ added (take n joints) ++ joint.frames
+added-next [] n joint is = absurd cc
+added-next (j ∷ joints) zero joint is =
+    let same : j ≡ joint = cc in
+    append-nil j.frames ∙ ap (λ (x : JointFrames). x.frames) same
+added-next (j ∷ joints) (suc n) joint is =
+    ap (λ (l : List RunFrame). j.frames ++ l) (added-next joints n joint is)
+    ∙ sym (append_assoc j.frames (added (take n joints)) joint.frames)
+
+joint-at : (class : ClassFields) (run : List RunFrame) (first : Brought) (inputs : List Brought)
+    (n : ℕ) (before input : Brought) (joint : JointFrames)
+    → slice_get (first ∷ inputs) n ≡ Some before → slice_get inputs n ≡ Some input
+    → slice_get (joints_from class run first inputs) n ≡ Some joint
+    → joint ≡ joint_of class (run ++ added (take n (joints_from class run first inputs))) before
+    input
+unfolding joints_from
+joint-at class run first [] n before input joint is_before is_input is_joint = absurd cc
+joint-at class run first (i ∷ inputs) zero before input joint is_before is_input is_joint =
+    let same_before : first ≡ before = cc in
+    let same_input : i ≡ input = cc in
+    let same_joint : joint_of class run first i ≡ joint = cc in
+    sym same_joint ∙ ap₂ (λ (x y : Brought). joint_of class run x y) same_before same_input
+    ∙ ap (λ (l : List RunFrame). joint_of class l before input) (sym (append-nil run))
+joint-at class run first (i ∷ inputs) (suc n) before input joint is_before is_input is_joint =
+    let here : JointFrames = joint_of class run first i in
+    joint-at class (run ++ here.frames) i inputs n before input joint is_before is_input is_joint
+    ∙ ap (λ (l : List RunFrame). joint_of class l before input)
+    (append_assoc run here.frames
+    (added (take n (joints_from class (run ++ here.frames) i inputs))))
+
+-- each input that follows goes on where the one before it ended
+pub followers-on : FollowersGoOn
+followers-on class first inputs number before input joint out is_before is_input is_joint seam =
+    let joints : List JointFrames = joints_of class first inputs in
+    let run : List RunFrame = run_after first joints number in
+    let here : joint ≡ joint_of class run before input =
+    joint-at class first.frames first inputs number before input joint is_before is_input
+    is_joint in
+    let follows =
+    joint-follows class run before input out (sym (ap (λ (j : JointFrames). j.seam) here) ∙ seam) in
+    let is = is-following class run before input joint
+    (follows ∙ ap (λ (j : JointFrames). Some j) (sym here)) in
+    let next : number + 1 ≡ suc number = omega arith in
+    let after : run ++ joint.frames ≡ run_after first joints (number + 1) =
+    append_assoc first.frames (added (take number joints)) joint.frames
+    ∙ ap (λ (l : List RunFrame). first.frames ++ l)
+    (sym (added-next joints number joint is_joint)
+    ∙ ap (λ n. added (take n joints)) (sym next)) in
+    subst (λ (l : List RunFrame). InputGoesOn class before input run l out) after
+    (goes-on class run before input joint is out seam)

@@ -1,0 +1,194 @@
+-- Frames join a run by what it leaves.
+use Rattle.std.proofs.Common.{ap, arith, Bool, Contains, drop, length, List, None, Option, refl}
+use Rattle.std.proofs.Common.{Some, subst, sym, true, ℕ, [], ◌++◌, ◌<◌, ◌∙◌, ◌∷◌, ◌≡◌, ◌≤◌}
+use Rattle.std.proofs.lemmas.Bool.{and_from, and_parts, le-leb, leb-true}
+use Rattle.std.{proofs.lemmas.List.{drop-append-le, drop_all}, specs.Bool.Decides}
+use Rattle.std.specs.Prelude.{option_map, slice_index_or, ◌&&◌}
+use Rattle.frame_header.proofs.SlotLemmas.{areas-ascend}
+use Rattle.frame_header.specs.{Fields.{ClassFields, IsClass, SlotFields}, Slots.all_slots}
+use Rattle.frame_header.specs.Tables.{class_of, window_of}
+use Rattle.seam_plan.proofs.{FitLemmas.fits-tested, SlotLemmas.{find-least, find-none}}
+use Rattle.seam_plan.specs.Decisions.{AddedFramesFit, IsJointOfFrames}
+use Rattle.seam_plan.specs.Frames.{needs_of, RunFrame}
+use Rattle.seam_plan.specs.Joins.{fits_behind, frame_in_slot, is_area_no_less, join_slot}
+use Rattle.seam_plan.specs.{Joins.joining_frames, declared.run.Joint.Joint as CodeJoint}
+use Rattle.seam_plan.specs.declared.seam.Seam.{Seam}
+use Rattle.slot_plan.proofs.AreaLemmas.{class-ascend}
+use Rattle.slot_plan.proofs.FreeByteLemmas.{behind-left, fits-drop, fits-wanted, leaves-fit}
+use Rattle.slot_plan.proofs.FreeByteLemmas.{more-behind, one-left, own-wanted, own_needed}
+use Rattle.slot_plan.specs.FreeBytes.{FitsBehind, IsJoinSlot, IsMostLeft, JoinsInSlot, need_in_slot}
+use Rattle.slot_plan.specs.{FreeBytes.needs_with_first_slot, Parts.{AreNeedsOfClass, own_slot_area}}
+use Rattle.slot_plan.specs.declared.needs.Need.{Need}
+
+drop-front : (xs ys : List Need) → drop (length xs) (xs ++ ys) ≡ ys
+drop-front xs ys = drop-append-le (length xs) xs ys (omega arith)
+    ∙ ap (λ l. l ++ ys) (drop_all (length xs) xs (omega arith))
+
+module _ (window left : ℕ) (run : List Need) (is : IsMostLeft window window run left) where
+  run-fits : FitsBehind window window run
+  run-fits = (leaves-fit window window left run (omega arith) is.leaves).0
+
+  behind-run : (needs : List Need) → FitsBehind window window (run ++ needs)
+      → FitsBehind window left needs
+  behind-run needs fits =
+      let others : FitsBehind window window needs = subst (FitsBehind window window)
+      (drop-front run needs) (fits-drop window window (length run) (run ++ needs) fits) in
+      let wanted = own-wanted window window needs others in
+      let both = (behind-left window window run needs (omega arith) others).0 fits in
+      (fits-wanted window left (own_needed needs) needs wanted).1 (both.1 left
+      (own_needed needs) is wanted)
+
+  run-behind : (needs : List Need) → FitsBehind window left needs
+      → FitsBehind window window (run ++ needs)
+  run-behind needs fits =
+      (behind-left window window run needs (omega arith)
+      (more-behind window left window needs is.within fits)).1 (
+        run-fits,
+        λ other wanted left_is wanted_is. subst (λ n. wanted ≤ n)
+            (one-left window window left other run is left_is) (wanted_is.least left fits),
+      )
+
+  -- the run and then frames fit behind a whole window where these fit behind what it leaves
+  pub behind-tested : (needs : List Need)
+      → Decides (fits_behind window window (run ++ needs)) (FitsBehind window left needs)
+  behind-tested needs = (
+    λ fits. behind-run needs ((fits-tested window window (run ++ needs)).0 fits),
+    λ fits. (fits-tested window window (run ++ needs)).1 (run-behind needs fits),
+  )
+
+  module _ (first : Need) (needs : List Need) (known : IsClass (class_of first.header)) where
+    abbrev joins_in : SlotFields → Bool
+    joins_in slot =
+        is_area_no_less first slot
+        && fits_behind window window (run ++ need_in_slot slot first ∷ needs)
+
+    joins-passes : (slot : SlotFields) → JoinsInSlot window left first needs slot
+        → joins_in slot ≡ true
+    joins-passes slot joins =
+        and_from _ _
+        (le-leb (own_slot_area first) (own_slot_area (need_in_slot slot first)) joins.not_less)
+        ((behind-tested (need_in_slot slot first ∷ needs)).1 joins.fits)
+
+    passes-joins : (slot : SlotFields) → Contains all_slots slot → joins_in slot ≡ true
+        → JoinsInSlot window left first needs slot
+    passes-joins slot has passes =
+        let both = and_parts (is_area_no_less first slot)
+        (fits_behind window window (run ++ need_in_slot slot first ∷ needs)) passes in record {
+          chosen = has;
+          not_less =
+              leb-true (own_slot_area first) (own_slot_area (need_in_slot slot first)) both.0;
+          fits = (behind-tested (need_in_slot slot first ∷ needs)).0 both.1;
+        }
+
+    -- if the frames join in a slot, it is found
+    pub join-found : (slot : SlotFields) → IsJoinSlot window left (first ∷ needs) (Some slot)
+        → join_slot window run first needs ≡ Some slot
+    unfolding IsJoinSlot
+    join-found slot joins =
+        let c : ClassFields = class_of first.header in
+        let p : Bool = first.header.protected in
+        find-least c p joins_in all_slots slot
+        (class-ascend c c p all_slots refl refl (areas-ascend c known p)) joins.joins.chosen
+        (joins-passes slot joins.joins)
+        (λ other has passes. joins.least other (passes-joins other has passes))
+
+    -- if they don't, none is
+    pub join-none : IsJoinSlot window left (first ∷ needs) None
+        → join_slot window run first needs ≡ None
+    unfolding IsJoinSlot
+    join-none none = find-none joins_in all_slots
+        (λ other has passes. none other (passes-joins other has passes))
+
+-- what `joins` answers is how the frames join
+pub joining-some : (window left : ℕ) (seam : Seam) (run : List RunFrame) (first : RunFrame)
+    (frames : List RunFrame) (slot : SlotFields) (result : CodeJoint)
+    → IsMostLeft window window (needs_of run) left → IsClass (class_of first.need.header)
+    → IsJoinSlot window left (needs_of (first ∷ frames)) (Some slot)
+    → result ≡ record { seam = seam; slot = Some slot }
+    → IsJointOfFrames seam (joining_frames window run (first ∷ frames)) (Some result)
+unfolding joining_frames
+joining-some window left seam run first frames slot result is known joins gives =
+    let found =
+    join-found window left (needs_of run) is first.need (needs_of frames) known slot joins in
+    subst (λ o. IsJointOfFrames seam (option_map (λ s. frame_in_slot s first ∷ frames) o)
+    (Some result))
+    (sym found)
+    (record {
+      seam = ap (λ (j : CodeJoint). j.seam) gives;
+      slot = ap (λ (j : CodeJoint). j.slot) gives;
+    })
+
+-- if the frames don't join behind what the run leaves, no seam is found
+pub joining-none : (window left : ℕ) (seam : Seam) (run : List RunFrame) (first : RunFrame)
+    (frames : List RunFrame) → IsMostLeft window window (needs_of run) left
+    → IsClass (class_of first.need.header) → IsJoinSlot window left (needs_of (first ∷ frames)) None
+    → IsJointOfFrames seam (joining_frames window run (first ∷ frames)) None
+unfolding joining_frames
+joining-none window left seam run first frames is known none =
+    subst (λ o. IsJointOfFrames seam (option_map (λ s. frame_in_slot s first ∷ frames) o) None)
+    (sym (join-none window left (needs_of run) is first.need (needs_of frames) known none)) tt
+
+-- ---- the answers of `joins`
+
+-- no frames join any run, without a slot
+pub joining-empty : (window : ℕ) (seam : Seam) (run rest : List RunFrame) (needs : List Need)
+    → needs ≡ needs_of rest → length needs ≡ 0 → IsJointOfFrames seam
+    (joining_frames window run rest) (Some (record { seam = seam; slot = None }))
+unfolding joining_frames
+joining-empty window seam run [] needs is none = record { seam = refl; slot = refl }
+joining-empty window seam run (f ∷ fs) needs is none = absurd (omega (arith, none, ap length is))
+
+first-known : (class : ClassFields) (first : RunFrame) (frames : List RunFrame) (needs : List Need)
+    → needs ≡ needs_of (first ∷ frames) → AreNeedsOfClass class needs → IsClass class
+    → IsClass (class_of first.need.header)
+unfolding AreNeedsOfClass
+first-known class first frames needs is same known =
+    subst IsClass (sym (subst (AreNeedsOfClass class) is same).0) known
+
+module _ (class : ClassFields) (seam : Seam) (run : List RunFrame) (left : ℕ) (needs : List Need)
+    (same : AreNeedsOfClass class needs) (known : IsClass class)
+    (before : IsMostLeft (window_of class.version) (window_of class.version)
+    (needs_of run) left) where
+  no-join : (joined : Option SlotFields) → needs ≡ needs_of []
+      → IsJoinSlot (window_of class.version) left needs joined → ⊥
+  unfolding IsJoinSlot
+  no-join joined is joins = subst (λ l. IsJoinSlot (window_of class.version) left l joined) is joins
+
+  -- where the frames join in a slot, that is their seam
+  pub joins-some : (rest : List RunFrame) (slot : SlotFields) → needs ≡ needs_of rest
+      → IsJoinSlot (window_of class.version) left needs (Some slot) → IsJointOfFrames seam
+      (joining_frames (window_of class.version) run rest)
+      (Some (record { seam = seam; slot = Some slot }))
+  joins-some [] slot is joins = absurd (no-join (Some slot) is joins)
+  joins-some (f ∷ fs) slot is joins =
+      joining-some (window_of class.version) left seam run f fs slot
+      (record { seam = seam; slot = Some slot }) before (first-known class f fs needs is same known)
+      (subst (λ l. IsJoinSlot (window_of class.version) left l (Some slot)) is joins) refl
+
+  -- where they don't join there is none
+  pub joins-none : (rest : List RunFrame) → needs ≡ needs_of rest
+      → IsJoinSlot (window_of class.version) left needs None
+      → IsJointOfFrames seam (joining_frames (window_of class.version) run rest) None
+  joins-none [] is joins = absurd (no-join None is joins)
+  joins-none (f ∷ fs) is joins =
+      joining-none (window_of class.version) left seam run f fs before (first-known class f fs needs
+      is same known) (subst (λ l. IsJoinSlot (window_of class.version) left l None) is joins)
+
+-- frames that join in a slot fit there
+pub join-fit : (class : ClassFields) (left : ℕ) (needs : List Need) (slot : SlotFields)
+    → IsJoinSlot (window_of class.version) left needs (Some slot)
+    → AddedFramesFit class left needs (Some slot)
+unfolding IsJoinSlot needs_with_first_slot
+join-fit class left [] slot joins = joins
+join-fit class left (x ∷ xs) slot joins = joins.joins.fits
+
+-- frames that fit behind nothing fit as they are
+pub whole-fit : (class : ClassFields) (left : ℕ) (needs : List Need) (first : Need)
+    → 0 < length needs → first ≡ slice_index_or needs 0 first
+    → FitsBehind (window_of class.version) 0 needs
+    → AddedFramesFit class left needs (Some first.header.slot)
+unfolding needs_with_first_slot
+whole-fit class left [] first some at fits = absurd (omega (arith, some))
+whole-fit class left (x ∷ xs) first some at fits =
+    subst (λ (n : Need). AddedFramesFit class left (x ∷ xs) (Some n.header.slot)) (sym at)
+    (more-behind (window_of class.version) 0 left (x ∷ xs) (omega arith) fits)

@@ -1,0 +1,127 @@
+-- The lead-in in front of an input.
+use Rattle.std.proofs.Common.{ap, ap₂, arith, Bool, drop, eqb, false, length, List, refl, Some}
+use Rattle.std.proofs.Common.{subst, suc, sym, true, zero, ℕ, [], ◌<◌, ◌∙◌, ◌∷◌, ◌≡◌, ◌≤◌}
+use Rattle.std.proofs.lemmas.{Bool.{eqb-true, Decides.same_from_decides}, List.drop-map}
+use Rattle.std.{proofs.lemmas.Slice.Eq.bytes_eq-Decides, specs.Bool.Decides}
+use Rattle.std.specs.Prelude.{bytes_eq, cond, not, option_map, slice_index_or, ◌&&◌}
+use Rattle.bit_fields.{proofs.BitsLemmas.bits-injective, specs.Bits.{AreBytes, bits}}
+use Rattle.frame_header.proofs.HeaderLemmas.{IsClass-class_of}
+use Rattle.frame_header.specs.Fields.{ClassFields, HeaderFields, IsClass, IsHeader, SlotFields}
+use Rattle.frame_header.specs.{HeaderBits.header_bits, Slots.all_slots}
+use Rattle.frame_header.specs.Tables.{area_of, class_of, window_of}
+use Rattle.seam_plan.proofs.{FitLemmas.{fits-tested, wanted-tested}, SlotLemmas.find-least}
+use Rattle.seam_plan.specs.{Decisions.IsBroughtInput, Frames.{Brought, needs_of, RunFrame}}
+use Rattle.seam_plan.specs.Joins.{fits_behind, has_lead_in, is_same_header, lead_in_header}
+use Rattle.seam_plan.specs.{Joins.{leads_others, matches_header}, Seams.front_left_out_count}
+use Rattle.seam_plan.specs.declared.input.Input.{Input}
+use Rattle.slot_plan.proofs.OnePlanLemmas.{slots_ascend}
+use Rattle.slot_plan.specs.FreeBytes.{FitsBehind, IsLeadInHeader, IsLeastWanted}
+use Rattle.slot_plan.specs.declared.needs.Need.{Need}
+
+-- frames that want nothing fit behind nothing
+pub alone-tested : (window wanted : ℕ) (needs : List Need) → IsLeastWanted window needs wanted
+    → Decides (eqb wanted 0) (FitsBehind window 0 needs)
+alone-tested window zero needs is =
+    (λ none. (wanted-tested window 0 0 needs is).0 refl, λ fits. refl)
+alone-tested window (suc wanted) needs is = (
+  λ none. absurd (omega (arith, eqb-true (suc wanted) 0 none)),
+  λ fits. absurd (omega (arith, is.least 0 fits)),
+)
+
+-- whether frames want nothing is whether they fit behind nothing
+pub alone-is : (window wanted : ℕ) (needs : List Need) → IsLeastWanted window needs wanted
+    → eqb wanted 0 ≡ fits_behind window 0 needs
+alone-is window wanted needs is =
+    same_from_decides _ _ (alone-tested window wanted needs is) (fits-tested window 0 needs)
+
+-- headers are the same where their bytes are
+pub header-same : (g h : HeaderFields) (a b : List ℕ) → bits a ≡ header_bits g → bits b
+    ≡ header_bits h → AreBytes a → AreBytes b → (r : Bool) → r ≡ bytes_eq a b
+    → r ≡ is_same_header g h
+header-same g h a b first second octets others r is =
+    is
+    ∙ same_from_decides (bytes_eq a b) (is_same_header g h) (bytes_eq-Decides a b) (
+      λ same. bits-injective a b octets others
+          (first ∙ (bytes_eq-Decides (header_bits g) (header_bits h)).0 same ∙ sym second),
+      λ same.
+          (bytes_eq-Decides (header_bits g) (header_bits h)).1 (sym first ∙ ap bits same ∙ second),
+    )
+
+-- the header that `lead_in` answers is the one of the definition
+pub lead-in-is : (window : ℕ) (first : Need) (needs : List Need) (header : HeaderFields)
+    → IsClass (class_of first.header) → IsLeadInHeader window (first ∷ needs) header
+    → lead_in_header window (first ∷ needs) ≡ Some header
+unfolding IsLeadInHeader lead_in_header
+lead-in-is window first needs header known is =
+    let class : ClassFields = class_of first.header in
+    let fit : SlotFields → Bool =
+    λ slot. fits_behind window (area_of class slot false) (first ∷ needs) in
+    let found =
+    find-least class false fit all_slots header.slot (slots_ascend class known) is.0.chosen
+    ((fits-tested window (area_of class header.slot false) (first ∷ needs)).1 is.0.fits)
+    (λ other has passes. is.0.least other has
+    ((fits-tested window (area_of class other false) (first ∷ needs)).0 passes)) in
+    ap (option_map (λ slot. record first.header { protected = false; slot = slot })) found
+    ∙ ap Some (sym is.1)
+
+-- the first frame has it
+pub leads-is : (window : ℕ) (needs : List Need) (first : Need) (header : HeaderFields)
+    → first ≡ slice_index_or needs 0 first → 2 ≤ length needs → IsHeader header
+    → IsLeadInHeader window (drop 1 needs) header
+    → is_same_header first.header header ≡ leads_others window needs
+unfolding IsLeadInHeader
+leads-is window [] first header at many known is = absurd (omega (arith, many))
+leads-is window (x ∷ []) first header at many known is = absurd (omega (arith, many))
+leads-is window (x ∷ y ∷ others) first header at many known is =
+    let class : class_of header ≡ class_of y.header = ap class_of is.1 in
+    let found =
+    lead-in-is window y others header (subst IsClass class (IsClass-class_of header known)) is in
+    ap (λ (n : Need). is_same_header n.header header) at ∙ ap (matches_header x.header) (sym found)
+
+-- a frame alone leads none
+pub leads-none : (window : ℕ) (needs : List Need) → length needs < 2
+    → false ≡ leads_others window needs
+unfolding lead_in_header
+leads-none window [] few = refl
+leads-none window (x ∷ []) few = refl
+leads-none window (x ∷ y ∷ others) few = absurd (omega (arith, few))
+
+-- ---- the lead-in of an input
+
+-- an input whose first frame is silent has a lead-in exactly if that frame leads others
+pub has-then : (window : ℕ) (input : Input) (brought : Brought) (r : Bool)
+    → IsBroughtInput input brought → input.blank ≡ true → r ≡ leads_others window input.needs.now
+    → r ≡ has_lead_in window brought
+unfolding has_lead_in
+has-then window input brought r is blank leads =
+    leads ∙ ap (leads_others window) is.needs
+    ∙ ap (λ b. b && leads_others window (needs_of brought.frames)) (sym blank ∙ is.blank)
+
+-- one whose first frame isn't silent has none
+pub has-else : (window : ℕ) (input : Input) (brought : Brought) → IsBroughtInput input brought
+    → input.blank ≡ false → input.blank ≡ has_lead_in window brought
+unfolding has_lead_in
+has-else window input brought is blank =
+    blank ∙ ap (λ b. b && leads_others window (needs_of brought.frames)) (sym blank ∙ is.blank)
+
+-- ---- the lead-in that leaves the run
+
+-- where the first input has no lead-in, none is left out
+pub front-none : (class : ClassFields) (brought : Brought) (frames : List RunFrame) (has : Bool)
+    → has ≡ false → has ≡ has_lead_in (window_of class.version) brought
+    → 0 ≡ front_left_out_count class brought frames
+unfolding front_left_out_count
+front-none class brought frames has none is =
+    ap (λ h. cond (h && not (fits_behind (window_of class.version) 0 (needs_of (drop 1 frames)))) 1
+    0) (sym none ∙ is)
+
+-- its lead-in is left out where it has one that the others need
+pub front-is : (class : ClassFields) (brought : Brought) (frames : List RunFrame) (run : List Need)
+    (has alone : Bool) → run ≡ needs_of frames → has ≡ has_lead_in (window_of class.version) brought
+    → alone ≡ fits_behind (window_of class.version) 0 (drop 1 run)
+    → cond (has && not alone) 1 0 ≡ front_left_out_count class brought frames
+unfolding front_left_out_count
+front-is class brought frames run has alone is leads fits =
+    ap₂ (λ (h a : Bool). cond (h && not a) 1 0) leads
+    (fits ∙ ap (λ l. fits_behind (window_of class.version) 0 l)
+    (ap (drop 1) is ∙ drop-map (λ (f : RunFrame). f.need) 1 frames))

@@ -1,0 +1,353 @@
+-- Pieces of one recording are joined to all their frames without their lead-ins.
+use Rattle.std.proofs.Common.{ap, append_assoc, ap₂, arith, Bool, drop, false, flat_map, inl, inr}
+use Rattle.std.proofs.Common.{length, List, map, None, Option, refl, Some, subst, sym, true, ℕ, []}
+use Rattle.std.proofs.Common.{◌++◌, ◌∙◌, ◌∷◌, ◌≡◌}
+use Rattle.std.proofs.lemmas.Bool.{and_from, and_left, and_parts, both_ways, le-leb, leb-true}
+use Rattle.std.{proofs.lemmas.List.map-append, specs.Option.option_or}
+use Rattle.std.specs.Prelude.{if◌then◌else◌, not, option_and_then, option_map, unwrap_or, ◌&&◌, ◌⊎◌}
+use Rattle.exact_span.specs.{Overlaps.shared_overlap, PlayedPositions.rest_of}
+use Rattle.exact_span.specs.declared.played.Played.{Played}
+use Rattle.frame_header.proofs.HeaderLemmas.{IsClass-class_of}
+use Rattle.frame_header.proofs.SlotLemmas.{areas-ascend, Contains-all_slots}
+use Rattle.frame_header.specs.{Fields.{ClassFields, IsHeader, SlotFields}, Slots.all_slots}
+use Rattle.frame_header.specs.Tables.{class_of, window_of}
+use Rattle.seam_plan.proofs.{FitLemmas.fits-tested, SlotLemmas.find-least}
+use Rattle.seam_plan.specs.Frames.{Brought, needs_of, RunFrame}
+use Rattle.seam_plan.specs.Joins.{fits_behind, frame_in_slot, has_lead_in, is_area_no_less}
+use Rattle.seam_plan.specs.Joins.{is_lead_in_wanted, join_slot, joining_frames}
+use Rattle.seam_plan.specs.Laws.{AreHeadersKnown, AreOneRun, ArePiecesOf, concat_frames, IsLedPiece}
+use Rattle.seam_plan.specs.Laws.{IsPieceOf, IsUnledPiece, piece_seam, PiecesAreOneRun}
+use Rattle.seam_plan.specs.Seams.{following_joint, front_left_out_count, joint_of, joint_with}
+use Rattle.seam_plan.specs.Seams.{joint_without_lead_in, JointFrames, joints_from, joints_of}
+use Rattle.seam_plan.specs.Seams.{overlap_joint, run_of, run_with, seamless_join, SeamlessJoin}
+use Rattle.seam_plan.specs.{Seams.whole_joint, declared.seam.Seam.Seam}
+use Rattle.seam_plan.specs.declared.seam.Seam.TheVariants.{LeadIn, Whole}
+use Rattle.slot_plan.proofs.{AreaLemmas.class-ascend, FreeByteLemmas.{cons-fits, fits-front}}
+use Rattle.slot_plan.specs.{FreeBytes.{FitsBehind, need_in_slot}, Parts.own_slot_area}
+use Rattle.slot_plan.specs.{Reserve.free_bytes_behind, declared.needs.Need.Need}
+
+-- ---- whether frames fit
+
+needs-append : (xs ys : List RunFrame) → needs_of (xs ++ ys) ≡ needs_of xs ++ needs_of ys
+needs-append xs ys = map-append (λ (f : RunFrame). f.need) xs ys
+
+-- if all fit, so do the first
+pub front-fits : (window free : ℕ) (xs ys : List RunFrame)
+    → fits_behind window free (needs_of (xs ++ ys)) ≡ true
+    → fits_behind window free (needs_of xs) ≡ true
+front-fits window free xs ys fits =
+    let all =
+    subst (FitsBehind window free) (needs-append xs ys)
+    ((fits-tested window free (needs_of (xs ++ ys))).0 fits) in
+    (fits-tested window free (needs_of xs)).1
+    (fits-front window free (needs_of xs) (needs_of ys) all)
+
+-- and if the first don't, all don't
+front-lacks : (window free : ℕ) (xs ys : List RunFrame) → fits_behind window free (needs_of xs)
+    ≡ false → fits_behind window free (needs_of (xs ++ ys)) ≡ false
+front-lacks window free xs ys lacks = at (fits_behind window free (needs_of (xs ++ ys))) refl
+  where
+    at : (b : Bool) → fits_behind window free (needs_of (xs ++ ys)) ≡ b
+        → fits_behind window free (needs_of (xs ++ ys)) ≡ false
+    at false is = is
+    at true is =
+        absurd (both_ways (fits_behind window free (needs_of xs)) lacks
+        (front-fits window free xs ys is))
+
+-- a frame without main data may be in front of all
+pub empty-fits : (window : ℕ) (f : RunFrame) (xs : List RunFrame) → f.need.bytes ≡ 0
+    → fits_behind window window (needs_of xs) ≡ true
+    → fits_behind window window (needs_of (f ∷ xs)) ≡ true
+empty-fits window f xs empty fits =
+    let free : window ≡ free_bytes_behind window window f.need.bytes (own_slot_area f.need) =
+    omega (arith, empty) in
+    let behind =
+    subst (λ n. FitsBehind window n (needs_of xs)) free
+    ((fits-tested window window (needs_of xs)).0 fits) in
+    (fits-tested window window (needs_of (f ∷ xs))).1
+    (cons-fits window window f.need (needs_of xs) (omega arith) (omega (arith, empty)) behind)
+
+-- the first of known frames are known
+pub known-front : (xs ys : List RunFrame) → AreHeadersKnown (xs ++ ys) → AreHeadersKnown xs
+known-front [] ys are = tt
+known-front (x ∷ xs) ys are = (are.0, known-front xs ys are.1)
+
+-- and so are those after them
+pub known-behind : (xs ys : List RunFrame) → AreHeadersKnown (xs ++ ys) → AreHeadersKnown ys
+known-behind [] ys are = are
+known-behind (x ∷ xs) ys are = known-behind xs ys are.1
+
+-- ---- frames that fit as they are join as they are
+
+own-slot : (window : ℕ) (run : List Need) (first : Need) (needs : List Need) → IsHeader first.header
+    → fits_behind window window (run ++ first ∷ needs) ≡ true
+    → join_slot window run first needs ≡ Some first.header.slot
+own-slot window run first needs known fits =
+    let c : ClassFields = class_of first.header in
+    let p : Bool = first.header.protected in
+    let test : SlotFields → Bool =
+    λ slot. is_area_no_less first slot && fits_behind window window
+    (run ++ need_in_slot slot first ∷ needs) in
+    find-least c p test all_slots first.header.slot
+    (class-ascend c c p all_slots refl refl
+    (areas-ascend c (IsClass-class_of first.header known) p))
+    (Contains-all_slots first.header.slot known.slot)
+    (and_from _ _ (le-leb (own_slot_area first) (own_slot_area first) (omega arith)) fits)
+    (λ other has passes.
+    leb-true (own_slot_area first) (own_slot_area (need_in_slot other first))
+    (and_parts (is_area_no_less first other)
+    (fits_behind window window (run ++ need_in_slot other first ∷ needs)) passes).0)
+
+-- frames that fit as they are join as they are
+pub own-joining : (window : ℕ) (run frames : List RunFrame) → AreHeadersKnown frames
+    → fits_behind window window (needs_of (run ++ frames)) ≡ true
+    → joining_frames window run frames ≡ Some frames
+unfolding joining_frames
+own-joining window run [] known fits = refl
+own-joining window run (f ∷ frames) known fits =
+    let fit =
+    subst (λ l. fits_behind window window l ≡ true) (needs-append run (f ∷ frames)) fits in
+    ap (option_map (λ slot. frame_in_slot slot f ∷ frames))
+    (own-slot window (needs_of run) f.need (needs_of frames) known.0 fit)
+
+-- ---- what becomes of a piece
+
+module _ (class : ClassFields) where
+  abbrev window : ℕ
+  window = window_of class.version
+
+  module _ (run : List RunFrame) (before input : Brought) where
+    -- it follows none
+    none-follows : input.played ≡ None → following_joint class run before input ≡ None
+    unfolding following_joint
+    none-follows none = ap (option_and_then (overlap_joint class run input)) (at before.played)
+      where
+        at : (o : Option Played)
+            → option_and_then
+            (λ (p : Played).
+            option_and_then
+            (λ (q : Played). shared_overlap class (rest_of class (length before.frames) p) q.start
+            (length input.frames))
+            input.played)
+            o ≡ None
+        at None = refl
+        at (Some p) =
+            ap (option_and_then (λ (q : Played).
+            shared_overlap class (rest_of class (length before.frames) p) q.start
+            (length input.frames))) none
+
+    abbrev WithoutIf : Bool → Option JointFrames
+    WithoutIf b =
+        if b then option_map (joint_with LeadIn) (joining_frames window run (drop 1 input.frames))
+        else None
+
+    led-without : (frames : List RunFrame) → IsLedPiece window frames input
+        → fits_behind window 0 (needs_of frames) ≡ false
+        → joining_frames window run frames ≡ Some frames
+        → joint_without_lead_in class run input ≡ Some (joint_with LeadIn frames)
+    unfolding joint_without_lead_in
+    led-without frames led lacks joins =
+        let behind : drop 1 input.frames ≡ frames = ap (drop 1) led.frames_are in
+        let wanted : is_lead_in_wanted window input ≡ true =
+        ap (λ (l : List RunFrame). not (fits_behind window 0 (needs_of l))) behind ∙ ap not lacks in
+        ap WithoutIf
+        (and_from (has_lead_in window input) (is_lead_in_wanted window input) led.has wanted)
+        ∙ ap (λ (l : List RunFrame). option_map (joint_with LeadIn) (joining_frames window run l))
+        behind
+        ∙ ap (option_map (joint_with LeadIn)) joins
+
+    unled-without : has_lead_in window input ≡ false → joint_without_lead_in class run input ≡ None
+    unfolding joint_without_lead_in
+    unled-without none =
+        ap WithoutIf (and_left (has_lead_in window input) (is_lead_in_wanted window input) none)
+
+    piece-joint : (frames : List RunFrame) → IsPieceOf window frames input → AreHeadersKnown frames
+        → fits_behind window window (needs_of (run ++ frames)) ≡ true
+        → joint_of class run before input ≡ joint_with (piece_seam window frames) frames
+    piece-joint frames piece known fits = at (fits_behind window 0 (needs_of frames)) refl
+      where
+        at : (b : Bool) → fits_behind window 0 (needs_of frames) ≡ b
+            → joint_of class run before input ≡ joint_with (if b then Whole else LeadIn) frames
+        at true is =
+            let unled = piece.unled is in
+            ap₂ (λ (x y : Option JointFrames). unwrap_or (option_or x y) (whole_joint input))
+            (none-follows piece.uncounted) (unled-without unled.none)
+            ∙ ap (joint_with Whole) unled.frames_are
+        at false is =
+            ap₂ (λ (x y : Option JointFrames). unwrap_or (option_or x y) (whole_joint input))
+            (none-follows piece.uncounted)
+            (led-without frames (piece.led is) is (own-joining window run frames known fits))
+
+  -- ---- all later pieces
+
+  abbrev joint_by : List RunFrame → JointFrames
+  joint_by frames = joint_with (piece_seam window frames) frames
+
+  pieces-joints : (run : List RunFrame) (before : Brought) (more : List (List RunFrame))
+      (inputs : List Brought) → ArePiecesOf window more inputs
+      → AreHeadersKnown (concat_frames more)
+      → fits_behind window window (needs_of (run ++ concat_frames more)) ≡ true
+      → joints_from class run before inputs ≡ map joint_by more
+  unfolding joints_from
+  pieces-joints run before [] [] are known fits = refl
+  pieces-joints run before [] (input ∷ inputs) are known fits = absurd are
+  pieces-joints run before (frames ∷ more) [] are known fits = absurd are
+  pieces-joints run before (frames ∷ more) (input ∷ inputs) are known fits =
+      let fit =
+      subst (λ (l : List RunFrame). fits_behind window window (needs_of l) ≡ true)
+      (sym (append_assoc run frames (concat_frames more))) fits in
+      let here =
+      piece-joint run before input frames are.0 (known-front frames (concat_frames more) known)
+      (front-fits window window (run ++ frames) (concat_frames more) fit) in
+      ap (λ (j : JointFrames). j ∷ joints_from class (run ++ j.frames) input inputs) here
+      ∙ ap (λ (js : List JointFrames). joint_by frames ∷ js)
+      (pieces-joints (run ++ frames) input more inputs are.1
+      (known-behind frames (concat_frames more) known) fit)
+
+  joints-frames : (more : List (List RunFrame))
+      → flat_map (λ (j : JointFrames). j.frames) (map joint_by more) ≡ concat_frames more
+  joints-frames [] = refl
+  joints-frames (frames ∷ more) = ap (λ (l : List RunFrame). frames ++ l) (joints-frames more)
+
+  joints-seams : (more : List (List RunFrame))
+      → map (λ (j : JointFrames). j.seam) (map joint_by more) ≡ map (piece_seam window) more
+  joints-seams [] = refl
+  joints-seams (frames ∷ more) =
+      ap (λ (l : List Seam). piece_seam window frames ∷ l) (joints-seams more)
+
+  -- ---- the first piece
+
+  -- the run begins with this, and all of it fits
+  pieces-joined : (begin : List RunFrame) (more : List (List RunFrame)) (first : Brought)
+      (inputs : List Brought) (front : ℕ) → ArePiecesOf window more inputs
+      → AreHeadersKnown (concat_frames more) → first.frames ≡ begin
+      → fits_behind window window (needs_of (begin ++ concat_frames more)) ≡ true
+      → front ≡ front_left_out_count class first (begin ++ concat_frames more)
+      → seamless_join class first inputs ≡ record { front = front; joints = map joint_by more }
+  unfolding seamless_join
+  pieces-joined begin more first inputs front are known is fits gives =
+      let all =
+      subst (λ (l : List RunFrame). fits_behind window window (needs_of (l ++ concat_frames more))
+      ≡ true)
+      (sym is) fits in
+      let joints : joints_of class first inputs ≡ map joint_by more =
+      pieces-joints first.frames first more inputs are known all in
+      let run : run_with first (joints_of class first inputs) ≡ begin ++ concat_frames more =
+      ap (run_with first) joints ∙ ap₂ (λ (x y : List RunFrame). x ++ y) is (joints-frames more) in
+      ap₂ (λ (n : ℕ) (js : List JointFrames). record { front = n; joints = js })
+      (ap (front_left_out_count class first) run ∙ sym gives) joints
+
+  abbrev IsRunOf : List RunFrame → List (List RunFrame) → Brought → Bool → SeamlessJoin → Type 0
+  IsRunOf frames more first fits joined =
+      (run_of first joined ≡ frames ++ concat_frames more)
+      × (joined.front ≡ (if fits then 0 else 1))
+      × (map (λ (j : JointFrames). j.seam) joined.joints ≡ map (piece_seam window) more)
+
+  module _ (frames : List RunFrame) (more : List (List RunFrame)) (first : Brought)
+      (inputs : List Brought) (are : ArePiecesOf window more inputs)
+      (known : AreHeadersKnown (frames ++ concat_frames more))
+      (fits : fits_behind window window (needs_of (frames ++ concat_frames more)) ≡ true) where
+    abbrev IsRun : Bool → Type 0
+    IsRun b = IsRunOf frames more first b (seamless_join class first inputs)
+
+    unled-run : IsUnledPiece window frames first → IsRun true
+    unfolding front_left_out_count
+    unled-run unled =
+        let all : List RunFrame = frames ++ concat_frames more in
+        let none : front_left_out_count class first all ≡ 0 =
+        ap (λ b. if b then 1 else 0)
+        (and_left (has_lead_in window first)
+        (not (fits_behind window 0 (needs_of (drop 1 all)))) unled.none) in
+        let joined =
+        pieces-joined frames more first inputs 0 are
+        (known-behind frames (concat_frames more) known)
+        unled.frames_are fits (sym none) in
+        subst (IsRunOf frames more first true) (sym joined) (
+          ap₂ (λ (x y : List RunFrame). x ++ y) unled.frames_are (joints-frames more),
+          refl,
+          joints-seams more,
+        )
+
+    led-run : fits_behind window 0 (needs_of frames) ≡ false → IsLedPiece window frames first
+        → IsRun false
+    unfolding front_left_out_count
+    led-run lacks led =
+        let all : List RunFrame = frames ++ concat_frames more in
+        let begin : List RunFrame = led.lead_in ∷ frames in
+        let one : front_left_out_count class first (begin ++ concat_frames more) ≡ 1 =
+        ap (λ b. if b then 1 else 0)
+        (and_from (has_lead_in window first) (not (fits_behind window 0 (needs_of all))) led.has
+        (ap not (front-lacks window 0 frames (concat_frames more) lacks))) in
+        let joined =
+        pieces-joined begin more first inputs 1 are (known-behind frames (concat_frames more) known)
+        led.frames_are
+        (empty-fits window led.lead_in all led.empty fits) (sym one) in
+        subst (IsRunOf frames more first false) (sym joined) (
+          ap (drop 1) (ap₂ (λ (x y : List RunFrame). x ++ y) led.frames_are (joints-frames more)),
+          refl,
+          joints-seams more,
+        )
+
+    one-run : IsPieceOf window frames first
+        → AreOneRun window frames more first (seamless_join class first inputs)
+    one-run piece =
+        let is = at (fits_behind window 0 (needs_of frames)) refl in
+        record { run = is.0; front = is.1; seams = is.2 }
+      where
+        at : (b : Bool) → fits_behind window 0 (needs_of frames) ≡ b → IsRun b
+        at true fit = unled-run (piece.unled fit)
+        at false lacks = led-run lacks (piece.led lacks)
+
+-- such pieces are joined to one run, where all frames fit behind a whole window
+pub pieces-one-run : PiecesAreOneRun
+pieces-one-run class frames more first inputs piece are known fits =
+    one-run class frames more first inputs are known fits piece
+
+-- ---- an input whose head counts nothing, whatever its frames
+
+-- it is whole, or its lead-in is left out
+abbrev pub IsWithoutLeadIn : ℕ → Brought → JointFrames → Type 0
+IsWithoutLeadIn window input joint =
+    (joint.seam ≡ Whole) ⊎ ((joint.seam ≡ LeadIn) × (has_lead_in window input ≡ true))
+
+module _ (class : ClassFields) (run : List RunFrame) (before input : Brought) where
+  abbrev IfWithout : Option JointFrames → Type 0
+  IfWithout None = Unit {0}
+  IfWithout (Some joint) =
+      (joint.seam ≡ LeadIn) × (has_lead_in (window_of class.version) input ≡ true)
+
+  without-led : IfWithout (joint_without_lead_in class run input)
+  unfolding joint_without_lead_in
+  without-led =
+      by_test (has_lead_in (window_of class.version) input
+      && is_lead_in_wanted (window_of class.version)
+      input)
+      (λ both. (and_parts (has_lead_in (window_of class.version) input)
+      (is_lead_in_wanted (window_of class.version) input) both).0)
+    where
+      by_joined : (o : Option (List RunFrame)) → has_lead_in (window_of class.version) input ≡ true
+          → IfWithout (option_map (joint_with LeadIn) o)
+      by_joined None has = tt
+      by_joined (Some frames) has = (refl, has)
+
+      by_test : (b : Bool) → (b ≡ true → has_lead_in (window_of class.version) input ≡ true)
+          → IfWithout
+          (if b then option_map (joint_with LeadIn)
+          (joining_frames (window_of class.version) run (drop 1 input.frames)) else None)
+      by_test true has =
+          by_joined (joining_frames (window_of class.version) run (drop 1 input.frames)) (has refl)
+      by_test false has = tt
+
+  -- an input that counts nothing is whole, or its lead-in is left out
+  pub uncounted-joint : input.played ≡ None
+      → IsWithoutLeadIn (window_of class.version) input (joint_of class run before input)
+  uncounted-joint none =
+      at (following_joint class run before input) (joint_without_lead_in class run input)
+      (none-follows class run before input none) without-led
+    where
+      at : (x y : Option JointFrames) → x ≡ None → IfWithout y
+          → IsWithoutLeadIn (window_of class.version) input
+          (unwrap_or (option_or x y) (whole_joint input))
+      at (Some joint) y follows without = absurd cc
+      at None None follows without = inl refl
+      at None (Some joint) follows without = inr without

@@ -1,0 +1,143 @@
+-- The places of the last frames of a run.
+use Rattle.std.proofs.Common.{ap, append_assoc, arith, drop, inl, inr, length, List, map, max, sym}
+use Rattle.std.proofs.Common.{ℕ, [], ◌++◌, ◌+◌, ◌-◌, ◌<◌, ◌∙◌, ◌∷◌, ◌≡◌, ◌≤◌, ◌⊎◌}
+use Rattle.std.proofs.lemmas.Bool.{cases_lt}
+use Rattle.std.proofs.lemmas.List.{drop-append-le, drop-drop, drop_all, length-append, length-drop}
+use Rattle.std.proofs.lemmas.List.{map-append}
+use Rattle.std.proofs.lemmas.List.FromFn.{length-map-range_with_len, map-range_with_len_more}
+use Rattle.std.specs.List.{range_with_len}
+use Rattle.exact_span.proofs.SplitLemmas.{ranges}
+use Rattle.seam_plan.specs.Decisions.{frame_place, frame_places, IsSlid, last_seven}
+use Rattle.seam_plan.specs.declared.run.FramePlace.{FramePlace}
+use Rattle.slot_plan.proofs.ReserveLemmas.{max-is}
+
+-- without its first part a list is its second part
+pub drop-front : {X : Type 0} (xs ys : List X) → drop (length xs) (xs ++ ys) ≡ ys
+drop-front xs ys = drop-append-le (length xs) xs ys (omega arith)
+    ∙ ap (λ l. l ++ ys) (drop_all (length xs) xs (omega arith))
+
+-- the last seven of the last seven and others are those of all
+pub last-append : {X : Type 0} (xs ys : List X)
+    → last_seven (last_seven xs ++ ys) ≡ last_seven (xs ++ ys)
+last-append {X} xs ys =
+    let a : ℕ = length xs - 7 in
+    let front : drop a xs ++ ys ≡ drop a (xs ++ ys) = sym (drop-append-le a xs ys (omega arith)) in
+    let many : length (drop a xs ++ ys) ≡ length xs - a + length ys =
+    length-append (drop a xs) ys ∙ ap (λ n. n + length ys) (length-drop a xs) in
+    let all : length (xs ++ ys) ≡ length xs + length ys = length-append xs ys in
+    let same : a + (length (drop a xs ++ ys) - 7) ≡ length (xs ++ ys) - 7 =
+    omega (arith, many, all) in
+    ap (drop (length (drop a xs ++ ys) - 7)) front
+    ∙ drop-drop (length (drop a xs ++ ys) - 7) a (xs ++ ys) ∙ ap (λ n. drop n (xs ++ ys)) same
+
+-- seven at the end are the last
+pub last-seven : {X : Type 0} (xs ys : List X) → length ys ≡ 7 → last_seven (xs ++ ys) ≡ ys
+last-seven xs ys seven =
+    let many : length (xs ++ ys) - 7 ≡ length xs = omega (arith, length-append xs ys, seven) in
+    ap (λ n. drop n (xs ++ ys)) many ∙ drop-front xs ys
+
+-- at most seven are all of them
+pub last-few : {X : Type 0} (xs : List X) → length xs ≤ 7 → last_seven xs ≡ xs
+last-few xs few = let none : length xs - 7 ≡ 0 = omega (arith, few) in ap (λ n. drop n xs) none
+
+-- one frame more adds its place
+pub places-more : (input from at : ℕ) → from ≤ at → frame_places input from (at + 1 - from)
+    ≡ frame_places input from (at - from) ++ frame_place input at ∷ []
+places-more input from at after =
+    let many : at + 1 - from ≡ at - from + 1 = omega (arith, after) in
+    let next : from + (at - from) ≡ at = omega (arith, after) in
+    ap (frame_places input from) many
+    ∙ map-range_with_len_more (frame_place input) from (at - from) at next
+
+-- a place is added to the last seven, of which the first goes where there are seven
+last-full : (items : List FramePlace) (p : FramePlace) → length items ≡ 7
+    → drop 1 items ++ p ∷ [] ≡ last_seven (items ++ p ∷ [])
+last-full items p full =
+    let many : 1 ≡ length (items ++ p ∷ []) - 7 =
+    omega (arith, length-append items (p ∷ []), full) in
+    sym (drop-append-le 1 items (p ∷ []) (omega (arith, full)))
+    ∙ ap (λ n. drop n (items ++ p ∷ [])) many
+
+last-room : (items : List FramePlace) (p : FramePlace) → length items < 7
+    → items ++ p ∷ [] ≡ last_seven (items ++ p ∷ [])
+last-room items p room =
+    sym (last-few (items ++ p ∷ []) (omega (arith, length-append items (p ∷ []), room)))
+
+-- the last of places that were there, and of those from one of an input on
+abbrev pub Notes : List FramePlace → List FramePlace → ℕ → ℕ → ℕ → Type 0
+Notes old items input from at = (places : List FramePlace) → old ≡ last_seven places
+    → items ≡ last_seven (places ++ frame_places input from (at - from))
+
+note-by : (old items new : List FramePlace) (input from at : ℕ) → from ≤ at
+    → new ≡ last_seven (items ++ frame_place input at ∷ []) → Notes old items input from at
+    → Notes old new input from (at + 1)
+note-by old items new input from at after gives notes places is =
+    gives ∙ ap (λ l. last_seven (l ++ frame_place input at ∷ [])) (notes places is)
+    ∙ last-append (places ++ frame_places input from (at - from)) (frame_place input at ∷ [])
+    ∙ ap last_seven (append_assoc places (frame_places input from (at - from))
+    (frame_place input at ∷ []) ∙ ap (λ l. places ++ l) (sym (places-more input from at after)))
+
+-- what `slide` answers
+slid : (items new : List FramePlace) (p : FramePlace) → IsSlid items p new
+    → new ≡ last_seven (items ++ p ∷ [])
+slid items new p is =
+    elim (cases_lt (length items) 7) as (λ _. new ≡ last_seven (items ++ p ∷ [])) [
+      | inl less ↦ is.room less ∙ last-room items p less
+      | inr most ↦ let all : length items ≡ 7 = omega (arith, is.few, most) in
+          is.full all ∙ last-full items p all
+    ]
+
+-- a place that is added, in place of the first of seven, is noted
+pub note-slid : (old items new : List FramePlace) (input from at : ℕ) → from ≤ at
+    → IsSlid items (frame_place input at) new → Notes old items input from at
+    → Notes old new input from (at + 1)
+note-slid old items new input from at after is notes =
+    note-by old items new input from at after (slid items new (frame_place input at) is) notes
+
+-- where the noting begins
+pub note-from : (from to first sub : ℕ) → first ≡ max from sub → sub ≡ to - 7 → from ≤ to
+    → (from ≤ first) × (first ≤ to) × ((first ≡ from) ⊎ (to - first ≡ 7))
+note-from from to first sub is less within =
+    let at : first ≡ from + (sub - from) = is ∙ max-is from sub in (
+      omega (arith, at),
+      omega (arith, at, less, within),
+      elim (cases_lt from sub) as (λ _. (first ≡ from) ⊎ (to - first ≡ 7)) [
+        | inl later ↦ inr (omega (arith, at, less, later))
+        | inr early ↦ inl (omega (arith, at, early))
+      ],
+    )
+
+-- All places of an input up to a frame end with those of the last seven of them.
+pub last-from : (places : List FramePlace) (input from first to : ℕ) → from ≤ first → first ≤ to
+    → to - first ≡ 7 → last_seven (places ++ frame_places input first (to - first))
+    ≡ last_seven (places ++ frame_places input from (to - from))
+last-from places input from first to after within seven =
+    let many : length (frame_places input first (to - first)) ≡ 7 =
+    length-map-range_with_len (frame_place input) first (to - first) ∙ seven in
+    let split : first - from + (to - first) ≡ to - from = omega (arith, after, within) in
+    let next : from + (first - from) ≡ first = omega (arith, after) in
+    let both : frame_places input from (to - from)
+    ≡ frame_places input from (first - from) ++ frame_places input first (to - first) =
+    sym (ap (λ n. frame_places input from n) split)
+    ∙ sym (ap (map (frame_place input)) (ranges from (first - from) (to - first)))
+    ∙ map-append (frame_place input) (range_with_len from (first - from))
+    (range_with_len (from + (first - from)) (to - first))
+    ∙ ap (λ n. frame_places input from (first - from) ++ frame_places input n (to - first)) next in
+    last-seven places (frame_places input first (to - first)) many
+    ∙ sym (
+    ap (λ l. last_seven (places ++ l)) both
+    ∙ ap last_seven (sym (append_assoc places (frame_places input from (first - from))
+    (frame_places input first (to - first))))
+    ∙ last-seven (places ++ frame_places input from (first - from))
+    (frame_places input first (to - first)) many
+    )
+
+-- so of the places of an input only the last seven need be noted
+pub note-all : (old items : List FramePlace) (input from first to : ℕ) → from ≤ first → first ≤ to
+    → (first ≡ from) ⊎ (to - first ≡ 7) → Notes old items input first to
+    → (places : List FramePlace) → old ≡ last_seven places
+    → items ≡ last_seven (places ++ frame_places input from (to - from))
+note-all old items input from first to after within (inl same) notes places is =
+    notes places is ∙ ap (λ n. last_seven (places ++ frame_places input n (to - n))) same
+note-all old items input from first to after within (inr seven) notes places is =
+    notes places is ∙ last-from places input from first to after within seven

@@ -1,0 +1,289 @@
+-- What is known of an input, and of what a run leaves.
+use Rattle.std.proofs.Common.{ap, ap₂, arith, drop, length, List, None, Option, Some, subst, sym, ℕ}
+use Rattle.std.proofs.Common.{[], ◌++◌, ◌+◌, ◌-◌, ◌<◌, ◌∙◌, ◌∷◌, ◌≡◌, ◌≤◌}
+use Rattle.std.proofs.lemmas.List.{length-append, length-drop, length-map, map-append}
+use Rattle.std.proofs.lemmas.List.FromFn.{length-map-range_with_len}
+use Rattle.std.specs.Prelude.{IfSome, option_map, slice_index_or}
+use Rattle.exact_span.specs.Overlaps.{IsOverlap, IsOverlapShort, most_alike}
+use Rattle.exact_span.specs.{PlayedPositions.rest_of, declared.overlap.Overlap.Overlap}
+use Rattle.frame_header.specs.{Fields.{ClassFields, SlotFields}, Tables.window_of}
+use Rattle.frame_header.specs.declared.version.Version.{Version, TheVariants.{One, Two, TwoFive}}
+use Rattle.seam_plan.proofs.SeamLemmas.{joint-adds, length-joint, length-moved}
+use Rattle.seam_plan.specs.Decisions.{AddedFramesFit, CanFollow, frame_place, frame_places}
+use Rattle.seam_plan.specs.Decisions.{IsBroughtInput, IsJoinableInput, IsJoint, IsRun, joined_needs}
+use Rattle.seam_plan.specs.{Decisions.{JoinsRun, last_seven}, Frames.{Brought, needs_of, RunFrame}}
+use Rattle.seam_plan.specs.Seams.{joint_of, JointFrames, left_out_count}
+use Rattle.seam_plan.specs.declared.{input.Input.Input, run.FramePlace.FramePlace}
+use Rattle.seam_plan.specs.declared.run.{Joint.Joint as CodeJoint, Run.Run}
+use Rattle.slot_plan.proofs.FreeByteLemmas.{fits-cons, fits-drop, left-cons, left-on, more-behind}
+use Rattle.slot_plan.proofs.PartLemmas.{class-drop}
+use Rattle.slot_plan.specs.FreeBytes.{FitBehindFree, FitBehindWindow, FitsBehind, IsMostLeft}
+use Rattle.slot_plan.specs.FreeBytes.{need_in_slot, needs_with_first_slot}
+use Rattle.slot_plan.specs.{Parts.{AreNeedsOfClass, own_slot_area}, Reserve.free_bytes_behind}
+use Rattle.slot_plan.specs.declared.needs.Need.{Need}
+
+-- an input that can be joined fits behind a whole window
+pub fits-window : (class : ClassFields) (input : Input) → IsJoinableInput class input
+    → FitsBehind (window_of class.version) (window_of class.version) input.needs.now
+fits-window class input can = more-behind (window_of class.version) 0
+    (window_of class.version) input.needs.now (omega arith) can.fits
+
+-- all frames of an input but so many at its front fit behind a whole window
+pub drop-window : (class : ClassFields) (input : Input) (k : ℕ) → IsJoinableInput class input
+    → FitBehindWindow (drop k input.needs.now)
+drop-window class input k can = record {
+  class = class;
+  same = class-drop class input.needs.now k can.same;
+  fits = fits-drop (window_of class.version) 0 k input.needs.now can.fits;
+}
+
+-- so all its frames do
+pub all-window : (class : ClassFields) (input : Input) → IsJoinableInput class input
+    → FitBehindWindow input.needs.now
+all-window class input can =
+    record { class = class; same = can.same; fits = fits-window class input can }
+
+-- they fit there by the window of the class, too
+pub all-free : (class : ClassFields) (input : Input) → IsJoinableInput class input
+    → FitBehindFree (window_of class.version) input.needs.now
+all-free class input can = record {
+  class = class;
+  same = can.same;
+  within = omega arith;
+  fits = fits-window class input can;
+}
+
+-- ---- a run with more frames
+
+module _ (class : ClassFields) (number : ℕ) (frames : List RunFrame) (places : List FramePlace)
+    (before brought : Brought) (input : Input) (old new : Run) (result : CodeJoint)
+    (is : IsRun class frames places before old) (brings : IsBroughtInput input brought)
+    (decided : IsJoint (joint_of class frames before brought) result) where
+  abbrev joint : JointFrames
+  joint = joint_of class frames before brought
+
+  same-out : left_out_count result.seam ≡ left_out_count joint.seam
+  same-out = ap left_out_count decided.seam
+
+  more-needs : needs_of frames
+      ++ joined_needs result.slot (drop (left_out_count result.seam) input.needs.now)
+      ≡ needs_of (frames ++ joint.frames)
+  more-needs =
+      ap (λ n. needs_of frames ++ joined_needs result.slot (drop n input.needs.now)) same-out
+      ∙ ap (λ l. needs_of frames ++ joined_needs result.slot (drop (left_out_count joint.seam) l))
+      brings.needs
+      ∙ ap (λ l. needs_of frames ++ l) (sym (joint-adds class frames before brought result decided))
+      ∙ sym (map-append (λ (f : RunFrame). f.need) frames joint.frames)
+
+  abbrev more_places : List FramePlace
+  more_places = places ++ frame_places number (left_out_count joint.seam) (length joint.frames)
+
+  many : length input.needs.now - left_out_count result.seam ≡ length joint.frames
+  many =
+      ap (λ n. length input.needs.now - n) same-out
+      ∙ ap (λ n. n - left_out_count joint.seam)
+      (ap length brings.needs ∙ length-map brought.frames (λ (f : RunFrame). f.need))
+      ∙ sym (length-joint class frames before brought result decided)
+
+  same-places : places ++ frame_places number (left_out_count result.seam)
+      (length input.needs.now - left_out_count result.seam) ≡ more_places
+  same-places = ap₂ (λ a n. places ++ frame_places number a n) same-out many
+
+  same-length : length more_places ≡ length (frames ++ joint.frames)
+  same-length =
+      length-append places (frame_places number (left_out_count joint.seam) (length joint.frames))
+      ∙ ap₂ (λ m n. m + n) is.same (length-map-range_with_len (frame_place number)
+      (left_out_count joint.seam) (length joint.frames))
+      ∙ sym (length-append frames joint.frames)
+
+  -- the run with the frames of the input that aren't left out is the run of the definition
+  pub run-joins : new.class ≡ old.class
+      → IsMostLeft (window_of old.class.version) (window_of old.class.version) (needs_of frames
+      ++ joined_needs result.slot (drop (left_out_count result.seam) input.needs.now)) new.left
+      → new.last.items ≡ last_seven (places
+      ++ frame_places number (left_out_count result.seam)
+      (length input.needs.now - left_out_count result.seam))
+      → new.rest ≡ option_map (λ p. rest_of old.class (length input.needs.now) p) input.played
+      → JoinsRun class number frames places before brought result new
+  run-joins same left last rest = record {
+    joint = decided;
+    goes_on = record {
+      of_class = same ∙ is.of_class;
+      left = subst (λ (c : ClassFields). IsMostLeft (window_of c.version) (window_of c.version)
+          (needs_of (frames ++ joint.frames)) new.left) is.of_class
+          (subst (λ l. IsMostLeft (window_of old.class.version)
+          (window_of old.class.version) l new.left) more-needs left);
+      last = last ∙ ap last_seven same-places;
+      same = same-length;
+      rest = rest ∙ ap (λ c. option_map (λ p. rest_of c (length input.needs.now) p) input.played)
+          is.of_class
+          ∙ ap₂ (λ n o. option_map (λ p. rest_of class n p) o) (ap length brings.needs
+          ∙ length-map brought.frames (λ (f : RunFrame). f.need)) brings.played;
+    };
+  }
+
+-- the same whatever is alike, where these are the frames that are added
+module _ (class : ClassFields) (number : ℕ) (frames more : List RunFrame) (places : List FramePlace)
+    (before brought : Brought)
+    (input : Input) (old new : Run) (result : CodeJoint) (is : IsRun class frames places before old)
+    (brings : IsBroughtInput input brought)
+    (adds : needs_of more
+    ≡ joined_needs result.slot (drop (left_out_count result.seam) input.needs.now)) where
+  abbrev out : ℕ
+  out = left_out_count result.seam
+
+  all-needs : needs_of frames ++ joined_needs result.slot (drop out input.needs.now)
+      ≡ needs_of (frames ++ more)
+  all-needs = ap (λ l. needs_of frames ++ l) (sym adds)
+      ∙ sym (map-append (λ (f : RunFrame). f.need) frames more)
+
+  added : length input.needs.now - out ≡ length more
+  added =
+      sym (length-drop out input.needs.now)
+      ∙ sym (length-moved result.slot (drop out input.needs.now))
+      ∙ ap length (sym adds) ∙ length-map more (λ (f : RunFrame). f.need)
+
+  all-length : length (places ++ frame_places number out (length more)) ≡ length (frames ++ more)
+  all-length =
+      length-append places (frame_places number out (length more))
+      ∙ ap₂ (λ m n. m + n)
+      is.same (length-map-range_with_len (frame_place number) out (length more))
+      ∙ sym (length-append frames more)
+
+  -- a run to which the frames of the joint were added is a run of all these frames
+  pub run-goes : new.class ≡ old.class
+      → IsMostLeft (window_of old.class.version) (window_of old.class.version) (needs_of frames
+      ++ joined_needs result.slot (drop out input.needs.now)) new.left → new.last.items
+      ≡ last_seven (places ++ frame_places number out (length input.needs.now - out))
+      → new.rest ≡ option_map (λ p. rest_of old.class (length input.needs.now) p) input.played
+      → IsRun class (frames ++ more) (places ++ frame_places number out (length more)) brought new
+  run-goes same left last rest = record {
+    of_class = same ∙ is.of_class;
+    left = subst (λ (c : ClassFields). IsMostLeft (window_of c.version) (window_of c.version)
+        (needs_of (frames ++ more)) new.left) is.of_class
+        (subst (λ l. IsMostLeft (window_of old.class.version)
+        (window_of old.class.version) l new.left)
+        all-needs left);
+    last = last ∙ ap (λ n. last_seven (places ++ frame_places number out n)) added;
+    same = all-length;
+    rest = rest
+        ∙ ap (λ c. option_map (λ p. rest_of c (length input.needs.now) p) input.played) is.of_class
+        ∙ ap₂ (λ n o. option_map (λ p. rest_of class n p) o)
+        (ap length brings.needs ∙ length-map brought.frames (λ (f : RunFrame). f.need))
+        brings.played;
+  }
+
+-- what is left of a run that begins with an input
+pub run-begins : (class : ClassFields) (input : Input) (first : Brought) (run : Run)
+    → IsBroughtInput input first → run.class ≡ class
+    → IsMostLeft (window_of class.version) (window_of class.version) input.needs.now run.left
+    → run.last.items ≡ last_seven (frame_places 0 0 (length input.needs.now))
+    → run.rest ≡ option_map (λ p. rest_of class (length input.needs.now) p) input.played
+    → IsRun class first.frames (frame_places 0 0 (length first.frames)) first run
+run-begins class input first run brings same left last rest =
+    let many : length input.needs.now ≡ length first.frames =
+    ap length brings.needs ∙ length-map first.frames (λ (f : RunFrame). f.need) in record {
+      of_class = same;
+      left = subst (λ l. IsMostLeft (window_of class.version) (window_of class.version) l run.left)
+          brings.needs left;
+      last = last ∙ ap (λ n. last_seven (frame_places 0 0 n)) many;
+      same = length-map-range_with_len (frame_place 0) 0 (length first.frames);
+      rest = rest ∙ ap₂ (λ n o. option_map (λ p. rest_of class n p) o) many brings.played;
+    }
+
+-- ---- frames that are added
+
+in-window : (class : ClassFields) (left : ℕ) (needs : List Need) (slot : SlotFields)
+    → AddedFramesFit class left needs (Some slot)
+    → FitsBehind (window_of class.version) left (needs_with_first_slot slot needs)
+in-window class left [] slot fit = absurd fit
+in-window class left (x ∷ xs) slot fit = fit
+
+first-moved : (needs : List Need) (slot : SlotFields) (first : Need) → 0 < length needs
+    → first ≡ slice_index_or needs 0 first
+    → needs_with_first_slot slot needs ≡ need_in_slot slot first ∷ drop 1 needs
+unfolding needs_with_first_slot
+first-moved [] slot first some at = absurd (omega (arith, some))
+first-moved (x ∷ xs) slot first some at = ap (λ (n : Need). need_in_slot slot n ∷ xs) (sym at)
+
+-- frames that fit in a slot are some
+pub some-in : (class : ClassFields) (left : ℕ) (needs : List Need) (slot : SlotFields)
+    → AddedFramesFit class left needs (Some slot) → 0 < length needs
+some-in class left [] slot fit = absurd fit
+some-in class left (x ∷ xs) slot fit = omega arith
+
+-- the first of some frames in this slot, and the others, which fit behind what is left
+module _ (class : ClassFields) (left : ℕ) (needs : List Need) (slot : SlotFields)
+    (first moved : Need) (area : ℕ) (within : left ≤ window_of class.version)
+    (fit : AddedFramesFit class left needs (Some slot)) (at : first ≡ slice_index_or needs 0 first)
+    (is : moved ≡ need_in_slot slot first) (has : area ≡ own_slot_area moved) where
+  moved-first : needs_with_first_slot slot needs ≡ moved ∷ drop 1 needs
+  moved-first = first-moved needs slot first (some-in class left needs slot fit) at
+      ∙ ap (λ (n : Need). n ∷ drop 1 needs) (sym is)
+
+  both-fit : (moved.bytes ≤ left + own_slot_area moved) × FitsBehind (window_of class.version)
+      (free_bytes_behind (window_of class.version) left moved.bytes (own_slot_area moved))
+      (drop 1 needs)
+  both-fit = fits-cons (window_of class.version) left moved (drop 1 needs) within (subst
+      (FitsBehind (window_of class.version) left) moved-first (in-window class left needs slot fit))
+
+  -- the first frame has room in what is left and the area of its slot
+  pub moved-room : moved.bytes ≤ left + area
+  moved-room = omega (arith, both-fit.0, has)
+
+  module _ (free : ℕ)
+      (frees : free ≡ free_bytes_behind (window_of class.version) left moved.bytes area)
+      (most : free ≤ window_of class.version) (same : AreNeedsOfClass class needs) where
+    same-free : free
+        ≡ free_bytes_behind (window_of class.version) left moved.bytes (own_slot_area moved)
+    same-free = frees ∙ ap (free_bytes_behind (window_of class.version) left moved.bytes) has
+
+    -- the other frames fit behind what the first leaves
+    pub others-free : FitBehindFree free (drop 1 needs)
+    others-free = record {
+      class = class;
+      same = class-drop class needs 1 same;
+      within = most;
+      fits = subst (λ n. FitsBehind (window_of class.version) n (drop 1 needs))
+          (sym same-free) both-fit.1;
+    }
+
+    -- a run with these frames behind it leaves what the others leave behind the first
+    pub add-left : (new : ℕ) → IsMostLeft (window_of class.version) free (drop 1 needs) new
+        → (frames : List Need)
+        → IsMostLeft (window_of class.version) (window_of class.version) frames left
+        → IsMostLeft (window_of class.version) (window_of class.version)
+        (frames ++ joined_needs (Some slot) needs) new
+    add-left new leaves frames before =
+        let window : ℕ = window_of class.version in
+        let more : IsMostLeft window left (moved ∷ drop 1 needs) new =
+        left-cons window left new moved (drop 1 needs) within
+        both-fit.0 (subst (λ n. IsMostLeft window n (drop 1 needs) new) same-free leaves) in
+        subst (λ l. IsMostLeft window window (frames ++ l) new) (sym moved-first)
+        ((left-on window window left new frames (moved ∷ drop 1 needs) (omega arith) before).1 more)
+
+-- ---- frames of a slice
+
+-- the frames behind some of those that fit behind a whole window fit there too
+pub drop-fits : (k : ℕ) (needs : List Need) → FitBehindWindow needs → FitBehindWindow (drop k needs)
+drop-fits k needs fit = record {
+  class = fit.class;
+  same = class-drop fit.class needs k fit.same;
+  fits = fits-drop (window_of fit.class.version) (window_of fit.class.version) k needs fit.fits;
+}
+
+-- ---- the frames that are shared
+
+-- an overlap that is short, and within the input, is one by which it can follow
+pub can-follow : (class : ClassFields) (input : Input) (shared : Option Overlap)
+    → IfSome shared IsOverlap → IfSome shared (λ o. o.frames ≤ length input.needs.now)
+    → IfSome shared (IsOverlapShort class) → IfSome shared (CanFollow input)
+can-follow class input None overlap within short = tt
+can-follow class input (Some o) overlap within short =
+    record { some = overlap; within = within; few = few class.version short.alike }
+  where
+    few : (version : Version) → o.frames ≤ o.first_alike + most_alike version
+        → o.frames ≤ o.first_alike + 7
+    few One most = omega (arith, most)
+    few Two most = omega (arith, most)
+    few TwoFive most = omega (arith, most)

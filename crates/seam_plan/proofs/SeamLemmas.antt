@@ -1,0 +1,286 @@
+-- What becomes of an input, by what is asked of the run.
+use Rattle.std.proofs.Common.{ap, ap₂, arith, Bool, drop, false, length, List, None, Option, refl}
+use Rattle.std.proofs.Common.{Some, subst, sym, true, ℕ, [], ◌-◌, ◌<◌, ◌∙◌, ◌∷◌, ◌≡◌}
+use Rattle.std.proofs.lemmas.Bool.{and_from, and_left, and_right, not_from_false, not_from_true}
+use Rattle.std.{proofs.lemmas.List.{drop-map, length-drop, length-map}, specs.Option.option_or}
+use Rattle.std.specs.Prelude.{if◌then◌else◌, not, option_and_then, option_map, slice_get}
+use Rattle.std.specs.Prelude.{slice_index_or, unwrap_or, ◌&&◌}
+use Rattle.exact_span.specs.declared.overlap.Overlap.{Overlap}
+use Rattle.frame_header.specs.{Fields.{ClassFields, SlotFields}, Tables.window_of}
+use Rattle.seam_plan.specs.Decisions.{alike_overlap, AreJoint, IsBroughtInput, IsJoint}
+use Rattle.seam_plan.specs.Decisions.{joined_needs, overlap_if_alike}
+use Rattle.seam_plan.specs.Frames.{Brought, needs_of, RunFrame}
+use Rattle.seam_plan.specs.Joins.{fits_behind, frame_in_slot, has_lead_in, join_slot}
+use Rattle.seam_plan.specs.Joins.{joining_frames}
+use Rattle.seam_plan.specs.Seams.{compared_frames, ends_alike, following_joint, joint_of}
+use Rattle.seam_plan.specs.Seams.{joint_with, joint_without_lead_in, JointFrames, left_out_count}
+use Rattle.seam_plan.specs.Seams.{overlap_joint, overlap_of, whole_joint}
+use Rattle.seam_plan.specs.declared.{input.Input.Input, run.Joint.Joint as CodeJoint}
+use Rattle.seam_plan.specs.declared.seam.Seam.{Seam, TheVariants.{Follows, LeadIn, Whole}}
+use Rattle.slot_plan.specs.{FreeBytes.needs_with_first_slot, declared.needs.Need.Need}
+
+-- ---- an input that follows
+
+-- the frames after the shared ones, as they join
+abbrev pub follows_with : ClassFields → List RunFrame → Brought → Overlap → Option JointFrames
+follows_with class run brought overlap =
+    option_map (joint_with (Follows overlap.frames))
+    (joining_frames (window_of class.version) run (drop overlap.frames brought.frames))
+
+-- it follows where the frames that are to be alike are
+pub follow-is : (class : ClassFields) (run : List RunFrame) (before brought : Brought)
+    → following_joint class run before brought
+    ≡ option_and_then (follows_with class run brought) (alike_overlap class run before brought)
+unfolding following_joint
+follow-is class run before brought = at (overlap_of class before brought)
+  where
+    by_test : (overlap : Overlap) (b : Bool)
+        → (if b then follows_with class run brought overlap else None)
+        ≡ option_and_then (follows_with class run brought) (if b then Some overlap else None)
+    by_test overlap true = refl
+    by_test overlap false = refl
+
+    at : (shared : Option Overlap)
+        → option_and_then (overlap_joint class run brought) shared ≡ option_and_then
+        (follows_with class run brought) (option_and_then (overlap_if_alike run brought) shared)
+    at None = refl
+    at (Some overlap) = by_test overlap (ends_alike run (compared_frames overlap brought))
+
+-- without an overlap that is alike an input doesn't follow
+pub follow-none : (class : ClassFields) (run : List RunFrame) (before brought : Brought)
+    (alike : Option Overlap) → alike ≡ alike_overlap class run before brought → alike ≡ None
+    → AreJoint (following_joint class run before brought) None
+follow-none class run before brought alike is none =
+    subst (λ o. AreJoint o None) (sym (follow-is class run before brought
+    ∙ ap (option_and_then (follows_with class run brought)) (sym is ∙ none))) tt
+
+-- with one it follows as the frames behind the overlap join
+pub follow-some : (class : ClassFields) (run : List RunFrame) (before brought : Brought)
+    (alike : Option Overlap) (overlap : Overlap) (result : Option CodeJoint)
+    → alike ≡ alike_overlap class run before brought → alike ≡ Some overlap
+    → AreJoint (follows_with class run brought overlap) result
+    → AreJoint (following_joint class run before brought) result
+follow-some class run before brought alike overlap result is some joins =
+    subst (λ o. AreJoint o result) (sym (follow-is class run before brought
+    ∙ ap (option_and_then (follows_with class run brought)) (sym is ∙ some))) joins
+
+-- ---- an input without its lead-in
+
+-- an input joins without its lead-in where it has one that the others need and they can join
+pub without-is : (class : ClassFields) (run : List RunFrame) (input : Input) (brought : Brought)
+    (has alone : Bool) → IsBroughtInput input brought
+    → has ≡ has_lead_in (window_of class.version) brought
+    → alone ≡ fits_behind (window_of class.version) 0 (drop 1 input.needs.now)
+    → joint_without_lead_in class run brought
+    ≡ (if has && not alone then option_map (joint_with LeadIn)
+    (joining_frames (window_of class.version) run (drop 1 brought.frames)) else None)
+unfolding joint_without_lead_in
+without-is class run input brought has alone is leads fits =
+    let same : fits_behind (window_of class.version) 0 (needs_of (drop 1 brought.frames)) ≡ alone =
+    sym (fits ∙ ap (fits_behind (window_of class.version) 0)
+    (ap (drop 1) is.needs ∙ drop-map (λ (f : RunFrame). f.need) 1 brought.frames)) in
+    ap₂ (λ (h a : Bool). if h && not a then option_map (joint_with LeadIn)
+    (joining_frames (window_of class.version) run (drop 1 brought.frames))
+    else None) (sym leads) same
+
+abbrev WithoutIf : ClassFields → List RunFrame → Brought → Bool → Option JointFrames
+WithoutIf class run brought b = if b then option_map (joint_with LeadIn)
+    (joining_frames (window_of class.version) run (drop 1 brought.frames)) else None
+
+-- it has none
+pub without-lead : (class : ClassFields) (run : List RunFrame) (input : Input) (brought : Brought)
+    (has : Bool) → IsBroughtInput input brought
+    → has ≡ has_lead_in (window_of class.version) brought → has ≡ false
+    → AreJoint (joint_without_lead_in class run brought) None
+without-lead class run input brought has is leads none =
+    let alone : Bool = fits_behind (window_of class.version) 0 (drop 1 input.needs.now) in
+    subst (λ o. AreJoint o None) (sym (without-is class run input brought has alone is leads refl
+    ∙ ap (WithoutIf class run brought) (and_left has (not alone) none))) tt
+
+-- it isn't wanted
+pub without-want : (class : ClassFields) (run : List RunFrame) (input : Input) (brought : Brought)
+    (has alone : Bool) → IsBroughtInput input brought
+    → has ≡ has_lead_in (window_of class.version) brought
+    → alone ≡ fits_behind (window_of class.version) 0 (drop 1 input.needs.now) → alone ≡ true
+    → AreJoint (joint_without_lead_in class run brought) None
+without-want class run input brought has alone is leads fits true_is =
+    subst (λ o. AreJoint o None) (sym (without-is class run input brought has alone is leads fits
+    ∙ ap (WithoutIf class run brought) (and_right has (not alone) (not_from_true alone true_is))))
+    tt
+
+-- it is left out where the others can join
+pub without-some : (class : ClassFields) (run : List RunFrame) (input : Input) (brought : Brought)
+    (has alone : Bool) (result : Option CodeJoint) → IsBroughtInput input brought
+    → has ≡ has_lead_in (window_of class.version) brought → alone
+    ≡ fits_behind (window_of class.version) 0 (drop 1 input.needs.now) → has ≡ true → alone ≡ false
+    → AreJoint (option_map (joint_with LeadIn) (joining_frames (window_of class.version)
+    run (drop 1 brought.frames))) result → AreJoint (joint_without_lead_in class run brought) result
+without-some class run input brought has alone result is leads fits has_is alone_is joins =
+    subst (λ o. AreJoint o result)
+    (sym (without-is class run input brought has alone is leads fits ∙ ap (WithoutIf class run
+    brought) (and_from has (not alone) has_is (not_from_false alone alone_is)))) joins
+
+-- the frames of an input but for so many at its front need what is left of its needs
+pub needs-drop : (k : ℕ) (input : Input) (brought : Brought) → IsBroughtInput input brought
+    → drop k input.needs.now ≡ needs_of (drop k brought.frames)
+needs-drop k input brought is =
+    ap (drop k) is.needs ∙ drop-map (λ (f : RunFrame). f.need) k brought.frames
+
+-- ---- what is decided
+
+-- what becomes of an input is the first that is found of two
+pub joint-first : (x y : Option JointFrames) (z : JointFrames) (result : CodeJoint)
+    → AreJoint x (Some result) → IsJoint (unwrap_or (option_or x y) z) result
+joint-first None y z result is = absurd is
+joint-first (Some joint) y z result is = is
+
+-- if the first isn't found, it is the second
+pub joint-second : (x y : Option JointFrames) (z : JointFrames) (result : CodeJoint)
+    → AreJoint x None → AreJoint y (Some result) → IsJoint (unwrap_or (option_or x y) z) result
+joint-second None None z result first is = absurd is
+joint-second None (Some joint) z result first is = is
+joint-second (Some joint) y z result first is = absurd first
+
+-- if neither is found, it is the last
+pub joint-last : (x y : Option JointFrames) (z : JointFrames) (result : CodeJoint) → AreJoint x None
+    → AreJoint y None → IsJoint z result → IsJoint (unwrap_or (option_or x y) z) result
+joint-last None None z result first second is = is
+joint-last None (Some joint) z result first second is = absurd second
+joint-last (Some joint) y z result first second is = absurd first
+
+-- ---- what holds of it
+
+module _ (class : ClassFields) (run : List RunFrame) (before brought : Brought)
+    (P : JointFrames → Type 0)
+    (joins : (seam : Seam) (frames : List RunFrame)
+    → joining_frames (window_of class.version) run (drop (left_out_count seam) brought.frames)
+    ≡ Some frames → P (joint_with seam frames)) (all : P (whole_joint brought)) where
+  abbrev HoldsIf : Option JointFrames → Type 0
+  HoldsIf None = Unit {0}
+  HoldsIf (Some joint) = P joint
+
+  by-joining : (seam : Seam) (o : Option (List RunFrame))
+      → joining_frames (window_of class.version) run (drop (left_out_count seam) brought.frames) ≡ o
+      → HoldsIf (option_map (joint_with seam) o)
+  by-joining seam None is = tt
+  by-joining seam (Some frames) is = joins seam frames is
+
+  of-following : HoldsIf (following_joint class run before brought)
+  of-following = subst HoldsIf (sym (follow-is class run before brought))
+      (at (alike_overlap class run before brought))
+    where
+      at : (o : Option Overlap) → HoldsIf (option_and_then (follows_with class run brought) o)
+      at None = tt
+      at (Some overlap) =
+          by-joining (Follows overlap.frames)
+          (joining_frames (window_of class.version) run (drop overlap.frames brought.frames)) refl
+
+  of-without : HoldsIf (joint_without_lead_in class run brought)
+  unfolding joint_without_lead_in
+  of-without = at _
+    where
+      at : (b : Bool) → HoldsIf (if b then option_map (joint_with LeadIn)
+          (joining_frames (window_of class.version) run (drop 1 brought.frames)) else None)
+      at true =
+          by-joining LeadIn
+          (joining_frames (window_of class.version) run (drop 1 brought.frames)) refl
+      at false = tt
+
+  -- what holds of frames that join, with any seam, and of the whole input, holds of what becomes
+  -- of it
+  pub joint-by : P (joint_of class run before brought)
+  joint-by =
+      at (following_joint class run before brought)
+      (joint_without_lead_in class run brought) of-following
+      of-without
+    where
+      at : (x y : Option JointFrames) → HoldsIf x → HoldsIf y
+          → P (unwrap_or (option_or x y) (whole_joint brought))
+      at None None first second = all
+      at None (Some joint) first second = second
+      at (Some joint) y first second = first
+
+-- ---- the frames that are added
+
+-- what is decided adds the frames that are left, the first in its slot
+abbrev pub Adds : Brought → JointFrames → Type 0
+Adds brought joint =
+    (result : CodeJoint) → IsJoint joint result → needs_of joint.frames
+    ≡ joined_needs result.slot (drop (left_out_count joint.seam) (needs_of brought.frames))
+
+-- the frames that join, with any seam
+abbrev Moves : Seam → List RunFrame → Option (List RunFrame) → Type 0
+Moves seam rest None = Unit {0}
+Moves seam rest (Some frames) = (result : CodeJoint) → IsJoint (joint_with seam frames) result
+    → needs_of frames ≡ joined_needs result.slot (needs_of rest)
+
+joining-moves : (window : ℕ) (seam : Seam) (run rest : List RunFrame)
+    → Moves seam rest (joining_frames window run rest)
+unfolding joining_frames needs_with_first_slot
+joining-moves window seam run [] = λ result is. ap (λ o. joined_needs o []) (sym is.slot)
+joining-moves window seam run (f ∷ fs) = at (join_slot window (needs_of run) f.need (needs_of fs))
+  where
+    at : (o : Option SlotFields) → Moves seam (f ∷ fs) (option_map (λ s. frame_in_slot s f ∷ fs) o)
+    at None = tt
+    at (Some s) = λ result is. ap (λ o. joined_needs o (f.need ∷ needs_of fs)) (sym is.slot)
+
+all-moves : (frames : List RunFrame) (result : CodeJoint) → IsJoint (joint_with Whole frames) result
+    → needs_of frames ≡ joined_needs result.slot (needs_of frames)
+unfolding needs_with_first_slot
+all-moves [] result is = ap (λ o. joined_needs o []) (sym is.slot)
+all-moves (f ∷ fs) result is = ap (λ o. joined_needs o (f.need ∷ needs_of fs)) (sym is.slot)
+
+whole-adds : (brought : Brought) → Adds brought (whole_joint brought)
+whole-adds brought = all-moves brought.frames
+
+-- what becomes of an input adds its frames but for those that are left out
+pub joint-adds : (class : ClassFields) (run : List RunFrame) (before brought : Brought)
+    → Adds brought (joint_of class run before brought)
+joint-adds class run before brought =
+    joint-by class run before brought (Adds brought)
+    (λ seam frames is result joined.
+    let rest : List RunFrame = drop (left_out_count seam) brought.frames in
+    let window = window_of class.version in
+    subst (Moves seam rest) is (joining-moves window seam run rest) result joined
+    ∙ ap (joined_needs result.slot)
+    (sym (drop-map (λ (f : RunFrame). f.need) (left_out_count seam) brought.frames)))
+    (whole-adds brought)
+
+-- as many as are left
+pub length-moved : (slot : Option SlotFields) (needs : List Need)
+    → length (joined_needs slot needs) ≡ length needs
+unfolding needs_with_first_slot
+length-moved None needs = refl
+length-moved (Some slot) [] = refl
+length-moved (Some slot) (need ∷ needs) = refl
+
+-- all frames of an input are joined but for as many as its seam leaves out
+pub length-joint : (class : ClassFields) (run : List RunFrame) (before brought : Brought)
+    (result : CodeJoint) → IsJoint (joint_of class run before brought) result
+    → length (joint_of class run before brought).frames
+    ≡ length brought.frames - left_out_count (joint_of class run before brought).seam
+length-joint class run before brought result is =
+    let joint : JointFrames = joint_of class run before brought in
+    sym (length-map joint.frames (λ (f : RunFrame). f.need))
+    ∙ ap length (joint-adds class run before brought result is)
+    ∙ length-moved result.slot (drop (left_out_count joint.seam) (needs_of brought.frames))
+    ∙ length-drop (left_out_count joint.seam) (needs_of brought.frames)
+    ∙ ap (λ n. n - left_out_count joint.seam) (length-map brought.frames (λ (f : RunFrame). f.need))
+
+-- ---- a whole input
+
+-- an input that is left whole joins in the slot of its first frame
+pub whole-joint : (input : Input) (brought : Brought) (first : Need) → IsBroughtInput input brought
+    → 0 < length input.needs.now → first ≡ slice_index_or input.needs.now 0 first
+    → IsJoint (whole_joint brought) (record { seam = Whole; slot = Some first.header.slot })
+whole-joint input brought first is some at = record {
+  seam = refl;
+  slot = first-slot brought.frames first (subst (λ l. 0 < length l) is.needs some)
+      (subst (λ l. first ≡ slice_index_or l 0 first) is.needs at);
+}
+  where
+    first-slot : (frames : List RunFrame) (n : Need) → 0 < length (needs_of frames)
+        → n ≡ slice_index_or (needs_of frames) 0 n → Some n.header.slot
+        ≡ option_map (λ (f : RunFrame). f.need.header.slot) (slice_get frames 0)
+    first-slot [] n some at = absurd (omega (arith, some))
+    first-slot (f ∷ fs) n some at = ap (λ (m : Need). Some m.header.slot) at

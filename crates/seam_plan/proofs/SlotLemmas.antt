@@ -1,0 +1,59 @@
+-- Of slots whose areas ascend the first that passes a test is the least that does.
+use Rattle.std.proofs.Common.{ap, arith, Bool, cond, Contains, false, List, None, refl, Some, suc}
+use Rattle.std.proofs.{Common.{true, zero, [], ◌∙◌, ◌∷◌, ◌≡◌, ◌≤◌}, lemmas.Bool.both_ways}
+use Rattle.std.specs.Prelude.{find}
+use Rattle.frame_header.specs.{Fields.{ClassFields, SlotFields}, Tables.area_of}
+use Rattle.slot_plan.proofs.{AreaLemmas.Ascend, LeastPlanLemmas.{area-later, ascend-behind}}
+use Rattle.slot_plan.specs.Parts.{slot_areas}
+
+module _ (c : ClassFields) (p : Bool) (test : SlotFields → Bool) where
+  abbrev IsLeastIn : List SlotFields → SlotFields → Type 0
+  IsLeastIn slots slot = (other : SlotFields) → Contains slots other → test other ≡ true
+      → area_of c slot p ≤ area_of c other p
+
+  first-is : (s : SlotFields) (slots : List SlotFields) (slot : SlotFields)
+      → Ascend (slot_areas c p (s ∷ slots)) → Contains (s ∷ slots) slot → IsLeastIn (s ∷ slots) slot
+      → test s ≡ true → s ≡ slot
+  first-is s slots slot ascend (zero, within, at) least passes = at
+  first-is s slots slot ascend (suc k, within, at) least passes =
+      let later = area-later c p s slots slot ascend (k, omega (arith, within), at) in
+      let most = least s (zero, omega arith, refl) passes in
+      absurd (omega (arith, later, most))
+
+  behind : (s : SlotFields) (slots : List SlotFields) (slot : SlotFields)
+      → Contains (s ∷ slots) slot → test slot ≡ true → test s ≡ false → Contains slots slot
+  behind s slots slot (zero, within, at) passes fails =
+      absurd (both_ways (test s) fails (ap test at ∙ passes))
+  behind s slots slot (suc k, within, at) passes fails = (k, omega (arith, within), at)
+
+  -- it is found if it is, or else among the others
+  found : (s : SlotFields) (slots : List SlotFields) (slot : SlotFields) (b : Bool)
+      → (b ≡ true → s ≡ slot) → (b ≡ false → find test slots ≡ Some slot)
+      → cond b (Some s) (find test slots) ≡ Some slot
+  found s slots slot true here later = ap Some (here refl)
+  found s slots slot false here later = later refl
+
+  -- of slots with ascending areas the first that passes the test is the least that does
+  pub find-least : (slots : List SlotFields) (slot : SlotFields) → Ascend (slot_areas c p slots)
+      → Contains slots slot → test slot ≡ true → IsLeastIn slots slot → find test slots ≡ Some slot
+  find-least [] slot ascend has passes least = absurd (omega (arith, has.1))
+  find-least (s ∷ slots) slot ascend has passes least =
+      found s slots slot (test s) (first-is s slots slot ascend has least)
+      (λ is. find-least slots slot (ascend-behind (area_of c s p) (slot_areas c p slots) ascend)
+      (behind s slots slot has passes is) passes
+      (λ other there. least other (suc there.0, omega (arith, there.1), there.2)))
+
+none-found : (test : SlotFields → Bool) (s : SlotFields) (slots : List SlotFields) (b : Bool)
+    → (b ≡ true → ⊥) → (b ≡ false → find test slots ≡ None)
+    → cond b (Some s) (find test slots) ≡ None
+none-found test s slots true never later = absurd (never refl)
+none-found test s slots false never later = later refl
+
+-- if no slot passes the test, none is found
+pub find-none : (test : SlotFields → Bool) (slots : List SlotFields)
+    → ((other : SlotFields) → Contains slots other → test other ≡ true → ⊥) → find test slots ≡ None
+find-none test [] none = refl
+find-none test (s ∷ slots) none =
+    none-found test s slots (test s) (none s (zero, omega arith, refl))
+    (λ is. find-none test slots
+    (λ other there. none other (suc there.0, omega (arith, there.1), there.2)))

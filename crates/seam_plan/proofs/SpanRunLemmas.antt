@@ -1,0 +1,379 @@
+-- Spans of one recording, of which neighbours share frames, follow each other and are joined to all
+-- their frames.
+use Rattle.std.proofs.Common.{ap, append-nil, append_assoc, ap₂, arith, drop, eqb, length, List}
+use Rattle.std.proofs.Common.{min, None, Option, refl, Some, subst, sym, take, take-add, true, ℕ}
+use Rattle.std.proofs.Common.{[], ◌%◌, ◌*◌, ◌++◌, ◌+◌, ◌-◌, ◌/◌, ◌<◌, ◌∙◌, ◌∷◌, ◌≡◌, ◌≤◌}
+use Rattle.std.proofs.{Math.Seq.drop-append-add, lemmas.Bool.{and_from, le-leb}}
+use Rattle.std.proofs.lemmas.List.{drop-drop, drop-map, drop-take, length-append, length-drop}
+use Rattle.std.proofs.lemmas.List.{length-take-le, take-append-drop, take-take}
+use Rattle.std.{proofs.lemmas.Slice.Eq.bytes_eq-Decides, specs.{List.list_all, Option.option_or}}
+use Rattle.std.specs.Prelude.{bytes_eq, if◌then◌else◌, nat_le, option_and_then, option_map}
+use Rattle.std.specs.Prelude.{slice_range, unwrap_or, ◌&&◌}
+use Rattle.exact_span.specs.{Overlaps.shared_overlap, PlayedPositions.{rest_of, samples_in}}
+use Rattle.exact_span.specs.declared.{overlap.Overlap.Overlap, played.Played.Played}
+use Rattle.frame_header.specs.{Fields.ClassFields, Tables.{samples_of, window_of}}
+use Rattle.frame_header.specs.declared.version.Version.{Version, TheVariants.{One, Two, TwoFive}}
+use Rattle.seam_plan.proofs.{FitLemmas.fits-tested, FollowLemmas.added}
+use Rattle.seam_plan.proofs.PieceRunLemmas.{empty-fits, front-fits, known-behind, known-front}
+use Rattle.seam_plan.{proofs.PieceRunLemmas.own-joining, specs.Frames.{Brought, needs_of, RunFrame}}
+use Rattle.seam_plan.specs.Joins.{fits_behind, joining_frames}
+use Rattle.seam_plan.specs.Laws.{AreEmptyFrames, AreHeadersKnown, AreSpansOf, is_following_seam}
+use Rattle.seam_plan.specs.Laws.{IsSpanOf, spans_end, SpansAreOneRun}
+use Rattle.seam_plan.specs.Seams.{are_frames_alike, compared_frames, ends_alike, following_joint}
+use Rattle.seam_plan.specs.Seams.{joint_of, joint_with, joint_without_lead_in, JointFrames}
+use Rattle.seam_plan.specs.Seams.{joints_from, overlap_joint, overlap_of, whole_joint}
+use Rattle.seam_plan.specs.declared.seam.Seam.TheVariants.{Follows}
+use Rattle.slot_plan.proofs.FreeByteLemmas.{fits-drop}
+
+-- ---- ranges of frames
+
+module _ (all : List RunFrame) where
+  drop-range : (from to k : ℕ) → k ≤ to - from
+      → drop k (slice_range all from to) ≡ slice_range all (from + k) to
+  drop-range from to k few =
+      let many : to - from ≡ k + (to - (from + k)) = omega (arith, few) in
+      ap (λ n. drop k (take n (drop from all))) many
+      ∙ drop-take k (to - (from + k)) (drop from all)
+      ∙ ap (take (to - (from + k))) (drop-drop k from all)
+
+  take-range : (from to k : ℕ) → k ≤ to - from
+      → take k (slice_range all from to) ≡ slice_range all from (from + k)
+  take-range from to k few =
+      let many : k ≡ from + k - from = omega arith in
+      take-take k (to - from) (drop from all) few ∙ ap (λ n. take n (drop from all)) many
+
+  length-range : (from to : ℕ) → to ≤ length all → length (slice_range all from to) ≡ to - from
+  length-range from to within =
+      length-take-le (to - from) (drop from all) (omega (arith, length-drop from all, within))
+
+  range-append : (a b c : ℕ) → a ≤ b → b ≤ c
+      → slice_range all a b ++ slice_range all b c ≡ slice_range all a c
+  range-append a b c first second =
+      let there : a + (b - a) ≡ b = omega (arith, first) in
+      let many : (b - a) + (c - b) ≡ c - a = omega (arith, first, second) in
+      ap (λ l. take (b - a) (drop a all) ++ take (c - b) l)
+      (ap (λ n. drop n all) (sym there) ∙ sym (drop-drop (b - a) a all))
+      ∙ sym (take-add (b - a) (c - b) (drop a all)) ∙ ap (λ n. take n (drop a all)) many
+
+  range-known : (from to : ℕ) → AreHeadersKnown all → AreHeadersKnown (slice_range all from to)
+  range-known from to known =
+      let behind = known-behind (take from all) (drop from all)
+      (subst AreHeadersKnown (sym (take-append-drop from all)) known) in
+      known-front (take (to - from) (drop from all)) (drop (to - from) (drop from all))
+      (subst AreHeadersKnown (sym (take-append-drop (to - from) (drop from all))) behind)
+
+  range-fits : (window from to : ℕ) → fits_behind window window (needs_of all) ≡ true
+      → fits_behind window window (needs_of (slice_range all from to)) ≡ true
+  range-fits window from to fits =
+      let behind = fits-drop window window from (needs_of all)
+      ((fits-tested window window (needs_of all)).0 fits) in
+      let behind_is : fits_behind window window (needs_of (drop from all)) ≡ true =
+      ap (fits_behind window window) (sym (drop-map (λ (f : RunFrame). f.need) from all))
+      ∙ (fits-tested window window (drop from (needs_of all))).1 behind in
+      front-fits window window (take (to - from) (drop from all))
+      (drop (to - from) (drop from all))
+      (ap (λ (l : List RunFrame). fits_behind window window (needs_of l))
+      (take-append-drop (to - from) (drop from all)) ∙ behind_is)
+
+leads-fit : (window : ℕ) (leads xs : List RunFrame) → AreEmptyFrames leads
+    → fits_behind window window (needs_of xs) ≡ true
+    → fits_behind window window (needs_of (leads ++ xs)) ≡ true
+leads-fit window [] xs empty fits = fits
+leads-fit window (f ∷ leads) xs empty fits =
+    empty-fits window f (leads ++ xs) empty.0 (leads-fit window leads xs empty.1 fits)
+
+-- frames are alike themselves
+alike-same : (fs : List RunFrame) → are_frames_alike fs fs ≡ true
+unfolding are_frames_alike
+alike-same [] = refl
+alike-same (f ∷ fs) =
+    and_from (bytes_eq f.sound f.sound) (are_frames_alike fs fs)
+    ((bytes_eq-Decides f.sound f.sound).1 refl)
+    (alike-same fs)
+
+-- ---- how many frames are shared
+
+record AreShared (v : Version) (start rest shared frames : ℕ) : Type 0 where
+  test : (eqb ((start + rest) % samples_of v) 0 && nat_le ((start + rest) / samples_of v) frames)
+      ≡ true
+  whole : (start + rest) / samples_of v ≡ shared
+
+shared-by : (v : Version) (start rest shared frames : ℕ) → shared ≤ frames
+    → (start + rest) % samples_of v ≡ 0 → (start + rest) / samples_of v ≡ shared
+    → AreShared v start rest shared frames
+shared-by v start rest shared frames there none whole_joint = record {
+  test = and_from (eqb ((start + rest) % samples_of v) 0)
+      (nat_le ((start + rest) / samples_of v) frames) (ap (λ n. eqb n 0) none)
+      (le-leb ((start + rest) / samples_of v) frames (omega (arith, whole_joint, there)));
+  whole = whole_joint;
+}
+
+are-shared : (v : Version) (start rest shared frames : ℕ)
+    → start + rest ≡ shared * samples_of v → shared ≤ frames
+    → AreShared v start rest shared frames
+are-shared One start rest shared frames same there =
+    shared-by One start rest shared frames there (omega (arith, same)) (omega (arith, same))
+are-shared Two start rest shared frames same there =
+    shared-by Two start rest shared frames there (omega (arith, same)) (omega (arith, same))
+are-shared TwoFive start rest shared frames same there =
+    shared-by TwoFive start rest shared frames there (omega (arith, same)) (omega (arith, same))
+
+-- the sum of what is before the first played position of a span and after the last of the one
+-- before it
+sum-is : (v : Version) (start end leads leads_before from from_before last mid : ℕ)
+    → start + from * samples_of v ≡ mid + leads * samples_of v
+    → end + from_before * samples_of v ≡ mid + leads_before * samples_of v
+    → mid ≤ last * samples_of v → from < last → from_before ≤ last
+    → start + ((leads_before + (last - from_before)) * samples_of v - end)
+    ≡ (leads + last - from) * samples_of v
+sum-is One start end leads leads_before from from_before last mid starts ends most some before =
+    omega (arith, starts, ends, most, some, before)
+sum-is Two start end leads leads_before from from_before last mid starts ends most some before =
+    omega (arith, starts, ends, most, some, before)
+sum-is TwoFive start end leads leads_before from from_before last mid starts ends most some before =
+    omega (arith, starts, ends, most, some, before)
+
+first-late : (v : Version) (start leads from mid : ℕ)
+    → start + from * samples_of v ≡ mid + leads * samples_of v → from * samples_of v ≤ mid
+    → leads ≤ start / samples_of v
+first-late One start leads from mid starts before = omega (arith, starts, before)
+first-late Two start leads from mid starts before = omega (arith, starts, before)
+first-late TwoFive start leads from mid starts before = omega (arith, starts, before)
+
+below-last : (v : Version) (from last mid : ℕ) → from * samples_of v < mid
+    → mid ≤ last * samples_of v → from < last
+below-last One from last mid early most = omega (arith, early, most)
+below-last Two from last mid early most = omega (arith, early, most)
+below-last TwoFive from last mid early most = omega (arith, early, most)
+
+-- ---- a span behind the one before it
+
+module _ (class : ClassFields) (all : List RunFrame) (known : AreHeadersKnown all)
+    (fits : fits_behind (window_of class.version) (window_of class.version) (needs_of all) ≡ true)
+  where
+    abbrev window : ℕ
+    window = window_of class.version
+
+    module _ (leads : List RunFrame) (empty : AreEmptyFrames leads) (low begin mid end : ℕ)
+        (before input : Brought) (one : IsSpanOf class all begin mid before)
+        (is : IsSpanOf class all mid end input) (late : low ≤ is.from) (low_last : low ≤ one.to)
+        (early : is.from * samples_in class < mid) (on : one.to ≤ is.to) where
+      abbrev last : ℕ
+      last = one.to
+
+      abbrev run : List RunFrame
+      run = leads ++ slice_range all low last
+
+      abbrev z : ℕ
+      z = length is.lead_ins
+
+      abbrev shared : ℕ
+      shared = z + last - is.from
+
+      abbrev first : ℕ
+      first = min (is.played.start / samples_in class) (shared - 1)
+
+      abbrev made : ℕ → Overlap
+      made n = record {
+        frames = n;
+        first_alike = min (is.played.start / samples_in class) (n - 1);
+      }
+
+      abbrev overlap : Overlap
+      overlap = made shared
+
+      some : is.from < last
+      some = below-last class.version is.from last mid early one.behind
+
+      before-many : length before.frames ≡ length one.lead_ins + (last - one.from)
+      before-many =
+          ap (λ (l : List RunFrame). length l) one.frames_are
+          ∙ length-append one.lead_ins (slice_range all one.from last)
+          ∙ ap (λ n. length one.lead_ins + n) (length-range all one.from last one.within)
+
+      input-many : length input.frames ≡ z + (is.to - is.from)
+      input-many =
+          ap (λ (l : List RunFrame). length l) is.frames_are
+          ∙ length-append is.lead_ins (slice_range all is.from is.to)
+          ∙ ap (λ n. z + n) (length-range all is.from is.to is.within)
+
+      sum : is.played.start + rest_of class (length before.frames) one.played
+          ≡ shared * samples_in class
+      sum =
+          ap (λ n. is.played.start + rest_of class n one.played) before-many
+          ∙ sum-is class.version is.played.start one.played.end z (length one.lead_ins) is.from
+          one.from
+          last mid is.start one.ended one.behind some (omega (arith, one.some))
+
+      within : shared ≤ length input.frames
+      within = omega (arith, input-many, on, some)
+
+      overlap-is : overlap_of class before input ≡ Some overlap
+      unfolding shared_overlap
+      overlap-is =
+          let rest : ℕ = rest_of class (length before.frames) one.played in
+          let are = are-shared class.version is.played.start rest shared (length input.frames) sum
+          within in
+          ap₂ (λ (o r : Option Played).
+          option_and_then (λ (p : Played). option_and_then (λ (q : Played).
+          shared_overlap class
+          (rest_of class (length before.frames) p) q.start (length input.frames)) r)
+          o)
+          one.counted is.counted
+          ∙ ap (λ b. if b then Some (made ((is.played.start + rest) / samples_in class)) else None)
+          are.test
+          ∙ ap (λ n. Some (made n)) are.whole
+
+      leads-before : z ≤ first
+      leads-before =
+          omega (
+            arith,
+            first-late class.version is.played.start z is.from mid is.start is.before,
+            some,
+          )
+
+      -- the frames of the input from one behind its lead-ins on
+      input-drop : (k : ℕ) → z ≤ k → k ≤ length input.frames
+          → drop k input.frames ≡ slice_range all (is.from + (k - z)) is.to
+      input-drop k behind few =
+          let there : k ≡ z + (k - z) = omega (arith, behind) in
+          ap₂ (λ (n : ℕ) (l : List RunFrame). drop n l) there is.frames_are
+          ∙ drop-append-add is.lead_ins (slice_range all is.from is.to) (k - z)
+          ∙ drop-range all is.from is.to (k - z) (omega (arith, few, input-many))
+
+      abbrev alike_from : ℕ
+      alike_from = is.from + (first - z)
+
+      compared-is : compared_frames overlap input ≡ slice_range all alike_from last
+      compared-is =
+          let end_is : alike_from + (shared - first) ≡ last = omega (arith, leads-before, some) in
+          ap (take (shared - first)) (input-drop first leads-before (omega (arith, within)))
+          ∙ take-range all alike_from is.to (shared - first) (omega (arith, leads-before, some, on))
+          ∙ ap (slice_range all alike_from) end_is
+
+      compared-many : length (compared_frames overlap input) ≡ last - alike_from
+      compared-many =
+          ap (λ (l : List RunFrame). length l) compared-is
+          ∙ length-range all alike_from last one.within
+
+      run-many : length run ≡ length leads + (last - low)
+      run-many =
+          length-append leads (slice_range all low last)
+          ∙ ap (λ n. length leads + n) (length-range all low last one.within)
+
+      run-drop : drop (length run - length (compared_frames overlap input)) run
+          ≡ slice_range all alike_from last
+      run-drop =
+          let there : length run - length (compared_frames overlap input)
+          ≡ length leads + (alike_from - low) =
+          omega (arith, run-many, compared-many, late, low_last, leads-before, some) in
+          let from_is : low + (alike_from - low) ≡ alike_from = omega (arith, late) in
+          ap (λ n. drop n run) there
+          ∙ drop-append-add leads (slice_range all low last) (alike_from - low)
+          ∙ drop-range all low last (alike_from - low) (omega (arith, leads-before, some, late))
+          ∙ ap (λ n. slice_range all n last) from_is
+
+      alike : ends_alike run (compared_frames overlap input) ≡ true
+      alike =
+          and_from (nat_le (length (compared_frames overlap input)) (length run))
+          (are_frames_alike (drop (length run - length (compared_frames overlap input)) run)
+          (compared_frames overlap input))
+          (le-leb (length (compared_frames overlap input)) (length run)
+          (omega (arith, run-many, compared-many, late)))
+          (ap₂ (λ (x y : List RunFrame). are_frames_alike x y) run-drop compared-is
+          ∙ alike-same (slice_range all alike_from last))
+
+      added-is : drop shared input.frames ≡ slice_range all last is.to
+      added-is =
+          let there : is.from + (shared - z) ≡ last = omega (arith, some) in
+          input-drop shared (omega (arith, some)) within ∙ ap (λ n. slice_range all n is.to) there
+
+      run-on : run ++ slice_range all last is.to ≡ leads ++ slice_range all low is.to
+      run-on =
+          append_assoc leads (slice_range all low last) (slice_range all last is.to)
+          ∙ ap (λ (l : List RunFrame). leads ++ l) (range-append all low last is.to low_last on)
+
+      joins : joining_frames window run (drop shared input.frames)
+          ≡ Some (slice_range all last is.to)
+      joins =
+          ap (joining_frames window run) added-is
+          ∙ own-joining window run (slice_range all last is.to) (range-known all last is.to known)
+          (ap (λ (l : List RunFrame). fits_behind window window (needs_of l)) run-on
+          ∙ leads-fit window leads (slice_range all low is.to) empty
+          (range-fits all window low is.to fits))
+
+      span-joint : joint_of class run before input
+          ≡ joint_with (Follows shared) (slice_range all last is.to)
+      unfolding following_joint
+      span-joint =
+          ap (λ o. unwrap_or
+          (option_or (option_and_then (overlap_joint class run input) o)
+          (joint_without_lead_in class run input))
+          (whole_joint input)) overlap-is
+          ∙ ap (λ b. unwrap_or
+          (option_or
+          (if b then option_map (joint_with (Follows shared))
+          (joining_frames window run (drop shared input.frames))
+          else None) (joint_without_lead_in class run input)) (whole_joint input)) alike
+          ∙ ap (λ o. unwrap_or
+          (option_or (option_map (joint_with (Follows shared)) o)
+          (joint_without_lead_in class run input))
+          (whole_joint input)) joins
+
+    -- ---- all spans
+
+    spans-joints : (leads : List RunFrame) → AreEmptyFrames leads
+        → (low begin mid : ℕ) (before : Brought)
+        (one : IsSpanOf class all begin mid before) → low ≤ one.to
+        → (inputs : List Brought) (points : List ℕ)
+        (are : AreSpansOf class all low one.to mid inputs points) →
+        let joints = joints_from class (leads ++ slice_range all low one.to) before inputs in
+        (list_all (λ (j : JointFrames). is_following_seam j.seam) joints ≡ true)
+        × ((leads ++ slice_range all low one.to) ++ added joints
+        ≡ leads ++ slice_range all low (spans_end class all low one.to mid inputs points are))
+    unfolding joints_from
+    spans-joints leads empty low begin mid before one low_last [] [] are =
+        (refl, append-nil (leads ++ slice_range all low one.to))
+    spans-joints leads empty low begin mid before one low_last [] (end ∷ points) are = absurd are
+    spans-joints leads empty low begin mid before one low_last (input ∷ inputs) [] are = absurd are
+    spans-joints leads empty low begin mid before one low_last (input ∷ inputs) (end ∷ points) are =
+        let is = are.0 in
+        let run : List RunFrame = leads ++ slice_range all low one.to in
+        let here = span-joint leads empty low begin mid end before input one is are.1 low_last are.2
+        are.3 in
+        let x : ℕ = length is.lead_ins + one.to - is.from in
+        let made : JointFrames = joint_with (Follows x) (slice_range all one.to is.to) in
+        let more =
+        spans-joints leads empty low mid end input is (omega (arith, low_last, are.3)) inputs
+        points are.4 in
+        let on = run-on leads empty low begin mid end before input one is are.1 low_last are.2
+        are.3 in
+        let later : List RunFrame → List JointFrames = λ l. joints_from class l input inputs in (
+          ap (λ (j : JointFrames). is_following_seam j.seam
+              && list_all (λ (k : JointFrames). is_following_seam k.seam)
+              (joints_from class (run ++ j.frames) input inputs))
+              here
+              ∙ ap (λ (l : List RunFrame). list_all (λ (k : JointFrames). is_following_seam k.seam)
+              (later l)) on
+              ∙ more.0,
+          ap (λ (j : JointFrames).
+              run ++ (j.frames ++ added (joints_from class (run ++ j.frames) input inputs)))
+              here
+              ∙ sym (append_assoc run made.frames (added (later (run ++ made.frames))))
+              ∙ ap (λ (l : List RunFrame). l ++ added (later l)) on
+              ∙ more.1,
+        )
+
+-- each span follows, and the run has all frames once
+pub spans-one-run : SpansAreOneRun
+spans-one-run class all begin end first inputs points is are known fits =
+    let low_to : is.from ≤ is.to = omega (arith, is.some) in
+    let spans =
+    spans-joints class all known fits is.lead_ins is.empty is.from begin end first is low_to
+    inputs points are in (
+      ap (λ (l : List RunFrame). list_all (λ (j : JointFrames). is_following_seam j.seam)
+          (joints_from class l first inputs))
+          is.frames_are ∙ spans.0,
+      ap (λ (l : List RunFrame). l ++ added (joints_from class l first inputs)) is.frames_are
+          ∙ spans.1,
+    )

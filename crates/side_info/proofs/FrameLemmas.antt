@@ -1,0 +1,417 @@
+-- What stays, and what is read back, where other side information is put into a frame.
+use Rattle.std.proofs.Common.{ap, append_assoc, ap₂, arith, bit_xor, Bool, cond, drop, false}
+use Rattle.std.proofs.Common.{get_or, length, length-append, length-drop, List, lit<, refl, suc}
+use Rattle.std.proofs.Common.{sym, take, take-append-drop, true, zero, ℕ, [], ◌%◌, ◌*◌, ◌++◌, ◌+◌}
+use Rattle.std.proofs.Common.{◌<◌, ◌^◌, ◌∙◌, ◌∷◌, ◌≡◌, ◌≤◌}
+use Rattle.std.proofs.lemmas.List.{drop-drop, drop_at, length-take, take-take, take_at}
+use Rattle.std.proofs.lemmas.Nat.{from_be_bytes-to_be_bytes_2, mod_below, xor_lt}
+use Rattle.std.specs.Int.{from_be_bytes, to_be_bytes, w16}
+use Rattle.bit_fields.proofs.BitsLemmas.{AreBelow-drop, AreBelow-take, AreBits-bits}
+use Rattle.bit_fields.proofs.BitsLemmas.{AreBits-bits_of, bits-bits_of, bits-bytes, bits-one}
+use Rattle.bit_fields.proofs.BitsLemmas.{bytes-bits, length-bits, length-bits_of, length-bytes}
+use Rattle.bit_fields.proofs.BitsLemmas.{number-bits-push, number-bits_of-below}
+use Rattle.bit_fields.specs.Bits.{AreBytes, bits, bits_of, bytes, number}
+use Rattle.frame_header.specs.Fields.{ClassFields, HeaderFields, IsClass}
+use Rattle.frame_header.specs.Tables.{class_of, overhead_of, side_size_of}
+use Rattle.side_info.proofs.ReadLemmas.{side_size-small}
+use Rattle.side_info.proofs.SideLemmas.{AreBits-side_bits, IsShaped, IsShaped-side_at}
+use Rattle.side_info.proofs.SideLemmas.{length-side_bits, side_at-side_bits, side_bits-side_at}
+use Rattle.side_info.proofs.SideLemmas.{SideFits-side_at}
+use Rattle.side_info.specs.CheckWord.{check_word_of, crc_bit, crc_start, polynomial, remainder}
+use Rattle.side_info.specs.Frame.{crc_part, frame_with_side, side_in, side_part, side_place}
+use Rattle.side_info.specs.{Frame.stored_crc, Side.{side_at, side_bits, SideFits}}
+use Rattle.side_info.specs.declared.side.Side.{Side}
+
+-- ---- a word of two bytes
+
+number-two : (a b : ℕ) → AreBytes (a ∷ b ∷ [])
+    → number (bits (a ∷ b ∷ [])) ≡ from_be_bytes w16 (a ∷ b ∷ [])
+number-two a b h =
+    let one : number (bits (a ∷ [])) ≡ a = ap number (bits-one a) ∙ number-bits_of-below 8 a h.0 in
+    let two : number (bits (a ∷ b ∷ [])) ≡ number (bits (a ∷ [])) * 256 + b =
+    number-bits-push (a ∷ []) b h.1.0 in
+    omega arith
+
+-- two bytes are the big-endian number that their bits spell
+pub number-word : (xs : List ℕ) → length xs ≡ 2 → AreBytes xs
+    → number (bits xs) ≡ from_be_bytes w16 xs
+number-word (a ∷ b ∷ []) l h = number-two a b h
+number-word xs l h = absurd (omega arith)
+
+AreBytes-word : (n : ℕ) → AreBytes (to_be_bytes w16 n)
+AreBytes-word n = (mod_below _ 256 (lit< tt), (mod_below _ 256 (lit< tt), tt))
+
+bits-word : (n : ℕ) → n < 2 ^ 16 → bits (to_be_bytes w16 n) ≡ bits_of 16 n
+bits-word n h =
+    bits-bits_of (to_be_bytes w16 n) ∙ ap (bits_of 16)
+    (number-word (to_be_bytes w16 n) refl (AreBytes-word n) ∙ from_be_bytes-to_be_bytes_2 n h)
+
+-- a number of 16 bits is written as the two bytes of its bits
+pub bytes-word : (n : ℕ) → n < 2 ^ 16 → to_be_bytes w16 n ≡ bytes (bits_of 16 n)
+bytes-word n h = sym (bytes-bits (to_be_bytes w16 n) (AreBytes-word n)) ∙ ap bytes (bits-word n h)
+
+-- ---- bytes between others
+
+-- ---- the check word that is in a frame
+
+-- the number of a frame's fifth and sixth byte is that of the 16 bits after the header
+pub word_at : (frame : List ℕ) → 6 ≤ length frame → AreBytes frame
+    → get_or frame 4 0 * 256 + get_or frame 5 0 ≡ number (bits (take 2 (drop 4 frame)))
+word_at (a ∷ b ∷ c ∷ d ∷ e ∷ f ∷ rest) long all =
+    sym (number-two e f (all.1.1.1.1.0, (all.1.1.1.1.1.0, tt)))
+word_at frame long all = absurd (omega arith)
+
+-- ---- room for what is before the area
+
+-- the frame is long enough for what is before its area
+abbrev pub HasRoom : HeaderFields → List ℕ → Type 0
+HasRoom h frame = overhead_of (class_of h) h.protected ≤ length frame
+
+-- before the area is what is before the side information, and the side information
+pub overhead-is : (c : ClassFields) (protected : Bool)
+    → overhead_of c protected ≡ side_place protected + side_size_of c
+unfolding overhead_of
+overhead-is c protected = refl
+
+-- in a protected frame it is six bytes and the side information
+pub overhead-protected : (h : HeaderFields) → h.protected ≡ true
+    → overhead_of (class_of h) h.protected ≡ 6 + side_size_of (class_of h)
+overhead-protected h is =
+    overhead-is (class_of h) h.protected ∙ ap (λ b. side_place b + side_size_of (class_of h)) is
+
+-- in an unprotected frame it is four bytes and the side information
+pub overhead-unprotected : (h : HeaderFields) → h.protected ≡ false
+    → overhead_of (class_of h) h.protected ≡ 4 + side_size_of (class_of h)
+overhead-unprotected h is =
+    overhead-is (class_of h) h.protected ∙ ap (λ b. side_place b + side_size_of (class_of h)) is
+
+place-least : (protected : Bool) → 4 ≤ side_place protected
+place-least true = omega arith
+place-least false = omega arith
+
+place-most : (protected : Bool) → side_place protected ≤ 6
+place-most true = omega arith
+place-most false = omega arith
+
+-- the area never begins before the fifth byte
+pub overhead-least : (c : ClassFields) (protected : Bool) → 4 ≤ overhead_of c protected
+overhead-least c protected = omega (arith, overhead-is c protected, place-least protected)
+
+-- before the area are at most six bytes and the side information
+pub overhead-most : (c : ClassFields) (protected : Bool)
+    → overhead_of c protected ≤ 6 + side_size_of c
+overhead-most c protected = omega (arith, overhead-is c protected, place-most protected)
+
+-- before the area are at most 38 bytes
+pub overhead-few : (c : ClassFields) (protected : Bool) → overhead_of c protected ≤ 38
+overhead-few c protected = omega (arith, overhead-most c protected, side_size-small c)
+
+-- a frame with room has at least the header and the side information
+pub room-least : (h : HeaderFields) (frame : List ℕ) → HasRoom h frame
+    → 4 + side_size_of (class_of h) ≤ length frame
+room-least h frame room =
+    omega (arith, room, overhead-is (class_of h) h.protected, place-least h.protected)
+
+-- a protected frame with room has a header and a check word
+pub room-protected : (h : HeaderFields) (frame : List ℕ) → h.protected ≡ true → HasRoom h frame
+    → 6 ≤ length frame
+room-protected h frame is room =
+    omega (arith, room, overhead-is (class_of h) h.protected, ap side_place is)
+
+-- ---- a frame with other side information, by its parts
+
+-- a check word has two bytes
+pub length-word : (n : ℕ) → length (bytes (bits_of 16 n)) ≡ 2
+length-word n = length-bytes 2 (bits_of 16 n) (length-bits_of 16 n)
+
+-- a protected frame gets side information and the right check word, and keeps its header and area
+pub frame_with-protected : (h : HeaderFields) (s : Side) (frame : List ℕ) → h.protected ≡ true
+    → frame_with_side h s frame ≡ take 4 frame ++ (bytes (bits_of 16 (check_word_of h s))
+    ++ (bytes (side_bits (class_of h) s) ++ drop (6 + side_size_of (class_of h)) frame))
+unfolding frame_with_side overhead_of
+frame_with-protected h s frame is = rw is refl
+
+-- an unprotected frame gets side information, and keeps its header and area
+pub frame_with-unprotected : (h : HeaderFields) (s : Side) (frame : List ℕ) → h.protected ≡ false
+    → frame_with_side h s frame ≡ take 4 frame
+    ++ (bytes (side_bits (class_of h) s) ++ drop (4 + side_size_of (class_of h)) frame)
+unfolding frame_with_side overhead_of
+frame_with-unprotected h s frame is = rw is refl
+
+-- the header and the check word, where there is one, are what is before the side information
+pub length-word_part : (h : HeaderFields) (s : Side) (b : Bool)
+    → length (cond b (bytes (bits_of 16 (check_word_of h s))) []) + 4 ≡ side_place b
+length-word_part h s true = ap (λ n. n + 4) (length-word (check_word_of h s))
+length-word_part h s false = refl
+
+-- what a frame with other side information consists of
+record IsMade (h : HeaderFields) (s : Side) (frame : List ℕ) : Type 0 where
+  front : length (take 4 frame) ≡ 4
+  word : length (crc_part h s) + 4 ≡ side_place h.protected
+  part : length (bytes (side_bits (class_of h) s)) ≡ side_size_of (class_of h)
+  whole : frame_with_side h s frame
+      ≡ ((take 4 frame ++ crc_part h s) ++ bytes (side_bits (class_of h) s))
+      ++ drop (overhead_of (class_of h) h.protected) frame
+
+made : (h : HeaderFields) (s : Side) (frame : List ℕ) → IsClass (class_of h) → IsShaped s
+    → HasRoom h frame → IsMade h s frame
+unfolding frame_with_side
+made h s frame class shaped room =
+    let c = class_of h in
+    let part = bytes (side_bits c s) in
+    let rest = drop (overhead_of c h.protected) frame in
+    record {
+      front = omega
+          (arith, room, overhead-is c h.protected, place-least h.protected, length-take 4 frame);
+      word = length-word_part h s h.protected;
+      part = length-bytes (side_size_of c) (side_bits c s) (length-side_bits c class s shaped);
+      whole = sym (append_assoc (take 4 frame ++ crc_part h s) part rest
+          ∙ append_assoc (take 4 frame) (crc_part h s) (part ++ rest));
+    }
+
+-- ---- what stays
+
+-- a frame with other side information is as long as before
+pub length-frame_with : (h : HeaderFields) (s : Side) (frame : List ℕ) → IsClass (class_of h)
+    → IsShaped s → HasRoom h frame → length (frame_with_side h s frame) ≡ length frame
+length-frame_with h s frame class shaped room =
+    let is = made h s frame class shaped room in
+    let part = bytes (side_bits (class_of h) s) in
+    let rest = drop (overhead_of (class_of h) h.protected) frame in
+    omega (
+      arith,
+      room,
+      is.front,
+      is.word,
+      is.part,
+      ap length is.whole,
+      overhead-is (class_of h) h.protected,
+      length-append ((take 4 frame ++ crc_part h s) ++ part) rest,
+      length-append (take 4 frame ++ crc_part h s) part,
+      length-append (take 4 frame) (crc_part h s),
+      length-drop (overhead_of (class_of h) h.protected) frame,
+    )
+
+-- its header stays
+pub header-frame_with : (h : HeaderFields) (s : Side) (frame : List ℕ) → HasRoom h frame
+    → take 4 (frame_with_side h s frame) ≡ take 4 frame
+unfolding frame_with_side
+header-frame_with h s frame room =
+    take_at (take 4 frame) _ 4 (omega (arith, room-least h frame room, length-take 4 frame))
+
+-- the front of a frame with other side information, up to its area
+front_length : (h : HeaderFields) (s : Side) (frame : List ℕ) → IsMade h s frame
+    → length ((take 4 frame ++ crc_part h s) ++ bytes (side_bits (class_of h) s))
+    ≡ overhead_of (class_of h) h.protected
+front_length h s frame is =
+    omega (
+      arith,
+      is.front,
+      is.word,
+      is.part,
+      overhead-is (class_of h) h.protected,
+      length-append (take 4 frame ++ crc_part h s) (bytes (side_bits (class_of h) s)),
+      length-append (take 4 frame) (crc_part h s),
+    )
+
+-- its area stays
+pub area-frame_with : (h : HeaderFields) (s : Side) (frame : List ℕ) → IsClass (class_of h)
+    → IsShaped s → HasRoom h frame
+    → drop (overhead_of (class_of h) h.protected) (frame_with_side h s frame)
+    ≡ drop (overhead_of (class_of h) h.protected) frame
+area-frame_with h s frame class shaped room =
+    let is = made h s frame class shaped room in
+    ap (drop (overhead_of (class_of h) h.protected)) is.whole
+    ∙ drop_at _ (drop (overhead_of (class_of h) h.protected) frame)
+    (overhead_of (class_of h) h.protected) (front_length h s frame is)
+
+-- ---- what is read back
+
+-- its side information has the bytes of what was put in
+pub side_part-frame_with : (h : HeaderFields) (s : Side) (frame : List ℕ) → IsClass (class_of h)
+    → IsShaped s → HasRoom h frame
+    → side_part h (frame_with_side h s frame) ≡ bytes (side_bits (class_of h) s)
+unfolding side_part
+side_part-frame_with h s frame class shaped room =
+    let is = made h s frame class shaped room in
+    let part = bytes (side_bits (class_of h) s) in
+    let rest = drop (overhead_of (class_of h) h.protected) frame in
+    let front = take 4 frame ++ crc_part h s in
+    let place : length front ≡ side_place h.protected =
+    omega (arith, is.front, is.word, length-append (take 4 frame) (crc_part h s)) in
+    ap (λ (l : List ℕ). take (side_size_of (class_of h)) (drop (side_place h.protected) l))
+    (is.whole ∙ append_assoc front part rest)
+    ∙ ap (take (side_size_of (class_of h)))
+    (drop_at front (part ++ rest) (side_place h.protected) place)
+    ∙ take_at part rest (side_size_of (class_of h)) is.part
+
+-- what was put into it is read from it
+pub side_in-frame_with : (h : HeaderFields) (s : Side) (frame : List ℕ) → IsClass (class_of h)
+    → IsShaped s → SideFits (class_of h) s → HasRoom h frame
+    → side_in h (frame_with_side h s frame) ≡ s
+unfolding side_in
+side_in-frame_with h s frame class shaped fits room =
+    let c = class_of h in
+    let long = length-side_bits c class s shaped in
+    ap (λ (l : List ℕ). side_at c (bits l)) (side_part-frame_with h s frame class shaped room)
+    ∙ ap (side_at c) (bits-bytes (side_size_of c) (side_bits c s) (AreBits-side_bits c s) long)
+    ∙ side_at-side_bits c class s shaped fits
+
+step_below : (b : Bool) (word : ℕ) → word < 65536 → cond b word (bit_xor word polynomial) < 65536
+step_below true word few = few
+step_below false word few = xor_lt 16 word polynomial few (lit< tt)
+
+bit_step-below : (word bit : ℕ) → crc_bit word bit < 65536
+unfolding crc_bit
+bit_step-below word bit = step_below _ (word * 2 % 65536) (mod_below (word * 2) 65536 (lit< tt))
+
+remainder-below : (word : ℕ) (bs : List ℕ) → word < 65536 → remainder word bs < 65536
+unfolding remainder
+remainder-below word [] few = few
+remainder-below word (bit ∷ bs) few =
+    remainder-below (crc_bit word bit) bs (bit_step-below word bit)
+
+-- a check word has 16 bits
+pub check_word-below : (h : HeaderFields) (s : Side) → check_word_of h s < 65536
+unfolding check_word_of
+check_word-below h s = remainder-below crc_start _ (lit< tt)
+
+word_said-protected : (h : HeaderFields) (s : Side) (frame : List ℕ) → h.protected ≡ true
+    → HasRoom h frame → stored_crc (frame_with_side h s frame)
+    ≡ number (bits (bytes (bits_of 16 (check_word_of h s))))
+unfolding stored_crc
+word_said-protected h s frame is room =
+    let word = bytes (bits_of 16 (check_word_of h s)) in
+    let rest = bytes (side_bits (class_of h) s) ++ drop (6 + side_size_of (class_of h)) frame in
+    ap (λ (l : List ℕ). number (bits (take 2 (drop 4 l)))) (frame_with-protected h s frame is)
+    ∙ ap (λ (l : List ℕ). number (bits (take 2 l))) (drop_at (take 4 frame) (word ++ rest) 4
+    (omega (arith, room-least h frame room, length-take 4 frame)))
+    ∙ ap (λ (l : List ℕ). number (bits l)) (take_at word rest 2 (length-word (check_word_of h s)))
+
+-- the check word that was put in is the right one
+pub word_said-frame_with : (h : HeaderFields) (s : Side) (frame : List ℕ) → h.protected ≡ true
+    → HasRoom h frame → stored_crc (frame_with_side h s frame) ≡ check_word_of h s
+word_said-frame_with h s frame is room =
+    let word = check_word_of h s in
+    word_said-protected h s frame is room
+    ∙ ap number (bits-bytes 2 (bits_of 16 word) (AreBits-bits_of 16 word) (length-bits_of 16 word))
+    ∙ number-bits_of-below 16 word (check_word-below h s)
+
+-- ---- a frame whose side information is put in again
+
+-- of two side informations put in one after the other the last counts
+pub frame_with-again : (h : HeaderFields) (s t : Side) (frame : List ℕ) → IsClass (class_of h)
+    → IsShaped t → HasRoom h frame
+    → frame_with_side h s (frame_with_side h t frame) ≡ frame_with_side h s frame
+unfolding frame_with_side
+frame_with-again h s t frame class shaped room =
+    let part = bytes (side_bits (class_of h) s) in
+    ap₂ (λ (xs ys : List ℕ). xs ++ (crc_part h s ++ (part ++ ys)))
+    (header-frame_with h t frame room) (area-frame_with h t frame class shaped room)
+
+-- the check word of a protected frame is right
+abbrev pub IsRight : HeaderFields → List ℕ → Type 0
+IsRight h frame = h.protected ≡ true → stored_crc frame ≡ check_word_of h (side_in h frame)
+
+word_of-said : (frame : List ℕ) → AreBytes frame → 6 ≤ length frame
+    → bytes (bits_of 16 (stored_crc frame)) ≡ take 2 (drop 4 frame)
+unfolding stored_crc
+word_of-said frame all long =
+    let word = take 2 (drop 4 frame) in
+    let two : length word ≡ 2 =
+    omega (arith, long, length-take 2 (drop 4 frame), length-drop 4 frame) in
+    ap (λ n. bytes (bits_of (8 * n) (number (bits word)))) (sym two)
+    ∙ ap bytes (sym (bits-bits_of word))
+    ∙ bytes-bits word (AreBelow-take 256 2 (drop 4 frame) (AreBelow-drop 256 4 frame all))
+
+word_cases : (h : HeaderFields) (s : Side) (frame : List ℕ) (b : Bool) → h.protected ≡ b
+    → AreBytes frame → HasRoom h frame → (h.protected ≡ true → stored_crc frame ≡ check_word_of h s)
+    → cond b (bytes (bits_of 16 (check_word_of h s))) [] ++ drop (side_place b) frame ≡ drop 4 frame
+word_cases h s frame true is all room right =
+    ap (λ n. bytes (bits_of 16 n) ++ drop 6 frame) (sym (right is))
+    ∙ ap₂ (λ (xs ys : List ℕ). xs ++ ys) (word_of-said frame all (room-protected h frame is room))
+    (sym (drop-drop 2 4 frame))
+    ∙ take-append-drop 2 (drop 4 frame)
+word_cases h s frame false is all room right = refl
+
+-- the side information that is read from a frame has the bytes that are there
+pub side_there : (h : HeaderFields) (frame : List ℕ) → IsClass (class_of h) → AreBytes frame
+    → HasRoom h frame → bytes (side_bits (class_of h) (side_in h frame)) ≡ side_part h frame
+unfolding side_in side_part
+side_there h frame class all room =
+    let c = class_of h in
+    let behind = drop (side_place h.protected) frame in
+    let part = take (side_size_of c) behind in
+    let long : length part ≡ side_size_of c = omega (
+      arith,
+      room,
+      overhead-is c h.protected,
+      length-take (side_size_of c) behind,
+      length-drop (side_place h.protected) frame,
+    ) in
+    ap bytes (side_bits-side_at c class (bits part) (AreBits-bits part)
+    (length-bits part ∙ ap (λ n. 8 * n) long))
+    ∙ bytes-bits part (AreBelow-take 256 (side_size_of c) behind
+    (AreBelow-drop 256 (side_place h.protected) frame all))
+
+-- a frame stays as it is when its own side information is put in, if its check word is right
+pub frame_with-own : (h : HeaderFields) (frame : List ℕ) → IsClass (class_of h) → AreBytes frame
+    → HasRoom h frame → IsRight h frame → frame_with_side h (side_in h frame) frame ≡ frame
+unfolding frame_with_side side_part
+frame_with-own h frame class all room right =
+    let c = class_of h in
+    let s = side_in h frame in
+    let place = side_place h.protected in
+    let size = side_size_of c in
+    let behind = drop place frame in
+    let rest : drop (overhead_of c h.protected) frame ≡ drop size behind =
+    ap (λ n. drop n frame) (overhead-is c h.protected) ∙ sym (drop-drop size place frame) in
+    ap₂ (λ (xs ys : List ℕ). take 4 frame ++ (crc_part h s ++ (xs ++ ys)))
+    (side_there h frame class all room) rest
+    ∙ ap (λ (l : List ℕ). take 4 frame ++ (crc_part h s ++ l)) (take-append-drop size behind)
+    ∙ ap (λ (l : List ℕ). take 4 frame ++ l) (word_cases h s frame h.protected refl all room right)
+    ∙ take-append-drop 4 frame
+
+-- the side information read from a frame has lists as long as the arrays
+pub shaped-side_in : (h : HeaderFields) (frame : List ℕ) → IsShaped (side_in h frame)
+unfolding side_in
+shaped-side_in h frame = IsShaped-side_at (class_of h) (bits (side_part h frame))
+
+-- its fields are within their bits
+pub fits-side_in : (h : HeaderFields) (frame : List ℕ) → IsClass (class_of h)
+    → SideFits (class_of h) (side_in h frame)
+unfolding side_in
+fits-side_in h frame class = SideFits-side_at (class_of h) class (bits (side_part h frame))
+    (AreBits-bits (side_part h frame))
+
+-- ---- a frame that more bytes follow
+
+take-drop-take : (size from len : ℕ) (xs : List ℕ) → from + size ≤ len
+    → take size (drop from (take len xs)) ≡ take size (drop from xs)
+take-drop-take size zero len xs le = take-take size len xs (omega (arith, le))
+take-drop-take size (suc from) zero xs le = absurd (omega (arith, le))
+take-drop-take size (suc from) (suc len) [] le = refl
+take-drop-take size (suc from) (suc len) (x ∷ xs) le =
+    take-drop-take size from len xs (omega (arith, le))
+
+-- what is between two offsets, and what is from the later on, is all from the earlier on
+pub drop-take-append : (m n : ℕ) (xs : List ℕ) → m ≤ n → drop m (take n xs) ++ drop n xs ≡ drop m xs
+drop-take-append zero n xs le = take-append-drop n xs
+drop-take-append (suc m) zero xs le = absurd (omega (arith, le))
+drop-take-append (suc m) (suc n) [] le = refl
+drop-take-append (suc m) (suc n) (x ∷ xs) le = drop-take-append m n xs (omega (arith, le))
+
+-- the side information is the same in any first bytes of the frame that hold it
+pub side_in-take : (h : HeaderFields) (len : ℕ) (xs : List ℕ)
+    → overhead_of (class_of h) h.protected ≤ len → side_in h (take len xs) ≡ side_in h xs
+unfolding side_in side_part
+side_in-take h len xs room =
+    ap (λ (part : List ℕ). side_at (class_of h) (bits part))
+    (take-drop-take (side_size_of (class_of h)) (side_place h.protected) len xs
+    (omega (arith, room, overhead-is (class_of h) h.protected)))
+
+-- so is the check word in any six bytes or more
+pub word_said-take : (len : ℕ) (xs : List ℕ) → 6 ≤ len → stored_crc (take len xs) ≡ stored_crc xs
+unfolding stored_crc
+word_said-take len xs room =
+    ap (λ (word : List ℕ). number (bits word)) (take-drop-take 2 4 len xs (omega (arith, room)))

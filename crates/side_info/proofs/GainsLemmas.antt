@@ -1,0 +1,211 @@
+-- Gains put in place: what that does to the bits of granules, of side information, of a frame.
+use Rattle.std.proofs.Common.{ap, append-nil, append_assoc, ap₂, arith, Bool, cond, drop, eqb}
+use Rattle.std.proofs.Common.{false, get_or, length, length-append, List, refl, sym, take}
+use Rattle.std.proofs.Common.{take-append-drop, true, ℕ, [], ◌*◌, ◌++◌, ◌+◌, ◌∙◌, ◌∷◌, ◌≡◌, ◌≤◌}
+use Rattle.std.proofs.lemmas.List.{drop-drop, drop_at, length-take-le, take-take, take_at}
+use Rattle.bit_fields.proofs.BitsLemmas.{AreBelow-drop, AreBelow-take, bytes-bits, length-bits_of}
+use Rattle.bit_fields.proofs.GroupsLemmas.{length-spelled}
+use Rattle.bit_fields.specs.{Bits.{AreBytes, bits, bits_of, bytes}, Groups.group_bits}
+use Rattle.frame_header.specs.{Fields.{ClassFields, HeaderFields, IsClass}, HeaderBits.flag_of}
+use Rattle.frame_header.specs.{Tables.{class_of, side_size_of}, declared.version.Version.Version}
+use Rattle.frame_header.specs.declared.version.Version.TheVariants.{One}
+use Rattle.side_info.proofs.FrameLemmas.{frame_with-protected, frame_with-unprotected}
+use Rattle.side_info.proofs.GranuleLemmas.{bits-parts, length-flat, length-granule_bits}
+use Rattle.side_info.proofs.{SideLemmas.IsShaped, WriteLemmas.{flat_one, flat_two, side_bits-parts}}
+use Rattle.side_info.specs.{CheckWord.check_word_of, Frame.frame_with_side}
+use Rattle.side_info.specs.Granule.{compress_width, granule_bits, granule_size, no_granule}
+use Rattle.side_info.specs.Granule.{preflag_width}
+use Rattle.side_info.specs.Parts.{ArePairsAlike, front_size, pair_bits, PutsPair, second_pair_bits}
+use Rattle.side_info.specs.Side.{front_widths_of, HasOtherGains, side_bits}
+use Rattle.side_info.specs.declared.{granule.Granule.Granule, side.Side.Side}
+
+-- ---- one granule and channel
+regroup : (b f x r a : List ℕ) → b ++ ((f ++ (x ++ r)) ++ a) ≡ (b ++ f) ++ (x ++ (r ++ a))
+regroup b f x r a =
+    ap (λ l. b ++ l) (append_assoc f (x ++ r) a ∙ ap (λ l. f ++ l) (append_assoc x r a))
+    ∙ sym (append_assoc b f (x ++ (r ++ a)))
+
+-- eight bits put in place of others
+put_between : (b f x r a y bs : List ℕ) (at : ℕ) → length b ≡ at → length f ≡ 21 → length x ≡ 8
+    → bs ≡ b ++ ((f ++ (x ++ r)) ++ a)
+    → take (at + 21) bs ++ y ++ drop (at + 21 + 8) bs ≡ b ++ ((f ++ (y ++ r)) ++ a)
+put_between b f x r a y bs at lb lf lx e =
+    let front : length (b ++ f) ≡ at + 21 = omega (arith, length-append b f) in
+    let more : length ((b ++ f) ++ x) ≡ at + 21 + 8 = omega (arith, length-append (b ++ f) x) in
+    let taken : take (at + 21) bs ≡ b ++ f = ap (take (at + 21)) (e ∙ regroup b f x r a)
+    ∙ take_at (b ++ f) (x ++ (r ++ a)) (at + 21) front in
+    let left : drop (at + 21 + 8) bs ≡ r ++ a =
+    ap (drop (at + 21 + 8)) (e ∙ regroup b f x r a ∙ sym (append_assoc (b ++ f) x (r ++ a)))
+    ∙ drop_at ((b ++ f) ++ x) (r ++ a) (at + 21 + 8) more in
+    ap₂ (λ t d. t ++ y ++ d) taken left ∙ append_assoc (b ++ f) y (r ++ a) ∙ sym (regroup b f y r a)
+
+-- to put eight bits at the 21st bit of a granule is to change its global_gain alone
+pub gain_put : (version : Version) (g : Granule) (gain at : ℕ) (before after old new : List ℕ)
+    → new ≡ take (at + 21) old ++ bits_of 8 gain ++ drop (at + 21 + 8) old → length before ≡ at
+    → old ≡ before ++ (granule_bits version g ++ after)
+    → new ≡ before ++ (granule_bits version (record g { global_gain = gain }) ++ after)
+gain_put version g gain at before after old new put l e =
+    let front : List ℕ = group_bits (12 ∷ 9 ∷ []) (g.part2_3_length ∷ g.big_values ∷ []) in
+    let rest : List ℕ = group_bits (compress_width version ∷ 1 ∷ 22 ∷ preflag_width version ∷ 1 ∷ 1
+    ∷ []) (g.scalefac_compress ∷ flag_of g.window_switching ∷ g.detail ∷ flag_of g.preflag
+    ∷ flag_of g.scalefac_scale ∷ flag_of g.count1table_select ∷ []) in
+    put
+    ∙ put_between before front (bits_of 8 g.global_gain) rest after (bits_of 8 gain) old at l
+    (length-spelled (12 ∷ 9 ∷ []) (g.part2_3_length ∷ g.big_values ∷ []) refl)
+    (length-bits_of 8 g.global_gain)
+    (e ∙ ap (λ bs. before ++ (bs ++ after)) (bits-parts version g))
+    ∙ ap (λ bs. before ++ (bs ++ after))
+    (sym (bits-parts version (record g { global_gain = gain })))
+
+-- ---- the channels of a granule
+-- what a gain that is put does to bits
+abbrev pub PutsGain : ℕ → ℕ → List ℕ → List ℕ → Type 0
+PutsGain gain at old new = (version : Version) (g : Granule) (before after : List ℕ)
+    → length before ≡ at → old ≡ before ++ (granule_bits version g ++ after)
+    → new ≡ before ++ (granule_bits version (record g { global_gain = gain }) ++ after)
+
+-- so the one channel of a granule gets its gain
+pub one_put : (version : Version) (channels at : ℕ) (gs hs : List Granule)
+    (before after old new : List ℕ) → channels ≡ 1 → length hs ≡ 2
+    → PutsGain (get_or hs 0 no_granule).global_gain at old new → length gs ≡ 2 → length before ≡ at
+    → old ≡ before ++ (pair_bits version channels gs ++ after) → ArePairsAlike gs hs
+    → new ≡ before ++ (pair_bits version channels hs ++ after)
+one_put version channels at gs hs before after old new one two put l b e alike =
+    let was : pair_bits version channels gs ≡ granule_bits version (get_or gs 0 no_granule) =
+    ap (λ n. pair_bits version n gs) one ∙ flat_one version gs l in
+    let is : pair_bits version channels hs ≡ granule_bits version (get_or hs 0 no_granule) =
+    ap (λ n. pair_bits version n hs) one ∙ flat_one version hs two in
+    put version (get_or gs 0 no_granule) before after b (e ∙ ap (λ bs. before ++ (bs ++ after)) was)
+    ∙ ap (λ g. before ++ (granule_bits version g ++ after)) (alike 0)
+    ∙ ap (λ bs. before ++ (bs ++ after)) (sym is)
+
+-- so two channels get theirs, one after the other
+pub both_put : (version : Version) (channels at next : ℕ) (gs hs : List Granule)
+    (before after old middle new : List ℕ) → channels ≡ 2 → length hs ≡ 2
+    → next ≡ at + granule_size version → PutsGain (get_or hs 0 no_granule).global_gain at old middle
+    → PutsGain (get_or hs 1 no_granule).global_gain next middle new → length gs ≡ 2
+    → length before ≡ at → old ≡ before ++ (pair_bits version channels gs ++ after)
+    → ArePairsAlike gs hs → new ≡ before ++ (pair_bits version channels hs ++ after)
+both_put version channels at next gs hs before after old middle new both two place first second l b
+    e alike =
+    let g0 : List ℕ = granule_bits version (get_or gs 0 no_granule) in
+    let g1 : List ℕ = granule_bits version (get_or gs 1 no_granule) in
+    let h0 : List ℕ = granule_bits version (get_or hs 0 no_granule) in
+    let h1 : List ℕ = granule_bits version (get_or hs 1 no_granule) in
+    let was : pair_bits version channels gs ≡ g0 ++ g1 =
+    ap (λ n. pair_bits version n gs) both ∙ flat_two version gs l in
+    let is : pair_bits version channels hs ≡ h0 ++ h1 =
+    ap (λ n. pair_bits version n hs) both ∙ flat_two version hs two in
+    let one : middle ≡ before ++ (h0 ++ (g1 ++ after)) =
+    first version (get_or gs 0 no_granule) before (g1 ++ after) b (e
+    ∙ ap (λ bs. before ++ (bs ++ after)) was ∙ ap (λ bs. before ++ bs) (append_assoc g0 g1 after))
+    ∙ ap (λ g. before ++ (granule_bits version g ++ (g1 ++ after))) (alike 0) in
+    let long : length (before ++ h0) ≡ next =
+    omega (arith, length-append before h0, length-granule_bits version (get_or hs 0 no_granule)) in
+    second version (get_or gs 1 no_granule) (before ++ h0) after long
+    (one ∙ sym (append_assoc before h0 (g1 ++ after)))
+    ∙ ap (λ g. (before ++ h0) ++ (granule_bits version g ++ after)) (alike 1)
+    ∙ append_assoc before h0 (h1 ++ after)
+    ∙ ap (λ bs. before ++ bs) (sym (append_assoc h0 h1 after))
+    ∙ ap (λ bs. before ++ (bs ++ after)) (sym is)
+
+-- ---- the side information
+length-pair_bits : (version : Version) (channels : ℕ) (gs : List Granule) → length gs ≡ 2
+    → channels ≤ 2 → length (pair_bits version channels gs) ≡ channels * granule_size version
+length-pair_bits version channels gs two few =
+    length-flat version (take channels gs)
+    ∙ ap (λ n. n * granule_size version) (length-take-le channels gs (omega arith))
+
+four_in : (mono : Bool) (one two : List ℕ) → length one ≡ 4 → length two ≡ 4
+    → length (cond mono one two) ≡ 4
+four_in true one two h k = h
+four_in false one two h k = k
+
+four_widths : (version : Version) (channels : ℕ) → length (front_widths_of version channels) ≡ 4
+four_widths One channels =
+    four_in (eqb channels 1) (9 ∷ 5 ∷ 4 ∷ 0 ∷ []) (9 ∷ 3 ∷ 4 ∷ 4 ∷ []) refl refl
+four_widths _ channels =
+    four_in (eqb channels 1) (8 ∷ 1 ∷ 0 ∷ 0 ∷ []) (8 ∷ 2 ∷ 0 ∷ 0 ∷ []) refl refl
+
+length-front : (version : Version) (channels m p : ℕ) (cs : List ℕ) → length cs ≡ 2
+    → length (group_bits (front_widths_of version channels) (m ∷ p ∷ cs))
+    ≡ front_size version channels
+length-front version channels m p cs two = length-spelled (front_widths_of version channels)
+    (m ∷ p ∷ cs) (omega (arith, four_widths version channels))
+
+-- the granules of a frame get their gains one after the other
+pub all_put_gains : (c : ClassFields) → IsClass c → (t : Side) → IsShaped t
+    → (old middle new : List ℕ) (begin next : ℕ) → begin ≡ front_size c.version c.channels
+    → next ≡ front_size c.version c.channels + c.channels * granule_size c.version
+    → PutsPair (pair_bits c.version c.channels) (get_or t.granules 0 []) begin old middle
+    → PutsPair (second_pair_bits c.version c.channels) (get_or t.granules 1 []) next middle new
+    → (s : Side) → IsShaped s → old ≡ side_bits c s → HasOtherGains s t → new ≡ side_bits c t
+all_put_gains c class t t_shaped old middle new begin next begin_is next_is first second s s_shaped
+    e other =
+    let v : Version = c.version in
+    let ch : ℕ = c.channels in
+    let front : List ℕ =
+    group_bits (front_widths_of v ch) (t.main_data_begin ∷ t.private_bits ∷ t.scfsi) in
+    let same : group_bits (front_widths_of v ch) (s.main_data_begin ∷ s.private_bits ∷ s.scfsi)
+    ≡ front = λ i. group_bits (front_widths_of v ch)
+    (sym other.main_data_begin i ∷ sym other.private_bits i ∷ sym other.scfsi i) in
+    let g0 : List ℕ = pair_bits v ch (get_or s.granules 0 []) in
+    let g1 : List ℕ = second_pair_bits v ch (get_or s.granules 1 []) in
+    let h0 : List ℕ = pair_bits v ch (get_or t.granules 0 []) in
+    let h1 : List ℕ = second_pair_bits v ch (get_or t.granules 1 []) in
+    let was : old ≡ front ++ (g0 ++ g1) = e ∙ side_bits-parts c s s_shaped.granules
+    ∙ ap (λ f. (f ++ g0) ++ g1) same ∙ append_assoc front g0 g1 in
+    let long : length front ≡ front_size v ch =
+    length-front v ch t.main_data_begin t.private_bits t.scfsi t_shaped.scfsi in
+    let one : middle ≡ front ++ (h0 ++ g1) = first (get_or s.granules 0 []) front g1
+    s_shaped.first (long ∙ sym begin_is) was (λ channel. other.granules 0 channel) in
+    let more : length (front ++ h0) ≡ next = omega (
+      arith,
+      length-append front h0,
+      length-pair_bits v ch (get_or t.granules 0 []) t_shaped.first class.2,
+    ) in
+    second (get_or s.granules 1 []) (front ++ h0) [] s_shaped.second more
+    (one ∙ sym (append_assoc front h0 g1) ∙ ap (λ bs. (front ++ h0) ++ bs) (sym (append-nil g1)))
+    (λ channel. other.granules 1 channel)
+    ∙ ap (λ bs. (front ++ h0) ++ bs) (append-nil h1)
+    ∙ sym (side_bits-parts c t t_shaped.granules)
+
+-- ---- a frame
+-- the bytes at a place, where their bits are known
+bytes_there : (place size : ℕ) (frame bs : List ℕ) → AreBytes (drop place frame)
+    → bits (take size (drop place frame)) ≡ bs
+    → drop place frame ≡ bytes bs ++ drop (place + size) frame
+bytes_there place size frame bs all e =
+    sym (take-append-drop size (drop place frame))
+    ∙ ap₂ (λ xs ys. xs ++ ys) (sym (bytes-bits (take size (drop place frame))
+    (AreBelow-take 256 size (drop place frame) all)) ∙ ap bytes e) (drop-drop size place frame)
+
+-- an unprotected frame whose side bytes were replaced is the frame with this side information
+pub gains-unprotected : (h : HeaderFields) (s : Side) (old new : List ℕ) → h.protected ≡ false
+    → AreBytes new → take 4 new ≡ take 4 old
+    → drop (4 + side_size_of (class_of h)) new ≡ drop (4 + side_size_of (class_of h)) old
+    → bits (take (side_size_of (class_of h)) (drop 4 new)) ≡ side_bits (class_of h) s
+    → new ≡ frame_with_side h s old
+gains-unprotected h s old new is all front behind side =
+    let size : ℕ = side_size_of (class_of h) in
+    sym (take-append-drop 4 new)
+    ∙ ap₂ (λ xs ys. xs ++ ys) front (bytes_there 4 size new (side_bits (class_of h) s)
+    (AreBelow-drop 256 4 new all) side ∙ ap (λ ys. bytes (side_bits (class_of h) s) ++ ys) behind)
+    ∙ sym (frame_with-unprotected h s old is)
+
+-- so is a protected one, once the check word is put in too
+pub gains-protected : (h : HeaderFields) (s : Side) (old middle new : List ℕ) → h.protected ≡ true
+    → AreBytes (drop 6 middle) → take 6 middle ≡ take 6 old
+    → drop (6 + side_size_of (class_of h)) middle ≡ drop (6 + side_size_of (class_of h)) old
+    → bits (take (side_size_of (class_of h)) (drop 6 middle)) ≡ side_bits (class_of h) s
+    → new ≡ take 4 middle ++ (bytes (bits_of 16 (check_word_of h s)) ++ drop 6 middle)
+    → new ≡ frame_with_side h s old
+gains-protected h s old middle new is all front behind side put =
+    let size : ℕ = side_size_of (class_of h) in
+    let word : List ℕ = bytes (bits_of 16 (check_word_of h s)) in
+    let four : take 4 middle ≡ take 4 old = sym (take-take 4 6 middle (omega arith))
+    ∙ ap (take 4) front ∙ take-take 4 6 old (omega arith) in
+    put
+    ∙ ap₂ (λ xs ys. xs ++ (word ++ ys)) four (bytes_there 6 size middle
+    (side_bits (class_of h) s) all side ∙ ap (λ ys. bytes (side_bits (class_of h) s) ++ ys) behind)
+    ∙ sym (frame_with-protected h s old is)

@@ -1,0 +1,257 @@
+-- The laws of a granule's side information: fields and bits give each other back.
+use Rattle.std.proofs.Common.{ap, append_assoc, ap₂, arith, Bool, drop, false, get_or, length}
+use Rattle.std.proofs.Common.{length-append, length-drop, List, one-add, refl, subst, suc, sym}
+use Rattle.std.proofs.Common.{take, true, zero, ℕ, [], ◌*◌, ◌++◌, ◌+◌, ◌<◌, ◌^◌, ◌∙◌, ◌∷◌, ◌≡◌, ◌≤◌}
+use Rattle.std.proofs.Math.Nat.{add-mul, add_assoc, add_comm, one-mul, suc-mul, zero-mul}
+use Rattle.std.proofs.{Math.Seq.{drop-append-add, take-add}, lemmas.List.drop-drop}
+use Rattle.std.specs.List.{flat_map}
+use Rattle.bit_fields.proofs.BitsLemmas.{AreBelow-append, AreBelow-drop}
+use Rattle.bit_fields.proofs.GroupsLemmas.{AreBits-spelled, Fits-numbers_at, length-Fits}
+use Rattle.bit_fields.proofs.GroupsLemmas.{length-spelled, numbers_at-spelled_more, spelled-append}
+use Rattle.bit_fields.proofs.GroupsLemmas.{spelled-cons, spelled-numbers_at_front}
+use Rattle.bit_fields.specs.{Bits.{AreBits, bits_of}, Groups.{group_bits, numbers_at, NumbersFit}}
+use Rattle.frame_header.specs.{HeaderBits.flag_of, declared.version.Version.Version}
+use Rattle.frame_header.specs.declared.version.Version.TheVariants.{One}
+use Rattle.side_info.specs.Granule.{compress_width, granule_at, granule_bits, granule_numbers}
+use Rattle.side_info.specs.Granule.{granule_of, granule_size, granule_widths, GranuleFits, is_set}
+use Rattle.side_info.specs.{Granule.{no_granule, preflag_width}, Side.nth_granule}
+use Rattle.side_info.specs.declared.granule.Granule.{Granule}
+
+-- ---- one bit as a truth
+-- a flag as a bit is this flag
+pub is_set-flag_of : (flag : Bool) → is_set (flag_of flag) ≡ flag
+is_set-flag_of true = refl
+is_set-flag_of false = refl
+
+-- a bit as a flag is this bit
+pub flag_of-is_set : (bit : ℕ) → bit < 2 → flag_of (is_set bit) ≡ bit
+flag_of-is_set (suc (suc bit)) h = absurd (omega arith)
+flag_of-is_set _ h = refl
+
+-- a flag as a bit is 0 or 1
+pub flag_of-below : (flag : Bool) → flag_of flag < 2
+flag_of-below true = omega arith
+flag_of-below false = omega arith
+
+-- ---- fields and the numbers of the groups
+-- the fields of a granule that fits are within the widths of its groups
+pub Fits-granule : (version : Version) (g : Granule) → GranuleFits version g
+    → NumbersFit (granule_widths version) (granule_numbers g)
+unfolding granule_numbers
+Fits-granule version g h = (
+  h.part2_3_length,
+  (
+    h.big_values,
+    (
+      h.global_gain,
+      (
+        h.scalefac_compress,
+        (
+          flag_of-below g.window_switching,
+          (
+            h.detail,
+            (h.preflag, (flag_of-below g.scalefac_scale, (flag_of-below g.count1table_select, tt))),
+          ),
+        ),
+      ),
+    ),
+  ),
+)
+
+-- a granule's numbers give the granule
+pub granule_of-numbers : (g : Granule) → granule_of (granule_numbers g) ≡ g
+unfolding granule_of granule_numbers
+granule_of-numbers g = λ i. record {
+  part2_3_length = g.part2_3_length;
+  big_values = g.big_values;
+  global_gain = g.global_gain;
+  scalefac_compress = g.scalefac_compress;
+  window_switching = is_set-flag_of g.window_switching i;
+  detail = g.detail;
+  preflag = is_set-flag_of g.preflag i;
+  scalefac_scale = is_set-flag_of g.scalefac_scale i;
+  count1table_select = is_set-flag_of g.count1table_select i;
+}
+
+-- preflag is at most one bit
+preflag-below : (version : Version) (n : ℕ) → n < 2 ^ preflag_width version → n < 2
+preflag-below One n h = omega arith
+preflag-below _ n h = omega arith
+
+numbers_same : (version : Version) (ns : List ℕ) → NumbersFit (granule_widths version) ns
+    → length ns ≡ 9 → granule_numbers (granule_of ns) ≡ ns
+unfolding granule_of granule_numbers
+numbers_same version (a ∷ b ∷ c ∷ d ∷ e ∷ f ∷ g ∷ h ∷ k ∷ []) fit l =
+    λ i. a ∷ b ∷ c ∷ d ∷ flag_of-is_set e fit.1.1.1.1.0 i ∷ f
+    ∷ flag_of-is_set g (preflag-below version g fit.1.1.1.1.1.1.0) i
+    ∷ flag_of-is_set h fit.1.1.1.1.1.1.1.0 i ∷ flag_of-is_set k fit.1.1.1.1.1.1.1.1.0 i ∷ []
+numbers_same version ns fit l = absurd (omega arith)
+
+-- numbers within the widths are those of the granule that they give
+pub numbers-granule_of : (version : Version) (ns : List ℕ) → NumbersFit (granule_widths version) ns
+    → granule_numbers (granule_of ns) ≡ ns
+numbers-granule_of version ns fit =
+    numbers_same version ns fit (length-Fits (granule_widths version) ns fit)
+
+fields_fit : (version : Version) (ns : List ℕ) → NumbersFit (granule_widths version) ns
+    → length ns ≡ 9 → GranuleFits version (granule_of ns)
+unfolding granule_of
+fields_fit version (a ∷ b ∷ c ∷ d ∷ e ∷ f ∷ g ∷ h ∷ k ∷ []) fit l = record {
+  part2_3_length = fit.0;
+  big_values = fit.1.0;
+  global_gain = fit.1.1.0;
+  scalefac_compress = fit.1.1.1.0;
+  detail = fit.1.1.1.1.1.0;
+  preflag = subst (λ n. n < 2 ^ preflag_width version)
+      (sym (flag_of-is_set g (preflag-below version g fit.1.1.1.1.1.1.0))) fit.1.1.1.1.1.1.0;
+}
+fields_fit version ns fit l = absurd (omega arith)
+
+-- and that granule's fields are within their bits
+pub GranuleFits-granule_of : (version : Version) (ns : List ℕ)
+    → NumbersFit (granule_widths version) ns → GranuleFits version (granule_of ns)
+GranuleFits-granule_of version ns fit =
+    fields_fit version ns fit (length-Fits (granule_widths version) ns fit)
+
+-- ---- fields and bits
+-- a granule has nine numbers
+pub length-granule_numbers : (g : Granule) → length (granule_numbers g) ≡ 9
+unfolding granule_numbers
+length-granule_numbers g = refl
+
+-- a granule is written in as many bits as the version gives it
+pub length-granule_bits : (version : Version) (g : Granule)
+    → length (granule_bits version g) ≡ granule_size version
+unfolding granule_bits
+length-granule_bits version g =
+    length-spelled (granule_widths version) (granule_numbers g) (length-granule_numbers g)
+
+-- a granule is written as zeros and ones
+pub AreBits-granule_bits : (version : Version) (g : Granule) → AreBits (granule_bits version g)
+unfolding granule_bits
+AreBits-granule_bits version g = AreBits-spelled (granule_widths version) (granule_numbers g)
+
+-- a granule that was read has its fields within their bits
+pub GranuleFits-granule_at : (version : Version) (bs : List ℕ) → AreBits bs
+    → GranuleFits version (granule_at version bs)
+unfolding granule_at
+GranuleFits-granule_at version bs h =
+    GranuleFits-granule_of version (numbers_at (granule_widths version) bs)
+    (Fits-numbers_at (granule_widths version) bs h)
+
+-- a granule is read from its bits, whatever follows
+pub granule_at-granule_bits : (version : Version) (g : Granule) (more : List ℕ)
+    → GranuleFits version g → granule_at version (granule_bits version g ++ more) ≡ g
+unfolding granule_at granule_bits
+granule_at-granule_bits version g more h =
+    ap granule_of (numbers_at-spelled_more (granule_widths version) (granule_numbers g) more
+    (Fits-granule version g h))
+    ∙ granule_of-numbers g
+
+-- the granule with which bits begin is written as these bits
+pub granule_bits-granule_at : (version : Version) (bs : List ℕ) → AreBits bs → granule_size version
+    ≤ length bs → granule_bits version (granule_at version bs) ≡ take (granule_size version) bs
+unfolding granule_at granule_bits
+granule_bits-granule_at version bs all h =
+    ap (group_bits (granule_widths version)) (numbers-granule_of version
+    (numbers_at (granule_widths version) bs) (Fits-numbers_at (granule_widths version) bs all))
+    ∙ spelled-numbers_at_front (granule_widths version) bs all h
+
+-- ---- granules one after another
+-- so many granules, from the nth on
+unfoldable pub granules_from : Version → ℕ → ℕ → List ℕ → List Granule
+granules_from version n zero bs = []
+granules_from version n (suc count) bs =
+    nth_granule version n bs ∷ granules_from version (n + 1) count bs
+
+-- some granules take as many times the bits of one
+pub length-flat : (version : Version) (gs : List Granule)
+    → length (flat_map (granule_bits version) gs) ≡ length gs * granule_size version
+length-flat version [] = omega arith
+length-flat version (g ∷ gs) =
+    let e : length (granule_bits version g) ≡ granule_size version =
+    length-granule_bits version g in
+    rw (
+      length-append (granule_bits version g) (flat_map (granule_bits version) gs),
+      e,
+      length-flat version gs,
+      suc-mul,
+    ) (add_comm (granule_size version) (length gs * granule_size version))
+
+-- granules are written as zeros and ones
+pub AreBits-flat : (version : Version) (gs : List Granule)
+    → AreBits (flat_map (granule_bits version) gs)
+AreBits-flat version [] = tt
+AreBits-flat version (g ∷ gs) = AreBelow-append 2 (granule_bits version g)
+    (flat_map (granule_bits version) gs) (AreBits-granule_bits version g) (AreBits-flat version gs)
+
+-- granules are read back from the bits that they spell
+pub nth_granule-flat : (version : Version) (gs : List Granule) (n : ℕ) (more : List ℕ)
+    → n < length gs → GranuleFits version (get_or gs n no_granule)
+    → nth_granule version n (flat_map (granule_bits version) gs ++ more) ≡ get_or gs n no_granule
+nth_granule-flat version [] n more h fits = absurd (omega arith)
+nth_granule-flat version (g ∷ gs) zero more h fits =
+    ap (λ k. granule_at version
+    (drop k ((granule_bits version g ++ flat_map (granule_bits version) gs) ++ more)))
+    (zero-mul (granule_size version))
+    ∙ ap (granule_at version)
+    (append_assoc (granule_bits version g) (flat_map (granule_bits version) gs) more)
+    ∙ granule_at-granule_bits version g (flat_map (granule_bits version) gs ++ more) fits
+nth_granule-flat version (g ∷ gs) (suc n) more h fits =
+    let e : suc n * granule_size version
+    ≡ length (granule_bits version g) + n * granule_size version =
+    suc-mul n (granule_size version) ∙ add_comm (n * granule_size version) (granule_size version)
+    ∙ ap (λ k. k + n * granule_size version) (sym (length-granule_bits version g)) in
+    ap (λ k. granule_at version
+    (drop k ((granule_bits version g ++ flat_map (granule_bits version) gs) ++ more))) e
+    ∙ ap (λ bs. granule_at version
+    (drop (length (granule_bits version g) + n * granule_size version) bs))
+    (append_assoc (granule_bits version g) (flat_map (granule_bits version) gs) more)
+    ∙ ap (granule_at version) (drop-append-add (granule_bits version g)
+    (flat_map (granule_bits version) gs ++ more) (n * granule_size version))
+    ∙ nth_granule-flat version gs n more (omega arith) fits
+
+-- bits are those that the granules read from them spell
+pub flat-granules_from : (version : Version) (n count : ℕ) (bs : List ℕ) → AreBits bs
+    → (n + count) * granule_size version ≤ length bs
+    → flat_map (granule_bits version) (granules_from version n count bs)
+    ≡ take (count * granule_size version) (drop (n * granule_size version) bs)
+unfolding granules_from
+flat-granules_from version n zero bs all h =
+    ap (λ k. take k (drop (n * granule_size version) bs)) (sym (zero-mul (granule_size version)))
+flat-granules_from version n (suc count) bs all h =
+    let size : ℕ = granule_size version in
+    let whole : (n + suc count) * size ≡ n * size + suc count * size = add-mul n (suc count) size in
+    let more : suc count * size ≡ count * size + size = suc-mul count size in
+    let next : (n + 1) * size ≡ n * size + size =
+    add-mul n 1 size ∙ ap (λ k. n * size + k) (one-mul size) in
+    let one : granule_bits version (granule_at version (drop (n * size) bs))
+    ≡ take size (drop (n * size) bs) = granule_bits-granule_at version (drop (n * size) bs)
+    (AreBelow-drop 2 (n * size) bs all) (simp length-drop (omega arith)) in
+    let others : flat_map (granule_bits version) (granules_from version (n + 1) count bs)
+    ≡ take (count * size) (drop size (drop (n * size) bs)) =
+    flat-granules_from version (n + 1) count bs all (rw (add_assoc n 1 count, one-add count) h)
+    ∙ ap (λ k. take (count * size) (drop k bs)) next
+    ∙ ap (take (count * size)) (sym (drop-drop size (n * size) bs)) in
+    ap₂ (λ cs ds. cs ++ ds) one others
+    ∙ sym (take-add size (count * size) (drop (n * size) bs))
+    ∙ ap (λ k. take k (drop (n * size) bs)) (add_comm size (count * size) ∙ sym more)
+
+-- ---- another gain
+-- a granule with another gain has another number in its third group alone
+pub bits-parts : (version : Version) (g : Granule)
+    → granule_bits version g ≡ group_bits (12 ∷ 9 ∷ []) (g.part2_3_length ∷ g.big_values ∷ [])
+    ++ (bits_of 8 g.global_gain
+    ++ group_bits (compress_width version ∷ 1 ∷ 22 ∷ preflag_width version
+    ∷ 1 ∷ 1 ∷ []) (g.scalefac_compress ∷ flag_of g.window_switching ∷ g.detail ∷ flag_of g.preflag
+    ∷ flag_of g.scalefac_scale ∷ flag_of g.count1table_select ∷ []))
+unfolding granule_bits granule_numbers
+bits-parts version g =
+    spelled-append (12 ∷ 9 ∷ []) (8 ∷ compress_width version ∷ 1 ∷ 22 ∷ preflag_width version ∷ 1
+    ∷ 1 ∷ []) (g.part2_3_length ∷ g.big_values ∷ [])
+    (g.global_gain ∷ g.scalefac_compress ∷ flag_of g.window_switching ∷ g.detail ∷ flag_of g.preflag
+    ∷ flag_of g.scalefac_scale ∷ flag_of g.count1table_select ∷ []) refl
+    ∙ ap (λ bs. group_bits (12 ∷ 9 ∷ []) (g.part2_3_length ∷ g.big_values ∷ []) ++ bs)
+    (spelled-cons 8 g.global_gain (compress_width version ∷ 1 ∷ 22 ∷ preflag_width version ∷ 1 ∷ 1
+    ∷ []) (g.scalefac_compress ∷ flag_of g.window_switching ∷ g.detail ∷ flag_of g.preflag
+    ∷ flag_of g.scalefac_scale ∷ flag_of g.count1table_select ∷ []))

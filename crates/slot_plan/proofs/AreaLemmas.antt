@@ -1,0 +1,202 @@
+-- The areas of slots: the last is the largest, and the first that is large enough the smallest.
+use Rattle.std.proofs.Common.{AllPairs, ap, arith, Bool, Contains, false, get_or, inl, inr, length}
+use Rattle.std.proofs.Common.{List, lit≤, refl, subst, suc, sym, zero, ℕ, [], ◌-◌, ◌<◌, ◌∙◌, ◌∷◌}
+use Rattle.std.proofs.{Common.{◌≡◌, ◌≤◌}, lemmas.Bool.cases_lt}
+use Rattle.std.proofs.lemmas.List.{get_or-map, get_or_default, length-map}
+use Rattle.frame_header.proofs.SlotLemmas.{areas-ascend, Contains-all_slots, get_or-place_of}
+use Rattle.frame_header.proofs.SlotLemmas.{length-all_slots}
+use Rattle.frame_header.specs.Fields.{ClassFields, IsClass, SlotFields}
+use Rattle.frame_header.specs.{Slots.{all_slots, areas_of, largest_slot}, Tables.area_of}
+use Rattle.slot_plan.proofs.ReserveLemmas.{Contains-greatest, greatest-most}
+use Rattle.slot_plan.specs.{Parts.slot_areas, Reserve.{greatest_number, IsLeastSlot}}
+
+abbrev pub Ascend : List ℕ → Type 0
+Ascend ns = AllPairs (λ m n. m < n) ns
+
+greatest-last : (ns : List ℕ) (d : ℕ) → 0 < length ns → Ascend ns
+    → get_or ns (length ns - 1) d ≡ greatest_number ns
+greatest-last ns d some ascend =
+    let last : ℕ = get_or ns (length ns - 1) 0 in
+    let e : get_or ns (length ns - 1) d ≡ last =
+    get_or_default ns (length ns - 1) d 0 (omega arith) in
+    let is : Contains ns last =
+    (length ns - 1, omega arith, get_or_default ns (length ns - 1) last 0 (omega arith)) in
+    let g = Contains-greatest ns last is in
+    let at : get_or ns g.0 0 ≡ greatest_number ns =
+    get_or_default ns g.0 0 (greatest_number ns) g.1 ∙ g.2 in
+    let most = greatest-most ns last is in
+    elim (cases_lt g.0 (length ns - 1)) as (λ _. get_or ns (length ns - 1) d ≡ greatest_number ns) [
+      | inl before ↦ let less = ascend g.0 (length ns - 1) 0 before (omega arith) in omega arith
+      | inr here ↦
+          let same : g.0 ≡ length ns - 1 = omega (arith, g.1) in
+          e ∙ ap (λ k. get_or ns k 0) (sym same) ∙ at
+    ]
+
+-- the area at a place of the list is that of the slot there
+pub area-at : (c : ClassFields) (p : Bool) (slots : List SlotFields) (i n : ℕ) (d : SlotFields)
+    → i < length slots → get_or (slot_areas c p slots) i n ≡ area_of c (get_or slots i d) p
+area-at c p slots i n d within = get_or-map (λ s. area_of c s p) slots i d n within
+
+-- there are as many areas as slots
+pub areas-many : (c : ClassFields) (p : Bool) (slots : List SlotFields)
+    → length (slot_areas c p slots) ≡ length slots
+areas-many c p slots = length-map slots (λ s. area_of c s p)
+
+-- the last slot has the greatest area
+pub area-last : (c : ClassFields) (p : Bool) (slots : List SlotFields) (slot d : SlotFields)
+    → 0 < length slots → Ascend (slot_areas c p slots) → slot ≡ get_or slots (length slots - 1) d
+    → area_of c slot p ≡ greatest_number (slot_areas c p slots)
+area-last c p slots slot d some ascend is =
+    let many = areas-many c p slots in
+    ap (λ s. area_of c s p) is
+    ∙ sym (area-at c p slots (length slots - 1) 0 d (omega arith))
+    ∙ ap (λ n. get_or (slot_areas c p slots) (n - 1) 0) (sym many)
+    ∙ greatest-last (slot_areas c p slots) 0 (omega arith) ascend
+
+-- an area of the list is that of a slot
+pub slot-area : (c : ClassFields) (p : Bool) (slots : List SlotFields) (n : ℕ)
+    → Contains (slot_areas c p slots) n
+    → (slot : SlotFields) × Contains slots slot × (area_of c slot p ≡ n)
+slot-area c p [] n has = absurd (omega (arith, has.1))
+slot-area c p (s ∷ slots) n has =
+    let many = areas-many c p (s ∷ slots) in
+    let slot : SlotFields = get_or (s ∷ slots) has.0 s in
+    let within : has.0 < length (s ∷ slots) = omega (arith, has.1) in (
+      slot,
+      (has.0, within, get_or_default (s ∷ slots) has.0 slot s within),
+      sym (area-at c p (s ∷ slots) has.0 n s within) ∙ has.2,
+    )
+
+-- the area of a slot of the list is one of the areas
+pub Contains-area : (c : ClassFields) (p : Bool) (slots : List SlotFields) (slot : SlotFields)
+    → Contains slots slot → Contains (slot_areas c p slots) (area_of c slot p)
+Contains-area c p slots slot has = (
+  has.0,
+  omega (arith, has.1, areas-many c p slots),
+  area-at c p slots has.0 (area_of c slot p) slot has.1 ∙ ap (λ s. area_of c s p) has.2,
+)
+
+-- if the areas ascend, slots with equal areas are equal
+pub one-slot : (c : ClassFields) (p : Bool) (slots : List SlotFields) (s t : SlotFields)
+    → Ascend (slot_areas c p slots) → Contains slots s → Contains slots t
+    → area_of c s p ≡ area_of c t p → s ≡ t
+one-slot c p slots s t ascend first second same =
+    let many = areas-many c p slots in
+    let here = area-at c p slots first.0 0 s first.1 ∙ ap (λ x. area_of c x p) first.2 in
+    let there = area-at c p slots second.0 0 t second.1 ∙ ap (λ x. area_of c x p) second.2 in
+    elim (cases_lt first.0 second.0) as (λ _. s ≡ t) [
+      | inl before ↦ let less = ascend first.0 second.0 0 before (omega (arith, many, second.1)) in
+          absurd (omega (arith, less, here, there, same))
+      | inr from ↦
+          elim (cases_lt second.0 first.0) as (λ _. s ≡ t) [
+            | inl behind ↦
+                let less = ascend second.0 first.0 0 behind (omega (arith, many, first.1)) in
+                absurd (omega (arith, less, here, there, same))
+            | inr till ↦
+                let at : first.0 ≡ second.0 = omega (arith, from, till) in
+                sym first.2 ∙ get_or_default slots first.0 s t first.1
+                ∙ ap (λ k. get_or slots k t) at ∙ second.2
+          ]
+    ]
+
+-- the first that is large enough has the smallest area
+pub least-first : (wanted : ℕ) (c : ClassFields) (p : Bool) (slots : List SlotFields) (i : ℕ)
+    (slot : SlotFields) → i < length slots → slot ≡ get_or slots i slot
+    → Ascend (slot_areas c p slots) → ((k : ℕ) → k < i → area_of c (get_or slots k slot) p < wanted)
+    → wanted ≤ area_of c slot p → IsLeastSlot wanted c p slots slot
+least-first wanted c p slots i slot within is ascend small enough = record {
+  chosen = (i, within, sym is);
+  enough = enough;
+  least = λ other has fits.
+      elim (cases_lt has.0 i) as (λ _. area_of c slot p ≤ area_of c other p) [
+        | inl before ↦
+            let here : get_or slots has.0 slot ≡ other =
+            get_or_default slots has.0 slot other has.1 ∙ has.2 in
+            let less = small has.0 before in
+            absurd (omega (arith, ap (λ s. area_of c s p) here, less, fits))
+        | inr from ↦
+            elim (cases_lt i has.0) as (λ _. area_of c slot p ≤ area_of c other p) [
+              | inl behind ↦
+                  let less = ascend i has.0 0 behind (omega (arith, areas-many c p slots, has.1)) in
+                  let first = area-at c p slots i 0 slot within in
+                  let second = area-at c p slots has.0 0 other has.1 in
+                  omega (
+                    arith,
+                    less,
+                    first,
+                    second,
+                    ap (λ s. area_of c s p) is,
+                    ap (λ s. area_of c s p) has.2,
+                  )
+              | inr at ↦
+                  let same : i ≡ has.0 = omega arith in
+                  let here : slot ≡ other = is ∙ get_or_default slots i slot other within
+                  ∙ ap (λ k. get_or slots k other) same ∙ has.2 in
+                  omega (arith, ap (λ s. area_of c s p) here)
+            ]
+      ];
+}
+
+-- the slots before a place are too small, and so is that at it
+abbrev pub AreSmall : ℕ → ClassFields → Bool → List SlotFields → ℕ → Type 0
+AreSmall wanted c p slots to =
+    (k : ℕ) (d : SlotFields) → k < to → area_of c (get_or slots k d) p < wanted
+
+-- ---- the slots of a lead-in
+-- the areas of a lead-in's slots ascend
+pub lead-ascend : (c : ClassFields) (slots : List SlotFields) → slots ≡ all_slots
+    → Ascend (areas_of c false) → Ascend (slot_areas c false slots)
+unfolding areas_of
+lead-ascend c slots all ascend = subst (λ l. Ascend (slot_areas c false l)) (sym all) ascend
+
+-- the longest is at least a window, where the largest slot is
+pub leads-span : (c : ClassFields) (window : ℕ) → window ≤ area_of c largest_slot false
+    → window ≤ greatest_number (slot_areas c false all_slots)
+leads-span c window spanned =
+    omega (
+      arith,
+      greatest-most (slot_areas c false all_slots) (area_of c largest_slot false)
+          (Contains-area c false all_slots largest_slot
+          (Contains-all_slots largest_slot (omega arith, omega arith))),
+    )
+
+-- a lead-in has a slot to choose
+pub lead-any : (slots : List SlotFields) → slots ≡ all_slots → 0 < length slots
+lead-any slots all = omega (arith, ap length all, length-all_slots)
+
+-- the areas of all slots of a class ascend
+pub class-ascend : (class c : ClassFields) (p : Bool) (slots : List SlotFields) → slots ≡ all_slots
+    → class ≡ c → Ascend (areas_of class p) → Ascend (slot_areas c p slots)
+unfolding areas_of
+class-ascend class c p slots all is ascend = subst (λ l. Ascend (slot_areas c p l)) (sym all)
+    (subst (λ k. Ascend (slot_areas k p all_slots)) is ascend)
+
+-- the largest slot has the greatest of all areas
+pub greatest-all : (c : ClassFields) (p : Bool) → IsClass c
+    → area_of c largest_slot p ≡ greatest_number (slot_areas c p all_slots)
+unfolding areas_of
+greatest-all c p class =
+    area-last c p all_slots largest_slot largest_slot (omega (arith, length-all_slots))
+    (areas-ascend c class p)
+    (sym (get_or-place_of largest_slot largest_slot (lit≤ tt, lit≤ tt))
+    ∙ ap (λ n. get_or all_slots (n - 1) largest_slot) (sym length-all_slots))
+
+-- ---- the one slot of a frame that keeps its own
+-- a slot of a list of one is that one
+pub only_one : (slot other : SlotFields) → Contains (slot ∷ []) other → slot ≡ other
+only_one slot other (zero, within, at) = at
+only_one slot other (suc k, within, at) = absurd (omega arith)
+
+-- the greatest of one number is this number
+pub greatest-one : (n : ℕ) → greatest_number (n ∷ []) ≡ n
+unfolding greatest_number
+greatest-one n = omega arith
+
+-- the one slot is the least if its area is large enough
+pub least-one : (wanted : ℕ) (c : ClassFields) (p : Bool) (slot : SlotFields) → wanted
+    ≤ greatest_number (slot_areas c p (slot ∷ [])) → IsLeastSlot wanted c p (slot ∷ []) slot
+least-one wanted c p slot enough = record {
+  chosen = (0, omega arith, refl);
+  enough = omega (arith, greatest-one (area_of c slot p));
+  least = λ other has fits. omega (arith, ap (λ s. area_of c s p) (only_one slot other has));
+}

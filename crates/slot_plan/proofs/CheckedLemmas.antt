@@ -1,0 +1,121 @@
+-- What loops over needs and places show of them.
+use Rattle.std.proofs.Common.{ap, arith, drop, get_or, length, List, map, subst, sym, ℕ, [], ◌+◌}
+use Rattle.std.proofs.{Common.{◌<◌, ◌∙◌, ◌∷◌, ◌≡◌, ◌≤◌}, lemmas.List.drop_all}
+use Rattle.std.specs.Prelude.{slice_range}
+use Rattle.frame_header.specs.{Fields.ClassFields, Tables.{class_of, window_of}}
+use Rattle.slot_plan.proofs.FreeByteLemmas.{more-behind, within-fit}
+use Rattle.slot_plan.proofs.PartLemmas.{next_need, one-class, parts-cons, parts-none}
+use Rattle.slot_plan.proofs.ReserveLemmas.{AllFit}
+use Rattle.slot_plan.specs.FreeBytes.{CanJoinBehind, FitBehindFree, FitBehindWindow, FitsBehind}
+use Rattle.slot_plan.specs.Layouts.{HasLayout}
+use Rattle.slot_plan.specs.Parts.{AreNeedsOfClass, AreNeedsOfOneClass, ArePartsFeasible}
+use Rattle.slot_plan.specs.Parts.{needs_in_parts, own_frame, own_slot_area}
+use Rattle.slot_plan.specs.{Reserve.free_bytes_behind, declared.needs.Need.Need}
+
+-- ---- one class
+-- one more frame is of the class
+pub class-more : (class : ClassFields) (needs : List Need) (i : ℕ) (need : Need) → i < length needs
+    → need ≡ get_or needs i need → class_of need.header ≡ class
+    → (AreNeedsOfClass class (drop i needs) → AreNeedsOfClass class needs)
+    → AreNeedsOfClass class (drop (i + 1) needs) → AreNeedsOfClass class needs
+unfolding AreNeedsOfClass
+class-more class needs i need within is same on rest =
+    on (subst (AreNeedsOfClass class) (sym (next_need needs i need within is)) (same, rest))
+
+-- where the loop has reached the end, all frames are of the class
+pub class-all : (class : ClassFields) (needs : List Need) (i : ℕ) (d : Need) → 0 < length needs
+    → length needs ≤ i → class ≡ class_of (get_or needs 0 d).header
+    → (AreNeedsOfClass class (drop i needs) → AreNeedsOfClass class needs)
+    → AreNeedsOfOneClass needs
+unfolding AreNeedsOfClass
+class-all class [] i d some all is on = absurd (omega arith)
+class-all class (first ∷ needs) i d some all is on =
+    subst (λ c. AreNeedsOfClass c needs) is
+    (on (subst (AreNeedsOfClass class) (sym (drop_all i (first ∷ needs) all)) tt)).1
+
+-- ---- frames that fit
+-- one more frame fits in the bytes before it and its own area
+pub fit-next : (window before free next area : ℕ) (part : List Need) (i : ℕ) (need : Need)
+    → i < length part → need ≡ get_or part i need → area ≡ own_slot_area need
+    → need.bytes ≤ free + area → next ≡ free_bytes_behind window free need.bytes area
+    → (AllFit window free (map own_frame (drop i part)) → AllFit window before (map own_frame part))
+    → AllFit window next (map own_frame (drop (i + 1) part))
+    → AllFit window before (map own_frame part)
+unfolding AllFit
+fit-next window before free next area part i need within is own room gives on rest =
+    let after : next ≡ free_bytes_behind window free need.bytes (own_slot_area need) =
+    gives ∙ ap (λ n. free_bytes_behind window free need.bytes n) own in
+    on (subst (λ l. AllFit window free (map own_frame l)) (sym (next_need part i need within is)) (
+      omega (arith, room, own),
+      subst (λ n. AllFit window n (map own_frame (drop (i + 1) part))) after rest,
+    ))
+
+-- where the loop has reached the end, all frames fit
+pub fit-all : (window before free : ℕ) (part : List Need) (i : ℕ) → before ≤ window
+    → length part ≤ i
+    → (AllFit window free (map own_frame (drop i part)) → AllFit window before (map own_frame part))
+    → FitsBehind window before part
+unfolding AllFit
+fit-all window before free part i most all on =
+    within-fit window before (map own_frame part) most
+    (on (subst (λ l. AllFit window free (map own_frame l)) (sym (drop_all i part all)) tt))
+
+-- ---- frames of one class that fit
+-- frames of one class that fit behind free bytes fit there by their own window
+pub behind-free : (class : ClassFields) (needs : List Need) (d : Need) (window free : ℕ)
+    → AreNeedsOfOneClass needs → class ≡ class_of (get_or needs 0 d).header
+    → window ≡ window_of class.version → free ≤ window → FitsBehind window free needs
+    → FitBehindFree free needs
+behind-free class needs d window free all is gives within fits = record {
+  class = class;
+  same = one-class class needs d all is;
+  within = omega (arith, gives, within);
+  fits = subst (λ n. FitsBehind n free needs) gives fits;
+}
+
+-- and so do they behind a whole window
+pub behind-window : (free : ℕ) (needs : List Need) → FitBehindFree free needs
+    → FitBehindWindow needs
+behind-window free needs fit = record {
+  class = fit.class;
+  same = fit.same;
+  fits = more-behind (window_of fit.class.version) free
+      (window_of fit.class.version) needs fit.within fit.fits;
+}
+
+-- they can join others that leave no more than these bytes
+pub joins-window : (free other : ℕ) (needs : List Need) → 0 < length needs
+    → FitBehindFree free needs → other ≤ free → CanJoinBehind other needs
+joins-window free other needs some fit less = record {
+  some = some;
+  class = fit.class;
+  same = fit.same;
+  within = omega (arith, less, fit.within);
+  fits = more-behind (window_of fit.class.version) free
+      (window_of fit.class.version) needs fit.within fit.fits;
+}
+
+-- ---- parts that fit
+-- one more part fits behind a whole window
+pub parts-fit : (window : ℕ) (needs : List Need) (parts : List ℕ) (at from end : ℕ)
+    → at < length parts → from ≡ get_or parts at 0
+    → (at + 1 < length parts → end ≡ get_or parts (at + 1) 0)
+    → (length parts ≤ at + 1 → end ≡ length needs)
+    → HasLayout window window (map own_frame (slice_range needs from end))
+    → (ArePartsFeasible window (needs_in_parts needs (drop at parts))
+    → ArePartsFeasible window (needs_in_parts needs parts))
+    → ArePartsFeasible window (needs_in_parts needs (drop (at + 1) parts))
+    → ArePartsFeasible window (needs_in_parts needs parts)
+unfolding ArePartsFeasible
+parts-fit window needs parts at from end within is next last here on rest =
+    on (subst (ArePartsFeasible window)
+    (sym (parts-cons needs parts at from end within is next last)) (here, rest))
+
+-- where the loop has reached the end, all parts fit
+pub parts-fit-all : (window : ℕ) (needs : List Need) (parts : List ℕ) (at : ℕ) → length parts ≤ at
+    → (ArePartsFeasible window (needs_in_parts needs (drop at parts))
+    → ArePartsFeasible window (needs_in_parts needs parts))
+    → ArePartsFeasible window (needs_in_parts needs parts)
+unfolding ArePartsFeasible
+parts-fit-all window needs parts at all on =
+    on (subst (ArePartsFeasible window) (sym (parts-none needs parts at all)) tt)

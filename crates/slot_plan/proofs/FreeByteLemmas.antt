@@ -1,0 +1,487 @@
+-- Frames in their own slots fit behind some free bytes exactly where these are at
+-- least what they need, and what they leave is what is free after the last of them.
+use Rattle.std.proofs.Common.{ap, ap₂, arith, drop, get_or, length, List, map, refl, subst, sym}
+use Rattle.std.proofs.Common.{zero, ℕ, [], ◌++◌, ◌+◌, ◌-◌, ◌<◌, ◌∙◌, ◌∷◌, ◌≡◌, ◌≤◌}
+use Rattle.std.{proofs.lemmas.List.{drop-map, drop_all, map-append}, specs.Prelude.◌↔◌}
+use Rattle.frame_header.specs.Fields.{ClassFields, HeaderFields, SlotFields}
+use Rattle.frame_header.specs.{Tables.{class_of, window_of}, declared.version.Version.Version}
+use Rattle.frame_header.specs.declared.version.Version.TheVariants.{One, Two, TwoFive}
+use Rattle.slot_plan.proofs.AreaLemmas.{greatest-one}
+use Rattle.slot_plan.proofs.PartLemmas.{needed-first, needed-from, next_need, nothing_needed}
+use Rattle.slot_plan.proofs.PartLemmas.{same-class}
+use Rattle.slot_plan.proofs.ReserveLemmas.{AllFit, fit-after, fit-layout, fit-more, layout-fit}
+use Rattle.slot_plan.proofs.ReserveLemmas.{starts_of}
+use Rattle.slot_plan.specs.FreeBytes.{FitsBehind, frame_without_area, IsLeastWanted, IsMostLeft}
+use Rattle.slot_plan.specs.FreeBytes.{LeavesFree}
+use Rattle.slot_plan.specs.Laws.{FitsBehindWhatIsLeft, FitsWhereWanted, LeavesGoOn}
+use Rattle.slot_plan.specs.{Layouts.{FrameLengths, HasLayout, IsDataLayout}, Lists.AreChosenAreas}
+use Rattle.slot_plan.specs.Parts.{AreNeedsOfClass, own_frame, own_slot_area}
+use Rattle.slot_plan.specs.Reserve.{area_by_header, AreReservesInWindow, free_bytes_behind}
+use Rattle.slot_plan.specs.Reserve.{open_frames, own_area_of, reserve_before}
+use Rattle.slot_plan.specs.declared.needs.Need.{Need}
+
+-- each frame keeps its own slot
+abbrev pub own_slot : HeaderFields → List SlotFields
+own_slot h = h.slot ∷ []
+
+-- ---- a layout behind free bytes
+
+-- frames have a layout behind so many bytes exactly
+-- where they fit in as many, but no more than the window
+pub fit-feasible : (window free : ℕ) (frames : List FrameLengths) → HasLayout window free frames
+    → AllFit window (free - (free - window)) frames
+unfolding HasLayout
+fit-feasible window free frames (starts, layout) =
+    fit-layout window 0 free (free - (free - window)) frames starts (omega arith) layout
+
+-- frames that fit in as many of the free bytes as a window holds have a layout behind all of them
+pub feasible-fit : (window free : ℕ) (frames : List FrameLengths)
+    → AllFit window (free - (free - window)) frames → HasLayout window free frames
+unfolding HasLayout
+feasible-fit window free frames fit = (
+  starts_of window 0 free frames,
+  layout-fit window 0 free (free - (free - window)) frames (omega arith) (omega arith) fit,
+)
+
+-- up to the window these are the bytes themselves
+pub fit-within : (window free : ℕ) (frames : List FrameLengths) → free ≤ window
+    → HasLayout window free frames → AllFit window free frames
+fit-within window free frames within feasible =
+    let same : free - (free - window) ≡ free = omega arith in
+    subst (λ n. AllFit window n frames) same (fit-feasible window free frames feasible)
+
+-- frames that fit in free bytes within a window have a layout behind these
+pub within-fit : (window free : ℕ) (frames : List FrameLengths) → free ≤ window
+    → AllFit window free frames → HasLayout window free frames
+within-fit window free frames within fit =
+    let same : free ≡ free - (free - window) = omega arith in
+    feasible-fit window free frames (subst (λ n. AllFit window n frames) same fit)
+
+-- with more bytes they have one too
+pub feasible-more : (window free more : ℕ) (frames : List FrameLengths) → free ≤ more
+    → HasLayout window free frames → HasLayout window more frames
+feasible-more window free more frames less feasible =
+    feasible-fit window more frames (fit-more window (free - (free - window))
+    (more - (more - window)) frames (omega arith) (fit-feasible window free frames feasible))
+
+-- and so they fit behind more
+pub more-behind : (window free more : ℕ) (needs : List Need) → free ≤ more
+    → FitsBehind window free needs → FitsBehind window more needs
+more-behind window free more needs less fits =
+    feasible-more window free more (map own_frame needs) less fits
+
+-- a frame and then others fit exactly where its main data have room in
+-- the free bytes and its own area, and the others fit in what it leaves
+pub cons-fits : (window free : ℕ) (need : Need) (needs : List Need) → free ≤ window
+    → need.bytes ≤ free + own_slot_area need
+    → FitsBehind window (free_bytes_behind window free need.bytes (own_slot_area need)) needs
+    → FitsBehind window free (need ∷ needs)
+unfolding AllFit
+cons-fits window free need needs within room fits =
+    within-fit window free (map own_frame (need ∷ needs)) within (
+      room,
+      fit-within window (free_bytes_behind window free need.bytes (own_slot_area need))
+          (map own_frame needs)
+          (omega arith) fits,
+    )
+
+-- frames fit if the first does, and the others behind what it leaves
+pub fits-cons : (window free : ℕ) (need : Need) (needs : List Need) → free ≤ window
+    → FitsBehind window free (need ∷ needs) → (need.bytes ≤ free + own_slot_area need)
+    × FitsBehind window (free_bytes_behind window free need.bytes (own_slot_area need)) needs
+unfolding AllFit
+fits-cons window free need needs within fits =
+    let fit = fit-within window free (map own_frame (need ∷ needs)) within fits in (
+      fit.0,
+      within-fit window (free_bytes_behind window free need.bytes (own_slot_area need))
+          (map own_frame needs)
+          (omega arith) fit.1,
+    )
+
+-- ---- how many bytes frames want
+
+-- what frames in their own slots need
+abbrev pub own_needed : List Need → ℕ
+own_needed needs = reserve_before (open_frames own_slot needs)
+
+-- each frame has its own area to choose, and takes it
+pub chosen-own : (needs : List Need)
+    → AreChosenAreas (open_frames own_slot needs) (map (area_by_header own_area_of) needs)
+unfolding AreChosenAreas
+chosen-own [] = tt
+chosen-own (need ∷ needs) = ((zero, omega arith, refl), chosen-own needs)
+
+-- frames need what the others need and their first, less the area of the first
+pub own-cons : (need : Need) (needs : List Need)
+    → own_needed (need ∷ needs) ≡ (need.bytes + own_needed needs) - own_slot_area need
+unfolding reserve_before
+own-cons need needs = omega (arith, greatest-one (own_slot_area need))
+
+-- where what they need is free they fit
+pub fit-own : (window free : ℕ) (needs : List Need) → own_needed needs ≤ free
+    → AreReservesInWindow window (open_frames own_slot needs)
+    → AllFit window free (map own_frame needs)
+unfolding AllFit AreReservesInWindow
+fit-own window free [] enough within = tt
+fit-own window free (need ∷ needs) enough within =
+    let here = own-cons need needs in
+    let behind : own_needed needs ≤ window = within.0 in (
+      omega (arith, here, enough),
+      fit-own window (free_bytes_behind window free need.bytes (own_slot_area need)) needs
+          (omega (arith, here, enough, behind)) within.1,
+    )
+
+-- no more is needed from any frame on than the window
+pub own-from : (window free k : ℕ) (needs : List Need) → FitsBehind window free needs
+    → (own_needed (drop k needs) ≤ window)
+    × AreReservesInWindow window (open_frames own_slot (drop k needs))
+own-from window free k needs fits =
+    needed-from window free k own_slot own_area_of needs fits (chosen-own (drop k needs))
+
+-- What they need is the least number of bytes behind which they fit.
+pub own-wanted : (window free : ℕ) (needs : List Need) → FitsBehind window free needs
+    → IsLeastWanted window needs (own_needed needs)
+own-wanted window free needs fits =
+    let all = own-from window free 0 needs fits in
+    record {
+      fits = within-fit window (own_needed needs)
+          (map own_frame needs) all.0 (fit-own window (own_needed needs) needs (omega arith) all.1);
+      least = λ other behind. needed-first window other own_slot own_area_of needs behind
+          (chosen-own needs);
+    }
+
+-- no frames want nothing
+pub nothing-fits : (window free : ℕ) → FitsBehind window free []
+unfolding HasLayout IsDataLayout
+nothing-fits window free = ([], tt)
+
+-- Frames fit behind exactly the bytes that are at least what they want.
+pub fits-wanted : (window free wanted : ℕ) (needs : List Need) → IsLeastWanted window needs wanted
+    → FitsBehind window free needs ↔ (wanted ≤ free)
+fits-wanted window free wanted needs is =
+    (is.least free, λ enough. more-behind window wanted free needs enough is.fits)
+
+-- ---- how many bytes frames leave
+
+-- what is free after frames
+unfoldable pub left_after : ℕ → ℕ → List FrameLengths → ℕ
+left_after window free [] = free
+left_after window free (frame ∷ frames) =
+    left_after window (free_bytes_behind window free frame.bytes frame.area) frames
+
+-- it is at most the window
+pub left-within : (window free : ℕ) (frames : List FrameLengths) → free ≤ window
+    → left_after window free frames ≤ window
+unfolding left_after
+left-within window free [] within = within
+left-within window free (frame ∷ frames) within =
+    left-within window (free_bytes_behind window free frame.bytes frame.area) frames (omega arith)
+
+-- after more frames it goes on
+pub left-append : (window free : ℕ) (xs ys : List FrameLengths)
+    → left_after window free (xs ++ ys) ≡ left_after window (left_after window free xs) ys
+unfolding left_after
+left-append window free [] ys = refl
+left-append window free (x ∷ xs) ys =
+    left-append window (free_bytes_behind window free x.bytes x.area) xs ys
+
+-- frames and then others fit exactly where the first fit, and the others in what is free after them
+pub append-fit : (window free : ℕ) (xs ys : List FrameLengths) → AllFit window free xs
+    → AllFit window (left_after window free xs) ys → AllFit window free (xs ++ ys)
+unfolding AllFit left_after
+append-fit window free [] ys first second = second
+append-fit window free (x ∷ xs) ys first second =
+    (first.0, append-fit window (free_bytes_behind window free x.bytes x.area) xs ys first.1 second)
+
+-- if frames and then others fit, so do the first, and the others behind what these leave
+pub fit-append : (window free : ℕ) (xs ys : List FrameLengths) → AllFit window free (xs ++ ys)
+    → AllFit window free xs × AllFit window (left_after window free xs) ys
+unfolding AllFit left_after
+fit-append window free [] ys all = (tt, all)
+fit-append window free (x ∷ xs) ys all =
+    let rest = fit-append window (free_bytes_behind window free x.bytes x.area) xs ys all.1 in
+    ((all.0, rest.0), rest.1)
+
+-- what is free after them is what a frame without an area can have before it
+before-fits : (window left bytes : ℕ) → bytes ≤ left
+    → AllFit window left (frame_without_area bytes ∷ [])
+unfolding AllFit
+before-fits window left bytes within = (omega (arith, within), tt)
+
+fits-before : (window left bytes : ℕ) → AllFit window left (frame_without_area bytes ∷ [])
+    → bytes ≤ left
+unfolding AllFit
+fits-before window left bytes fit = omega (arith, fit.0)
+
+-- frames that leave something fit
+pub leaves-fit : (window free left : ℕ) (needs : List Need) → free ≤ window
+    → LeavesFree window free needs left
+    → FitsBehind window free needs × (left ≤ left_after window free (map own_frame needs))
+leaves-fit window free left needs within leaves =
+    let frames = map own_frame needs in
+    let fit = fit-append window free frames (frame_without_area left ∷ [])
+    (fit-within window free (frames ++ frame_without_area left ∷ []) within leaves) in (
+      within-fit window free frames within fit.0,
+      fits-before window (left_after window free frames) left fit.1,
+    )
+
+-- What is free after them is the most that they leave.
+pub own-left : (window free : ℕ) (needs : List Need) → free ≤ window → FitsBehind window free needs
+    → IsMostLeft window free needs (left_after window free (map own_frame needs))
+own-left window free needs within fits =
+    let frames = map own_frame needs in
+    let left : ℕ = left_after window free frames in
+    record {
+      within = left-within window free frames within;
+      leaves = within-fit window free (frames ++ frame_without_area left ∷ []) within
+          (append-fit window free frames (frame_without_area left ∷ [])
+          (fit-within window free frames within fits) (before-fits window left left (omega arith)));
+      greatest = λ other most leaves. (leaves-fit window free other needs within leaves).1;
+    }
+
+-- there is only one such number
+pub one-left : (window free m n : ℕ) (needs : List Need) → IsMostLeft window free needs m
+    → IsMostLeft window free needs n → m ≡ n
+one-left window free m n needs first second =
+    let less = second.greatest m first.within first.leaves in
+    let more = first.greatest n second.within second.leaves in
+    omega arith
+
+-- what is left after frames that fit is the only number that they leave
+pub left-value : (window free left : ℕ) (needs : List Need) → free ≤ window
+    → IsMostLeft window free needs left → left ≡ left_after window free (map own_frame needs)
+left-value window free left needs within is =
+    one-left window free left (left_after window free (map own_frame needs)) needs is
+    (own-left window free needs within (leaves-fit window free left needs within is.leaves).0)
+
+-- frames that begin with a frame leave what the others leave behind what it leaves
+pub left-cons : (window free left : ℕ) (need : Need) (needs : List Need) → free ≤ window
+    → need.bytes ≤ free + own_slot_area need
+    → IsMostLeft window (free_bytes_behind window free need.bytes (own_slot_area need)) needs left
+    → IsMostLeft window free (need ∷ needs) left
+unfolding left_after
+left-cons window free left need needs within room is =
+    let behind : ℕ = free_bytes_behind window free need.bytes (own_slot_area need) in
+    let less : behind ≤ window = omega arith in
+    let fits = cons-fits window free need needs within room
+    (leaves-fit window behind left needs less is.leaves).0 in
+    subst (IsMostLeft window free (need ∷ needs))
+    (sym (left-value window behind left needs less is))
+    (own-left window free (need ∷ needs) within fits)
+
+-- ---- frames and then others
+
+-- if all fit, so do the first
+pub fits-front : (window free : ℕ) (first others : List Need)
+    → FitsBehind window free (first ++ others) → FitsBehind window free first
+fits-front window free first others fits =
+    let fit = fit-feasible window free (map own_frame (first ++ others)) fits in
+    let parts =
+    subst (AllFit window (free - (free - window))) (map-append own_frame first others) fit in
+    feasible-fit window free (map own_frame first) (fit-append window (free - (free - window))
+    (map own_frame first) (map own_frame others) parts).0
+
+module _ (window free mid : ℕ) (first others : List Need) (within : free ≤ window)
+    (is : IsMostLeft window free first mid) where
+  mid-is : mid ≡ left_after window free (map own_frame first)
+  mid-is = left-value window free mid first within is
+
+  -- Behind what the first leave, the others fit exactly where all fit.
+  pub fits-then : FitsBehind window free (first ++ others) → FitsBehind window mid others
+  fits-then fits =
+      let fit = subst (AllFit window free) (map-append own_frame first others)
+      (fit-within window free (map own_frame (first ++ others)) within fits) in
+      let behind = (fit-append window free (map own_frame first) (map own_frame others) fit).1 in
+      within-fit window mid (map own_frame others)
+      is.within (subst (λ n. AllFit window n (map own_frame others)) (sym mid-is) behind)
+
+  -- others that fit behind what the first leave fit behind the first
+  pub then-fits : FitsBehind window mid others → FitsBehind window free (first ++ others)
+  then-fits fits =
+      let before = fit-within window free (map own_frame first) within
+      (leaves-fit window free mid first within is.leaves).0 in
+      let behind = subst (λ n. AllFit window n (map own_frame others)) mid-is
+      (fit-within window mid (map own_frame others) is.within fits) in
+      within-fit window free (map own_frame (first ++ others)) within
+      (subst (AllFit window free) (sym (map-append own_frame first others))
+      (append-fit window free (map own_frame first) (map own_frame others) before behind))
+
+  -- What all leave is what the others leave behind that.
+  left-both : left_after window free (map own_frame (first ++ others))
+      ≡ left_after window mid (map own_frame others)
+  left-both =
+      ap (left_after window free) (map-append own_frame first others)
+      ∙ left-append window free (map own_frame first) (map own_frame others)
+      ∙ ap (λ n. left_after window n (map own_frame others)) (sym mid-is)
+
+  -- what both leave is what the others leave behind what the first leave
+  pub left-then : (left : ℕ) → IsMostLeft window free (first ++ others) left
+      → IsMostLeft window mid others left
+  left-then left all =
+      let fits = fits-then (leaves-fit window free left (first ++ others) within all.leaves).0 in
+      subst (IsMostLeft window mid others)
+      (sym (left-value window free left (first ++ others) within all ∙ left-both))
+      (own-left window mid others is.within fits)
+
+  -- and what the others leave there is what both leave
+  pub then-left : (left : ℕ) → IsMostLeft window mid others left
+      → IsMostLeft window free (first ++ others) left
+  then-left left behind =
+      let fits = then-fits (leaves-fit window mid left others is.within behind.leaves).0 in
+      subst (IsMostLeft window free (first ++ others))
+      (left-both ∙ sym (left-value window mid left others is.within behind))
+      (own-left window free (first ++ others) within fits)
+
+-- ---- from frame to frame
+
+-- some of the frames fit behind a whole window
+pub fits-drop : (window free k : ℕ) (needs : List Need) → FitsBehind window free needs
+    → FitsBehind window window (drop k needs)
+fits-drop window free k needs fits =
+    within-fit window window (map own_frame (drop k needs)) (omega arith) (subst (AllFit window
+    window) (drop-map own_frame k needs) (fit-after window free k (map own_frame needs) fits))
+
+-- where frames are of two classes, these have one window, or there are no frames
+pub fits-in : (c d : ClassFields) (needs : List Need) (free : ℕ → ℕ) → AreNeedsOfClass c needs
+    → AreNeedsOfClass d needs → FitsBehind (window_of c.version) (free (window_of c.version)) needs
+    → FitsBehind (window_of d.version) (free (window_of d.version)) needs
+unfolding AreNeedsOfClass
+fits-in c d [] free first second fits =
+    nothing-fits (window_of d.version) (free (window_of d.version))
+fits-in c d (need ∷ needs) free first second fits = subst (λ (k : ClassFields). FitsBehind
+    (window_of k.version) (free (window_of k.version)) (need ∷ needs)) (sym first.0 ∙ second.0) fits
+
+-- the window of a frame that is read is that of all
+pub window-read : (class own : ClassFields) (needs : List Need) (i window : ℕ) (need : Need)
+    → AreNeedsOfClass class needs → i < length needs → need ≡ get_or needs i need
+    → own ≡ class_of need.header → window ≡ window_of own.version → window ≡ window_of class.version
+window-read class own needs i window need all within is reads gives = gives
+    ∙ ap (λ k. window_of k.version) (reads ∙ sym (same-class class needs i need all within is))
+
+-- no window is longer than 511 bytes
+pub window-most : (version : Version) → window_of version ≤ 511
+window-most One = omega arith
+window-most Two = omega arith
+window-most TwoFive = omega arith
+
+-- after the last frame nothing is wanted, and one place farther back is the next frame
+pub wanted-none : (needs : List Need) → 0 ≡ own_needed (drop (length needs) needs)
+wanted-none needs =
+    sym (ap own_needed (drop_all (length needs) needs (omega arith)) ∙ nothing_needed own_slot)
+
+-- the place after the one before is the place itself
+pub wanted-before : (needs : List Need) (at wanted : ℕ) → 0 < at
+    → wanted ≡ own_needed (drop at needs) → wanted ≡ own_needed (drop (at - 1 + 1) needs)
+wanted-before needs at wanted some is =
+    let next : at ≡ at - 1 + 1 = omega arith in
+    subst (λ k. wanted ≡ own_needed (drop k needs)) next is
+
+-- at the first frame what is wanted from it on is wanted by all
+pub wanted-all : (window : ℕ) (needs : List Need) (at wanted : ℕ) → at ≡ 0
+    → FitsBehind window window needs → wanted ≡ own_needed (drop at needs)
+    → IsLeastWanted window needs wanted
+wanted-all window needs at wanted none fits is =
+    let all : wanted ≡ own_needed needs = subst (λ k. wanted ≡ own_needed (drop k needs)) none is in
+    subst (IsLeastWanted window needs) (sym all) (own-wanted window window needs fits)
+
+module _ (window : ℕ) (needs : List Need) (i : ℕ) (need : Need) (within : i < length needs)
+    (is : need ≡ get_or needs i need) where
+  -- what frames want from one on
+  pub wanted-next : (after area : ℕ) → after ≡ own_needed (drop (i + 1) needs)
+      → area ≡ own_slot_area need → own_needed (drop i needs) ≡ (need.bytes + after) - area
+  wanted-next after area same own =
+      ap own_needed (next_need needs i need within is) ∙ own-cons need (drop (i + 1) needs)
+      ∙ ap₂ (λ m n. (need.bytes + m) - n) (sym same) (sym own)
+
+  -- where frames fit, a frame and what is wanted after it have room in its area and a window
+  pub wanted-most : (free after area : ℕ) → FitsBehind window free needs → after
+      ≡ own_needed (drop (i + 1) needs) → area ≡ own_slot_area need
+      → need.bytes + after ≤ window + area
+  wanted-most free after area fits same own =
+      omega (arith, wanted-next after area same own, (own-from window free i needs fits).0)
+
+-- So many bytes are left before the frame at i, behind which it
+-- and the others fit. What is free after them is left by all.
+pub record LeavesFrom (window free : ℕ) (needs : List Need) (i left : ℕ) : Type 0 where
+  pub within : left ≤ window
+  pub fits : FitsBehind window left (drop i needs)
+  pub same : left_after window left (map own_frame (drop i needs))
+      ≡ left_after window free (map own_frame needs)
+
+-- with the window of each class that the frames have
+abbrev pub LeavesIn : ℕ → List Need → ℕ → ℕ → Type 0
+LeavesIn free needs i left =
+    (c : ClassFields) → AreNeedsOfClass c needs → free ≤ window_of c.version
+    → FitsBehind (window_of c.version) free needs
+    → LeavesFrom (window_of c.version) free needs i left
+
+-- before the first frame all free bytes are left
+pub leaves-none : (free : ℕ) (needs : List Need) → LeavesIn free needs 0 free
+leaves-none free needs =
+    λ c of_class within fits. record { within = within; fits = fits; same = refl }
+
+module _ (window free : ℕ) (needs : List Need) (i : ℕ) (need : Need) (left area : ℕ)
+    (within : i < length needs) (is : need ≡ get_or needs i need) (own : area ≡ own_slot_area need)
+    (from : LeavesFrom window free needs i left) where
+  -- the frame has room in what is left and its own area
+  pub leaves-room : need.bytes ≤ left + area
+  leaves-room =
+      let here = subst (FitsBehind window left) (next_need needs i need within is) from.fits in
+      omega (arith, own, (fits-cons window left need (drop (i + 1) needs) from.within here).0)
+
+  -- what is left behind it is left before the next one
+  pub leaves-more : (next : ℕ) → next ≡ free_bytes_behind window left need.bytes area
+      → LeavesFrom window free needs (i + 1) next
+  unfolding left_after
+  leaves-more next gives =
+      let rest : List Need = drop (i + 1) needs in
+      let parts = fits-cons window left need rest
+      from.within (subst (FitsBehind window left) (next_need needs i need within is) from.fits) in
+      let value : next ≡ free_bytes_behind window left need.bytes (own_slot_area need) =
+      gives ∙ ap (free_bytes_behind window left need.bytes) own in
+      record {
+        within = omega (arith, value);
+        fits = subst (λ n. FitsBehind window n rest) (sym value) parts.1;
+        same = ap (λ n. left_after window n (map own_frame rest)) value ∙ sym
+            (ap (λ l. left_after window left (map own_frame l)) (next_need needs i need within is))
+            ∙ from.same;
+      }
+
+-- after the last frame what is left is what all of them leave
+pub leaves-all : (window free : ℕ) (needs : List Need) (i left : ℕ) → length needs ≤ i
+    → free ≤ window → FitsBehind window free needs → LeavesFrom window free needs i left
+    → IsMostLeft window free needs left
+unfolding left_after
+leaves-all window free needs i left all within fits from =
+    let value : left ≡ left_after window free (map own_frame needs) =
+    sym (ap (λ l. left_after window left (map own_frame l)) (drop_all i needs all)) ∙ from.same in
+    subst (IsMostLeft window free needs) (sym value) (own-left window free needs within fits)
+
+-- ---- the laws
+
+-- others fit behind frames exactly where they fit behind what these leave
+pub behind-left : FitsBehindWhatIsLeft
+behind-left = λ window free first others within some. (
+  (λ fits. (
+    fits-front window free first others fits,
+    (λ left wanted is wants. wants.least left
+        (fits-then window free left first others within is fits)),
+  )),
+  (λ parts.
+      let is = own-left window free first within parts.0 in
+      let wants = own-wanted window window others some in
+      let left : ℕ = left_after window free (map own_frame first) in
+      then-fits window free left first others within is (more-behind window
+      (own_needed others) left others (parts.1 left (own_needed others) is wants) wants.fits)),
+)
+
+-- what frames and then others leave is what the others leave behind what the first leave
+pub left-on : LeavesGoOn
+left-on = λ window free mid left first others within is. (
+  left-then window free mid first others within is left,
+  then-left window free mid first others within is left,
+)
+
+-- frames fit behind exactly the bytes that are at least what they want
+pub where-wanted : FitsWhereWanted
+where-wanted = λ window free wanted needs is. fits-wanted window free wanted needs is

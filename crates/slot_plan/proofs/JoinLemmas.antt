@@ -1,0 +1,262 @@
+-- The lead-in of frames in their own slots, and the slot in which such frames join others.
+use Rattle.std.proofs.Common.{AllPairs, ap, arith, Bool, Contains, drop, false, get_or, length}
+use Rattle.std.proofs.Common.{List, max, None, refl, Some, subst, sym, take, ℕ, [], ◌*◌, ◌+◌, ◌-◌}
+use Rattle.std.proofs.{Common.{◌<◌, ◌∙◌, ◌∷◌, ◌≡◌, ◌≤◌}, lemmas.List.{length-drop, take_all}}
+use Rattle.frame_header.proofs.SlotLemmas.{window-spanned}
+use Rattle.frame_header.specs.Fields.{ClassFields, HeaderFields, IsClass, SlotFields}
+use Rattle.frame_header.specs.{Slots.{all_slots, areas_of}, Tables.{area_of, class_of, window_of}}
+use Rattle.slot_plan.proofs.AreaLemmas.{class-ascend, Contains-area, lead-any, leads-span}
+use Rattle.slot_plan.proofs.FreeByteLemmas.{cons-fits, fits-cons, fits-drop, more-behind}
+use Rattle.slot_plan.proofs.PartLemmas.{class-drop, next_need}
+use Rattle.slot_plan.proofs.ReserveLemmas.{greatest-most, max-is}
+use Rattle.slot_plan.specs.FreeBytes.{CanJoinBehind, FitBehindWindow, FitsBehind, IsJoinSlot}
+use Rattle.slot_plan.specs.FreeBytes.{IsLeadInHeader, IsLeadInSlot, IsLeastWanted, JoinsInSlot}
+use Rattle.slot_plan.specs.FreeBytes.{need_in_slot}
+use Rattle.slot_plan.specs.Parts.{AreNeedsOfClass, AreRisingSlots, own_slot_area, slot_areas}
+use Rattle.slot_plan.specs.Reserve.{free_bytes_behind, greatest_number, IsLeastSlot}
+use Rattle.slot_plan.specs.declared.needs.Need.{Need}
+
+-- ---- the lead-in
+
+-- Its slot is the least whose area has what the frames want.
+pub lead-slot : (window wanted : ℕ) (class : ClassFields) (needs : List Need) (slot : SlotFields)
+    → IsLeastWanted window needs wanted → IsLeastSlot wanted class false all_slots slot
+    → IsLeadInSlot window class needs slot
+lead-slot window wanted class needs slot is least = record {
+  chosen = least.chosen;
+  fits = more-behind window wanted (area_of class slot false) needs least.enough is.fits;
+  least = λ other has fits. least.least other has (is.least (area_of class other false) fits);
+}
+
+-- the first header, unprotected and in that slot, is the header of the lead-in
+pub lead-header : (window : ℕ) (first : Need) (needs : List Need) (slot : SlotFields)
+    (header : HeaderFields) → IsLeadInSlot window (class_of first.header) (first ∷ needs) slot
+    → header ≡ record first.header { protected = false; slot = slot }
+    → IsLeadInHeader window (first ∷ needs) header
+unfolding IsLeadInHeader
+lead-header window first needs slot header is gives =
+    let same : slot ≡ header.slot = sym (ap (λ h. h.slot) gives) in (
+      subst (IsLeadInSlot window (class_of first.header) (first ∷ needs)) same is,
+      gives ∙ ap (λ s. record first.header { protected = false; slot = s }) same,
+    )
+
+-- ---- frames that join others
+
+module _ (window free wanted : ℕ) (first : Need) (needs : List Need) (slot : SlotFields)
+    (within : free ≤ window) where
+  -- With its first frame in a slot, a list fits where what
+  -- the others want and the main data of the first have room.
+  pub slot-fits : wanted ≤ window → IsLeastWanted window needs wanted → first.bytes + wanted
+      ≤ free + own_slot_area (need_in_slot slot first)
+      → FitsBehind window free (need_in_slot slot first ∷ needs)
+  slot-fits most is room =
+      cons-fits window free (need_in_slot slot first) needs within (omega (arith, room))
+      (more-behind window wanted
+      (free_bytes_behind window free first.bytes (own_slot_area (need_in_slot slot first)))
+      needs (omega (arith, room, most)) is.fits)
+
+  -- a list with its first frame in a slot fits where that frame and what the others want have room
+  pub fits-slot : IsLeastWanted window needs wanted
+      → FitsBehind window free (need_in_slot slot first ∷ needs)
+      → first.bytes + wanted ≤ free + own_slot_area (need_in_slot slot first)
+  fits-slot is fits =
+      let parts = fits-cons window free (need_in_slot slot first) needs within fits in
+      let enough =
+      is.least (free_bytes_behind window free first.bytes (own_slot_area (need_in_slot slot first)))
+      parts.1 in
+      omega (arith, parts.0, enough)
+
+module _ (window free wanted area : ℕ) (first : Need) (needs : List Need) (within : free ≤ window)
+    (most : wanted ≤ window) (is : IsLeastWanted window needs wanted)
+    (gives : area ≡ max ((first.bytes + wanted) - free) (own_slot_area first)) where
+  -- the area of a slot in which the first can join
+  pub joins-area : (slot : SlotFields) → JoinsInSlot window free first needs slot
+      → area ≤ own_slot_area (need_in_slot slot first)
+  joins-area slot joins =
+      let room = fits-slot window free wanted first needs slot within is joins.fits in
+      omega (
+        arith,
+        gives,
+        max-is ((first.bytes + wanted) - free) (own_slot_area first),
+        room,
+        joins.not_less,
+      )
+
+  -- in a slot with so large an area the frames join
+  pub area-joins : (slot : SlotFields) → Contains all_slots slot
+      → area ≤ own_slot_area (need_in_slot slot first) → JoinsInSlot window free first needs slot
+  area-joins slot has enough =
+      let is_max = max-is ((first.bytes + wanted) - free) (own_slot_area first) in
+      record {
+        chosen = has;
+        not_less = omega (arith, gives, is_max, enough);
+        fits = slot-fits window free wanted first needs slot within most is
+            (omega (arith, gives, is_max, enough));
+      }
+
+  -- It joins in the least slot with such an area, if there is one.
+  pub least-joins : (slot : SlotFields)
+      → IsLeastSlot area (class_of first.header) first.header.protected all_slots slot
+      → IsJoinSlot window free (first ∷ needs) (Some slot)
+  unfolding IsJoinSlot
+  least-joins slot least = record {
+    joins = area-joins slot least.chosen least.enough;
+    least = λ other joins. least.least other joins.chosen (joins-area other joins);
+  }
+
+  -- if no slot has so large an area they don't
+  pub none-joins : greatest_number
+      (slot_areas (class_of first.header) first.header.protected all_slots)
+      < area → IsJoinSlot window free (first ∷ needs) None
+  unfolding IsJoinSlot
+  none-joins less slot joins =
+      let class : ClassFields = class_of first.header in
+      let most_area = greatest-most (slot_areas class first.header.protected all_slots)
+      (area_of class slot first.header.protected)
+      (Contains-area class first.header.protected all_slots slot joins.chosen) in
+      omega (arith, less, most_area, joins-area slot joins)
+
+-- ---- what the calls ask for
+
+-- all slots ascend
+pub rising-all : (class : ClassFields) (protected : Bool) (slots : List SlotFields)
+    → slots ≡ all_slots → AllPairs (λ m n. m < n) (areas_of class protected)
+    → AreRisingSlots class protected slots
+rising-all class protected slots all ascend = record {
+  some = lead-any slots all;
+  ascending = class-ascend class class protected slots all refl ascend;
+}
+
+-- a lead-in of some slot has what frames want that fit behind a whole window
+pub lead-enough : (class : ClassFields) (wanted : ℕ) (needs : List Need) (slots : List SlotFields)
+    → IsClass class → slots ≡ all_slots
+    → FitsBehind (window_of class.version) (window_of class.version) needs
+    → IsLeastWanted (window_of class.version) needs wanted
+    → wanted ≤ greatest_number (slot_areas class false slots)
+lead-enough class wanted needs slots known all fits is =
+    let most = is.least (window_of class.version) fits in
+    let spans = leads-span class (window_of class.version) (window-spanned class known) in
+    omega (arith, most, spans, ap (λ l. greatest_number (slot_areas class false l)) all)
+
+-- the least slot is the same of equal classes and lists
+pub least-in : (m n : ℕ) (c d : ClassFields) (p q : Bool) (xs ys : List SlotFields)
+    (slot : SlotFields) → m ≡ n → c ≡ d → p ≡ q → xs ≡ ys → IsLeastSlot m c p xs slot
+    → IsLeastSlot n d q ys slot
+least-in m n c d p q xs ys slot same_wanted same_class same_protected same_slots least =
+    subst (λ k. IsLeastSlot k d q ys slot) same_wanted
+    (subst (λ k. IsLeastSlot m k q ys slot) same_class (subst (λ k. IsLeastSlot m c k ys slot)
+    same_protected (subst (λ k. IsLeastSlot m c p k slot) same_slots least)))
+
+-- so is the greatest area
+pub greatest-in : (c d : ClassFields) (p q : Bool) (xs ys : List SlotFields) → c ≡ d → p ≡ q
+    → xs ≡ ys → greatest_number (slot_areas c p xs) ≡ greatest_number (slot_areas d q ys)
+greatest-in c d p q xs ys same_class same_protected same_slots =
+    ap (λ k. greatest_number (slot_areas k p xs)) same_class
+    ∙ ap (λ k. greatest_number (slot_areas d k xs)) same_protected
+    ∙ ap (λ k. greatest_number (slot_areas d q k)) same_slots
+
+-- the frames but the first, as a slice
+abbrev pub others_of : List Need → List Need
+others_of needs = take (length needs - 1) (drop 1 needs)
+
+-- the other frames are those without the first
+pub others-are : (needs : List Need) → others_of needs ≡ drop 1 needs
+others-are needs = take_all (length needs - 1) (drop 1 needs) (omega (arith, length-drop 1 needs))
+
+-- the other frames of a list that can join fit behind a whole window
+pub others-fit : (free : ℕ) (needs : List Need) → CanJoinBehind free needs
+    → FitBehindWindow (others_of needs)
+others-fit free needs can = record {
+  class = can.class;
+  same =
+      subst (AreNeedsOfClass can.class) (sym (others-are needs))
+      (class-drop can.class needs 1 can.same);
+  fits = subst (FitsBehind (window_of can.class.version) (window_of can.class.version))
+      (sym (others-are needs))
+      (fits-drop (window_of can.class.version) (window_of can.class.version) 1 needs can.fits);
+}
+
+-- the first of some frames, and what the others want
+pub record FirstOf (window free wanted : ℕ) (first : Need) (needs : List Need) : Type 0 where
+  pub whole : needs ≡ first ∷ drop 1 needs
+  pub within : free ≤ window
+  pub fits : FitsBehind window window (first ∷ drop 1 needs)
+  pub wants : IsLeastWanted window (drop 1 needs) wanted
+  pub most : wanted ≤ window
+
+one-window : (c d : ClassFields) (needs : List Need) → 0 < length needs → AreNeedsOfClass c needs
+    → AreNeedsOfClass d needs → c ≡ d
+unfolding AreNeedsOfClass
+one-window c d [] some first second = absurd (omega (arith, some))
+one-window c d (need ∷ needs) some first second = sym first.0 ∙ second.0
+
+-- the first frame of a list that can join, and what the others want
+pub first-of : (class : ClassFields) (free wanted : ℕ) (first : Need) (needs : List Need)
+    → CanJoinBehind free needs → AreNeedsOfClass class needs → first ≡ get_or needs 0 first
+    → ((k : ClassFields) → AreNeedsOfClass k (others_of needs)
+    → IsLeastWanted (window_of k.version) (others_of needs) wanted)
+    → FirstOf (window_of class.version) free wanted first needs
+first-of class free wanted first needs can same is gives =
+    let one = one-window can.class class needs can.some can.same same in
+    let wants =
+    subst (λ l. IsLeastWanted (window_of class.version) l wanted) (others-are needs) (gives
+    class (subst (AreNeedsOfClass class) (sym (others-are needs)) (class-drop class needs 1 same)))
+    in
+    let fits = subst (λ (k : ClassFields). FitsBehind (window_of k.version)
+    (window_of k.version) needs) one can.fits in
+    let whole : needs ≡ first ∷ drop 1 needs = next_need needs 0 first can.some is in
+    record {
+      whole = whole;
+      within = subst (λ (k : ClassFields). free ≤ window_of k.version) one can.within;
+      fits = subst (FitsBehind (window_of class.version) (window_of class.version)) whole fits;
+      wants = wants;
+      most = wants.least (window_of class.version)
+          (fits-drop (window_of class.version) (window_of class.version) 1 needs fits);
+    }
+
+module _ (window free wanted area : ℕ) (first : Need) (needs : List Need) where
+  -- in its own area and two windows the first frame has room with what the others want
+  pub first-room : FirstOf window free wanted first needs → area ≡ own_slot_area first
+      → first.bytes + wanted ≤ 2 * window + area
+  first-room of own =
+      let room = (fits-cons window window first (drop 1 needs) (omega arith) of.fits).0 in
+      omega (arith, room, of.most, own)
+
+  -- the least slot with what is missing, but no less
+  -- than its own area, is that in which frames join
+  pub first-joins : (slot : SlotFields) → FirstOf window free wanted first needs
+      → area ≡ max ((first.bytes + wanted) - free) (own_slot_area first)
+      → IsLeastSlot area (class_of first.header) first.header.protected all_slots slot
+      → IsJoinSlot window free needs (Some slot)
+  first-joins slot of gives least =
+      subst (λ l. IsJoinSlot window free l (Some slot)) (sym of.whole)
+      (least-joins window free wanted
+      area first (drop 1 needs) of.within of.most of.wants gives slot least)
+
+  -- if no slot has so much, they don't join
+  pub first-none : FirstOf window free wanted first needs
+      → area ≡ max ((first.bytes + wanted) - free) (own_slot_area first)
+      → greatest_number (slot_areas (class_of first.header) first.header.protected all_slots) < area
+      → IsJoinSlot window free needs None
+  first-none of gives less =
+      subst (λ l. IsJoinSlot window free l None) (sym of.whole)
+      (none-joins window free wanted area first
+      (drop 1 needs) of.within of.most of.wants gives less)
+
+-- ---- the lead-in of frames
+
+-- the least slot with what frames want is that of their lead-in
+pub lead-of : (class : ClassFields) (wanted : ℕ) (first : Need) (needs : List Need)
+    (slot : SlotFields) (header : HeaderFields) → FitBehindWindow needs → 0 < length needs
+    → AreNeedsOfClass class needs → first ≡ get_or needs 0 first → ((k : ClassFields)
+    → AreNeedsOfClass k needs → IsLeastWanted (window_of k.version) needs wanted)
+    → IsLeastSlot wanted (class_of first.header) false all_slots slot
+    → header ≡ record first.header { protected = false; slot = slot }
+    → IsLeadInHeader (window_of class.version) needs header
+lead-of class wanted first needs slot header fit some same is gives least made =
+    let whole : needs ≡ first ∷ drop 1 needs = next_need needs 0 first some is in
+    let wants = gives class same in
+    subst (λ l. IsLeadInHeader (window_of class.version) l header) (sym whole)
+    (lead-header (window_of class.version) first (drop 1 needs) slot header
+    (lead-slot (window_of class.version) wanted (class_of first.header) (first ∷ drop 1 needs) slot
+    (subst (λ l. IsLeastWanted (window_of class.version) l wanted) whole wants) least) made)

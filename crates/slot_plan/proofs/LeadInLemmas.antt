@@ -1,0 +1,233 @@
+-- The lead-in of a part is the first entry of the least list of its frames after one lead-in.
+use Rattle.std.proofs.Common.{arith, Contains, false, inl, inr, List, map, None, refl, Some, subst}
+use Rattle.std.proofs.Common.{suc, zero, ℕ, [], ◌+◌, ◌-◌, ◌<◌, ◌∷◌, ◌≡◌, ◌≤◌, ◌⊎◌}
+use Rattle.std.proofs.lemmas.Bool.{cases_lt}
+use Rattle.frame_header.specs.{Fields.{ClassFields, HeaderFields, SlotFields}, Slots.all_slots}
+use Rattle.frame_header.specs.Tables.{area_of, class_of}
+use Rattle.slot_plan.proofs.AreaLemmas.{Contains-area, slot-area}
+use Rattle.slot_plan.proofs.PlacedLemmas.{lead-chosen, lead-needed, lead-within}
+use Rattle.slot_plan.proofs.ReserveLemmas.{AreLeastAreas, can-needed, Contains-greatest, least-is}
+use Rattle.slot_plan.proofs.ReserveLemmas.{needed-can}
+use Rattle.slot_plan.specs.{Laws.{LeadInsComeFirst, led_open_frames}, Layouts.HasLayout}
+use Rattle.slot_plan.specs.Lists.{AreChosenAreas, CanBeLaid, frames_with_areas, IsLeastList}
+use Rattle.slot_plan.specs.Lists.{IsNotBehind, OpenFrame}
+use Rattle.slot_plan.specs.Parts.{IsLeadIn, lead_in_item, open_frame, part_items, slot_areas}
+use Rattle.slot_plan.specs.Reserve.{AreReservesInWindow, free_bytes_behind, greatest_number}
+use Rattle.slot_plan.specs.{Reserve.{open_frames, reserve_before}, declared.needs.Need.Need}
+
+-- ---- where some choice fits, there is a least one
+contains-cons : (m : ℕ) (ns : List ℕ) (n : ℕ) → Contains (m ∷ ns) n → (m ≡ n) ⊎ Contains ns n
+contains-cons m ns n (zero, within, at) = inl at
+contains-cons m ns n (suc i, within, at) = inr (i, omega arith, at)
+
+behind : (m n : ℕ) (ns : List ℕ) → Contains ns n → Contains (m ∷ ns) n
+behind m n ns c = (suc c.0, omega (arith, c.1), c.2)
+
+-- of a number and those of a list, the least that is large enough
+record LeastOf (wanted first : ℕ) (ns : List ℕ) : Type 0 where
+  least : ℕ
+  is : (first ≡ least) ⊎ Contains ns least
+  enough : wanted ≤ least
+  low : least ≤ first
+  most : (other : ℕ) → Contains ns other → wanted ≤ other → least ≤ other
+
+least-stays : (wanted first m : ℕ) (ns : List ℕ) → (wanted ≤ m → first ≤ m)
+    → LeastOf wanted first ns → LeastOf wanted first (m ∷ ns)
+least-stays wanted first m ns not_less rest = record {
+  least = rest.least;
+  is = elim rest.is as (λ _. (first ≡ rest.least) ⊎ Contains (m ∷ ns) rest.least) [
+    | inl same ↦ inl same
+    | inr has ↦ inr (behind m rest.least ns has)
+  ];
+  enough = rest.enough;
+  low = rest.low;
+  most = λ other has fits. elim (contains-cons m ns other has) as (λ _. rest.least ≤ other) [
+    | inl same ↦ let from = not_less (omega (arith, same, fits)) in
+        omega (arith, same, from, rest.low)
+    | inr later ↦ rest.most other later fits
+  ];
+}
+
+least-moves : (wanted first m : ℕ) (ns : List ℕ) → m < first → LeastOf wanted m ns
+    → LeastOf wanted first (m ∷ ns)
+least-moves wanted first m ns less rest = record {
+  least = rest.least;
+  is = elim rest.is as (λ _. (first ≡ rest.least) ⊎ Contains (m ∷ ns) rest.least) [
+    | inl same ↦ inr (zero, omega arith, same)
+    | inr has ↦ inr (behind m rest.least ns has)
+  ];
+  enough = rest.enough;
+  low = omega (arith, less, rest.low);
+  most = λ other has fits. elim (contains-cons m ns other has) as (λ _. rest.least ≤ other) [
+    | inl same ↦ omega (arith, same, rest.low)
+    | inr later ↦ rest.most other later fits
+  ];
+}
+
+least-from : (wanted first : ℕ) (ns : List ℕ) → wanted ≤ first → LeastOf wanted first ns
+least-from wanted first [] enough = record {
+  least = first;
+  is = inl refl;
+  enough = enough;
+  low = omega arith;
+  most =
+      λ other has fits. absurd (omega (arith, has.1));
+}
+least-from wanted first (m ∷ ns) enough =
+    elim (cases_lt m wanted) as (λ _. LeastOf wanted first (m ∷ ns)) [
+      | inl small ↦ least-stays wanted first m ns (λ fits. absurd (omega (arith, small, fits)))
+          (least-from wanted first ns enough)
+      | inr fits ↦
+          elim (cases_lt m first) as (λ _. LeastOf wanted first (m ∷ ns)) [
+            | inl less ↦ least-moves wanted first m ns less (least-from wanted m ns fits)
+            | inr from ↦
+                least-stays wanted first m ns (λ _. from) (least-from wanted first ns enough)
+          ]
+    ]
+
+least-areas : (window free : ℕ) (opens : List OpenFrame) (some : List ℕ) → AreChosenAreas opens some
+    → reserve_before opens ≤ free → AreReservesInWindow window opens
+    → (areas : List ℕ) × AreLeastAreas window free opens areas
+unfolding AreChosenAreas reserve_before AreReservesInWindow AreLeastAreas
+least-areas window free [] some chosen enough within = ([], tt)
+least-areas window free (o ∷ opens) [] chosen enough within = absurd chosen
+least-areas window free (o ∷ opens) (area ∷ some) chosen enough within =
+    let all : (o.bytes + reserve_before opens) - greatest_number o.areas ≤ free = enough in
+    let later : reserve_before opens ≤ window = within.0 in
+    let greatest_is = Contains-greatest o.areas area chosen.0 in
+    let pick =
+    least-from ((o.bytes + reserve_before opens) - free)
+    (greatest_number o.areas) o.areas (omega arith) in
+    let is = elim pick.is as (λ _. Contains o.areas pick.least) [
+      | inl same ↦ subst (Contains o.areas) same greatest_is
+      | inr has ↦ has
+    ] in
+    let fits : (o.bytes + reserve_before opens) - free ≤ pick.least = pick.enough in
+    let rest = least-areas window
+    (free_bytes_behind window free o.bytes pick.least) opens some chosen.1 (omega arith) within.1 in
+    (pick.least ∷ rest.0, (is, pick.enough, pick.most, rest.1))
+
+-- ---- from the definition to the least list
+chosen-tail : (o : OpenFrame) (opens : List OpenFrame) (areas : List ℕ)
+    → AreChosenAreas (o ∷ opens) areas → (rest : List ℕ) × AreChosenAreas opens rest
+unfolding AreChosenAreas
+chosen-tail o opens [] chosen = absurd chosen
+chosen-tail o opens (area ∷ rest) chosen = (rest, chosen.1)
+
+-- the frames behind the first need no more than a window either
+pub within-tail : (window : ℕ) (o : OpenFrame) (opens : List OpenFrame)
+    → AreReservesInWindow window (o ∷ opens)
+    → (reserve_before opens ≤ window) × AreReservesInWindow window opens
+unfolding AreReservesInWindow
+within-tail window o opens within = within
+
+first-least : (window : ℕ) (class : ClassFields) (slot : SlotFields) (opens : List OpenFrame)
+    (some : List ℕ) → Contains all_slots slot → AreChosenAreas opens some
+    → reserve_before opens ≤ window → AreReservesInWindow window opens
+    → reserve_before opens ≤ area_of class slot false
+    → ((other : SlotFields) → Contains all_slots other → reserve_before opens
+    ≤ area_of class other false → area_of class slot false ≤ area_of class other false)
+    → (rest : List ℕ) × IsLeastList window
+    (open_frame (lead_in_item class all_slots) ∷ opens) (area_of class slot false ∷ rest)
+unfolding AreLeastAreas
+first-least window class slot opens some is chosen most within enough least =
+    let rest = least-areas window
+    (free_bytes_behind window 0 0 (area_of class slot false)) opens some chosen
+    (omega arith) within in (
+      rest.0,
+      least-is window (open_frame (lead_in_item class all_slots) ∷ opens)
+          (area_of class slot false ∷ rest.0) (
+            Contains-area class false all_slots slot is,
+            omega arith,
+            (λ other has fits.
+                let of = slot-area class false all_slots other has in
+                let low = least of.0 of.1 (omega (arith, of.2, fits)) in
+                omega (arith, of.2, low)),
+            rest.1,
+          ),
+    )
+
+-- ---- from the least list to the definition
+with-slot : (window : ℕ) (class : ClassFields) (slot : SlotFields) (opens : List OpenFrame)
+    (rest : List ℕ) → IsLeastList window (open_frame (lead_in_item class all_slots) ∷ opens)
+    (area_of class slot false ∷ rest)
+    → CanBeLaid window (open_frame (lead_in_item class (slot ∷ [])) ∷ opens)
+unfolding AreChosenAreas CanBeLaid frames_with_areas
+with-slot window class slot opens rest least =
+    (area_of class slot false ∷ rest, ((zero, omega arith, refl), least.chosen.1), least.feasible)
+
+-- of one slot there is one area
+pub only-area : (class : ClassFields) (slot : SlotFields) (n : ℕ)
+    → Contains (slot_areas class false (slot ∷ [])) n → area_of class slot false ≡ n
+only-area class slot n (zero, within, at) = at
+only-area class slot n (suc i, within, at) = absurd (omega arith)
+
+not-before : (window : ℕ) (class : ClassFields) (slot other : SlotFields) (opens : List OpenFrame)
+    (rest areas : List ℕ) → IsLeastList window (open_frame (lead_in_item class all_slots) ∷ opens)
+    (area_of class slot false ∷ rest) → Contains all_slots other → area_of class other false
+    < area_of class slot false
+    → AreChosenAreas (open_frame (lead_in_item class (other ∷ [])) ∷ opens) areas → HasLayout window
+    0 (frames_with_areas (open_frame (lead_in_item class (other ∷ [])) ∷ opens) areas) → ⊥
+unfolding AreChosenAreas frames_with_areas IsNotBehind
+not-before window class slot other opens rest [] least is less chosen feasible = absurd chosen
+not-before window class slot other opens rest (area ∷ areas) least is less chosen feasible =
+    let same : area_of class other false ≡ area = only-area class other area chosen.0 in
+    let has : Contains (slot_areas class false all_slots) area = subst (Contains
+    (slot_areas class false all_slots)) same (Contains-area class false all_slots other is) in
+    elim (least.least (area ∷ areas) (has, chosen.1) feasible) as (λ _. ⊥) [
+      | inl before ↦ omega (arith, same)
+      | inr at ↦ omega (arith, same, at.0)
+    ]
+
+-- ---- both ways
+module _ (window : ℕ) (choices : HeaderFields → List SlotFields) (first : Need) (part : List Need)
+    (slot : SlotFields) where
+  -- the lead-in of a part is the first entry of the least list for a lead-in and its frames
+  pub lead-least : IsLeadIn window choices (first ∷ part) (Some slot)
+      → (rest : List ℕ) × IsLeastList
+      window (led_open_frames choices first part)
+      (area_of (class_of first.header) slot false ∷ rest)
+  unfolding IsLeadIn part_items CanBeLaid
+  lead-least alone =
+      let class : ClassFields = class_of first.header in
+      let opens : List OpenFrame = open_frames choices (first ∷ part) in
+      let lead : OpenFrame = open_frame (lead_in_item class (slot ∷ [])) in
+      let can = alone.1 in
+      let none = needed-can window (lead ∷ opens) can in
+      let enough : reserve_before opens ≤ area_of class slot false =
+      omega (arith, none.0, lead-needed class slot opens) in
+      let within = within-tail window lead opens none.1 in
+      let some = chosen-tail lead opens can.0 can.1 in
+      first-least window class slot opens some.0 alone.2 some.1 within.0 within.1 enough
+      (λ other is fits.
+      elim (cases_lt (area_of class other false) (area_of class slot false))
+      as (λ _. area_of class slot false ≤ area_of class other false) [
+        | inl less ↦
+            absurd (alone.3 other is less
+            (can-needed window (open_frame (lead_in_item class (other ∷ [])) ∷ opens)
+            (area_of class other false ∷ some.0) (lead-chosen class other opens some.0 some.1)
+            (omega (arith, lead-needed class other opens))
+            (lead-within window class other opens within.0 within.1)))
+        | inr most ↦ most
+      ])
+
+  least-lead : (CanBeLaid window (map open_frame (part_items choices (first ∷ part) None)) → ⊥)
+      → Contains all_slots slot
+      → ((rest : List ℕ) × IsLeastList window (led_open_frames choices first part)
+      (area_of (class_of first.header) slot false ∷ rest))
+      → IsLeadIn window choices (first ∷ part) (Some slot)
+  unfolding IsLeadIn part_items CanBeLaid
+  least-lead never is (rest, least) =
+      let class : ClassFields = class_of first.header in
+      let opens : List OpenFrame = open_frames choices (first ∷ part) in (
+        never,
+        with-slot window class slot opens rest least,
+        is,
+        (λ other has less can. not-before window class slot other opens rest can.0 least has less
+            can.1 can.2),
+      )
+
+-- the same of every part that gets a lead-in
+pub lead-first : LeadInsComeFirst
+lead-first = λ window choices first part slot never is.
+    (lead-least window choices first part slot, least-lead window choices first part slot never is)

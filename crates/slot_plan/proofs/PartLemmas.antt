@@ -1,0 +1,437 @@
+-- The frames of a part, from each place on.
+use Rattle.std.proofs.Common.{All, AllPairs, ap, arith, Contains, drop, false, get_or, inl, inr}
+use Rattle.std.proofs.Common.{length, length-append, List, map, None, Option, refl, Some, subst}
+use Rattle.std.proofs.Common.{suc, sym, take, zero, ℕ, [], ◌++◌, ◌+◌, ◌-◌, ◌<◌, ◌∙◌, ◌∷◌, ◌≡◌, ◌≤◌}
+use Rattle.std.proofs.{Math.Seq.drop-cons, lemmas.Bool.cases_lt}
+use Rattle.std.proofs.lemmas.List.{drop-map, drop_all, length-drop, length-take-le, same_from_push}
+use Rattle.std.{proofs.lemmas.List.take_all, specs.Prelude.{option_to_list, slice_range, unwrap_or}}
+use Rattle.frame_header.specs.{Fields.{ClassFields, HeaderFields, SlotFields}, Limits.most_back}
+use Rattle.frame_header.specs.Slots.{all_slots, largest_slot}
+use Rattle.frame_header.specs.Tables.{area_of, class_of, window_of}
+use Rattle.slot_plan.proofs.AreaLemmas.{leads-span}
+use Rattle.slot_plan.proofs.ReserveLemmas.{AllFit, feasible-windows, fit-after, fit-layout}
+use Rattle.slot_plan.{proofs.ReserveLemmas.needed-fit, specs.Layouts.HasLayout}
+use Rattle.slot_plan.specs.Lists.{AreChosenAreas, frames_with_areas}
+use Rattle.slot_plan.specs.Parts.{AreNeedsOfClass, AreNeedsOfOneClass, ArePartsFeasible, need_item}
+use Rattle.slot_plan.specs.Parts.{needs_in_parts, open_frame, own_frame, slot_areas, window_in}
+use Rattle.slot_plan.specs.Reserve.{area_by_header, AreReserves, AreReservesInWindow}
+use Rattle.slot_plan.specs.Reserve.{frame_by_header, greatest_number, IsPlaceablePart, open_frames}
+use Rattle.slot_plan.specs.Reserve.{own_area_of, reserve_before, reserves_behind}
+use Rattle.slot_plan.specs.declared.{needs.Need.Need, reserves.Reserves.Reserves}
+
+-- the need at i, and those after it
+pub next_need : (part : List Need) (i : ℕ) (need : Need) → i < length part
+    → need ≡ get_or part i need → drop i part ≡ need ∷ drop (i + 1) part
+next_need part i need lt is =
+    let one : suc i ≡ i + 1 = omega arith in
+    drop-cons part i need lt ∙ ap (λ n. get_or part i need ∷ drop n part) one
+    ∙ ap (λ n. n ∷ drop (i + 1) part) (sym is)
+
+-- with an area each a part is the frames with these areas
+pub frames-by : (choices : HeaderFields → List SlotFields) (area : HeaderFields → ℕ)
+    (part : List Need)
+    → frames_with_areas (open_frames choices part) (map (area_by_header area) part)
+    ≡ map (frame_by_header area) part
+unfolding frames_with_areas
+frames-by choices area [] = refl
+frames-by choices area (need ∷ part) =
+    ap (λ l. frame_by_header area need ∷ l) (frames-by choices area part)
+
+-- so from each frame on, no more is needed than the window
+pub needed-from : (window before k : ℕ) (choices : HeaderFields → List SlotFields)
+    (area : HeaderFields → ℕ) (part : List Need)
+    → HasLayout window before (map (frame_by_header area) part)
+    → AreChosenAreas (open_frames choices (drop k part)) (map (area_by_header area) (drop k part))
+    → (reserve_before (open_frames choices (drop k part)) ≤ window)
+    × AreReservesInWindow window (open_frames choices (drop k part))
+needed-from window before k choices area part feasible chosen =
+    let fit : AllFit window window (drop k (map (frame_by_header area) part)) =
+    fit-after window before k (map (frame_by_header area) part) feasible in
+    let same =
+    drop-map (frame_by_header area) k part ∙ sym (frames-by choices area (drop k part)) in
+    needed-fit window window (open_frames choices (drop k part))
+    (map (area_by_header area) (drop k part))
+    (omega arith) chosen (subst (AllFit window window) same fit)
+
+-- and before all of them no more than is before them
+pub needed-first : (window before : ℕ) (choices : HeaderFields → List SlotFields)
+    (area : HeaderFields → ℕ) (part : List Need)
+    → HasLayout window before (map (frame_by_header area) part)
+    → AreChosenAreas (open_frames choices part) (map (area_by_header area) part)
+    → reserve_before (open_frames choices part) ≤ before
+unfolding HasLayout
+needed-first window before choices area part feasible chosen =
+    let free : ℕ = before - (before - window) in
+    let fit = fit-layout window 0 before free
+    (map (frame_by_header area) part) feasible.0 (omega arith) feasible.1 in
+    let enough = (needed-fit window free (open_frames choices part) (map (area_by_header area) part)
+    (omega arith) chosen (subst (AllFit window free) (sym (frames-by choices area part)) fit)).0 in
+    omega (arith, enough)
+
+-- ---- one frame more
+-- one frame more in front adds what is needed after it
+pub behind-cons : (choices : HeaderFields → List SlotFields) (need : Need) (part : List Need)
+    → reserves_behind (open_frames choices (need ∷ part))
+    ≡ reserves_behind (open_frames choices part) ++ reserve_before (open_frames choices part) ∷ []
+unfolding reserves_behind
+behind-cons choices need part = refl
+
+-- and needs what the others need and its own bytes, less its largest area
+pub needed-cons : (choices : HeaderFields → List SlotFields) (need : Need) (part : List Need)
+    → reserve_before (open_frames choices (need ∷ part))
+    ≡ (need.bytes + reserve_before (open_frames choices part))
+    - greatest_number (open_frame (need_item choices need)).areas
+unfolding reserve_before
+needed-cons choices need part = refl
+
+-- if all needs are within a window, so are those of the others
+pub within-cons : (window : ℕ) (choices : HeaderFields → List SlotFields) (need : Need)
+    (part : List Need) → AreReservesInWindow window (open_frames choices (need ∷ part))
+    → (reserve_before (open_frames choices part) ≤ window)
+    × AreReservesInWindow window (open_frames choices part)
+unfolding AreReservesInWindow
+within-cons window choices need part all = all
+
+-- a frame whose area can be chosen, in front of others that are, makes all chosen
+pub chosen-cons : (choices : HeaderFields → List SlotFields) (area : HeaderFields → ℕ) (need : Need)
+    (part : List Need) → Contains (open_frame (need_item choices need)).areas (area need.header)
+    → AreChosenAreas (open_frames choices part) (map (area_by_header area) part)
+    → AreChosenAreas (open_frames choices (need ∷ part)) (map (area_by_header area) (need ∷ part))
+unfolding AreChosenAreas
+chosen-cons choices area need part here behind = (here, behind)
+
+-- no frames need nothing behind any
+pub nothing_behind : (choices : HeaderFields → List SlotFields)
+    → reserves_behind (open_frames choices []) ≡ []
+unfolding reserves_behind
+nothing_behind choices = refl
+
+-- no frames need nothing
+pub nothing_needed : (choices : HeaderFields → List SlotFields)
+    → reserve_before (open_frames choices []) ≡ 0
+unfolding reserve_before
+nothing_needed choices = refl
+
+-- and so no more than a window
+pub nothing_within : (window : ℕ) (choices : HeaderFields → List SlotFields)
+    → AreReservesInWindow window (open_frames choices [])
+unfolding AreReservesInWindow
+nothing_within window choices = tt
+
+-- no areas are a choice of no frames
+pub nothing_chosen : (choices : HeaderFields → List SlotFields) (area : HeaderFields → ℕ)
+    → AreChosenAreas (open_frames choices []) (map (area_by_header area) [])
+unfolding AreChosenAreas
+nothing_chosen choices area = tt
+
+-- the last of the list is what the first frame needs after it
+pub popped : (behind rest : List ℕ) (last : Option ℕ) (ns : List ℕ) (n : ℕ) → behind ≡ ns ++ n ∷ []
+    → behind ≡ rest ++ option_to_list last → 0 < length (option_to_list last)
+    → (last ≡ Some n) × (rest ≡ ns)
+popped behind rest None ns n is parts some = absurd (omega arith)
+popped behind rest (Some m) ns n is parts some =
+    let same = same_from_push rest ns m n (sym parts ∙ is) in (ap (λ k. Some k) same.1, same.0)
+
+-- ---- the frames of a part from i on have what they need
+-- what the frames from i on need, before the first and after each, is within a window
+pub record ReservesFrom (window : ℕ) (choices : HeaderFields → List SlotFields)
+    (area : HeaderFields → ℕ) (part : List Need) (i : ℕ) (stack : List ℕ) (first : ℕ) : Type 0 where
+  pub before : first ≡ reserve_before (open_frames choices (drop i part))
+  pub behind : stack ≡ reserves_behind (open_frames choices (drop i part))
+  pub most : first ≤ window
+  pub within : AreReservesInWindow window (open_frames choices (drop i part))
+  pub chosen : AreChosenAreas (open_frames choices (drop i part))
+      (map (area_by_header area) (drop i part))
+
+module _ (window : ℕ) (choices : HeaderFields → List SlotFields) (area : HeaderFields → ℕ)
+    (part : List Need) where
+  -- behind the last frame nothing is needed
+  pub reserves-none : ReservesFrom window choices area part (length part) [] 0
+  reserves-none =
+      let none : drop (length part) part ≡ [] = drop_all (length part) part (omega arith) in
+      record {
+        before =
+            sym (ap (λ l. reserve_before (open_frames choices l)) none ∙ nothing_needed choices);
+        behind =
+            sym (ap (λ l. reserves_behind (open_frames choices l)) none ∙ nothing_behind choices);
+        most = omega arith;
+        within = subst (λ l. AreReservesInWindow window (open_frames choices l)) (sym none)
+            (nothing_within window choices);
+        chosen = subst (λ l. AreChosenAreas (open_frames choices l) (map (area_by_header area) l))
+            (sym none)
+            (nothing_chosen choices area);
+      }
+
+  -- one frame earlier, what is needed is known of one frame more
+  pub reserves-more : (before i : ℕ) (behind : List ℕ) (after result : ℕ) (need : Need)
+      → i < length part → need ≡ get_or part i need
+      → HasLayout window before (map (frame_by_header area) part)
+      → Contains (open_frame (need_item choices need)).areas (area need.header)
+      → result ≡ (need.bytes + after) - greatest_number (open_frame (need_item choices need)).areas
+      → ReservesFrom window choices area part (i + 1) behind after
+      → ReservesFrom window choices area part i (behind ++ after ∷ []) result
+  reserves-more before i behind after result need within is feasible has gives from =
+      let here = next_need part i need within is in
+      let rest : List Need = drop (i + 1) part in
+      let chosen =
+      subst (λ l. AreChosenAreas (open_frames choices l) (map (area_by_header area) l)) (sym here)
+      (chosen-cons choices area need rest has from.chosen) in
+      let all = needed-from window before i choices area part feasible chosen in
+      let value : result ≡ reserve_before (open_frames choices (drop i part)) =
+      gives
+      ∙ ap (λ n. (need.bytes + n) - greatest_number (open_frame (need_item choices need)).areas)
+      from.before
+      ∙ sym (needed-cons choices need rest)
+      ∙ ap (λ l. reserve_before (open_frames choices l)) (sym here) in
+      record {
+        before = value;
+        behind = ap (λ l. l ++ after ∷ []) from.behind
+            ∙ ap (λ n. reserves_behind (open_frames choices rest) ++ n ∷ []) from.before
+            ∙ sym (behind-cons choices need rest)
+            ∙ ap (λ l. reserves_behind (open_frames choices l)) (sym here);
+        most = omega (arith, value, all.0);
+        within = all.1;
+        chosen = chosen;
+      }
+
+  -- at the first frame it is known of all
+  pub reserves-all : (i : ℕ) (reserves : Reserves) → i ≡ 0
+      → ReservesFrom window choices area part i reserves.behind.items reserves.before
+      → AreReserves window choices area part reserves
+  reserves-all i reserves none from =
+      let all = subst (λ k. ReservesFrom window choices area part k
+      reserves.behind.items reserves.before) none from in
+      record {
+        before = all.before;
+        behind = all.behind;
+        most = all.most;
+        within = all.within;
+        chosen =
+            all.chosen;
+      }
+
+-- ---- forwards: what the next frame needs after it
+-- the last of the list is what is needed after the frame at i, and the rest is for those after it
+pub next-wanted : (choices : HeaderFields → List SlotFields) (part : List Need) (i : ℕ)
+    (need : Need) (behind rest : List ℕ) (many : ℕ) (last : Option ℕ) (wanted : ℕ) → i < length part
+    → need ≡ get_or part i need → behind ≡ reserves_behind (open_frames choices (drop i part))
+    → many ≡ length behind → behind ≡ rest ++ option_to_list last
+    → ((d : ℕ) → 0 < many → last ≡ Some (get_or behind (many - 1) d)) → wanted ≡ unwrap_or last 0
+    → (wanted ≡ reserve_before (open_frames choices (drop (i + 1) part)))
+    × (rest ≡ reserves_behind (open_frames choices (drop (i + 1) part)))
+next-wanted choices part i need behind rest many last wanted within is all count parts value gives =
+    let left : List Need = drop (i + 1) part in
+    let ns : List ℕ = reserves_behind (open_frames choices left) in
+    let whole : behind ≡ ns ++ reserve_before (open_frames choices left) ∷ [] =
+    all ∙ ap (λ l. reserves_behind (open_frames choices l)) (next_need part i need within is)
+    ∙ behind-cons choices need left in
+    let some : 0 < many =
+    omega
+    (arith, ap length whole, length-append ns (reserve_before (open_frames choices left) ∷ [])) in
+    let full : 0 < length (option_to_list last) =
+    subst (λ o. 0 < length (option_to_list o)) (sym (value 0 some)) (omega arith) in
+    let popping =
+    popped behind rest last ns (reserve_before (open_frames choices left)) whole parts full in
+    (gives ∙ ap (λ o. unwrap_or o 0) popping.0, popping.1)
+
+-- the frames from i on need what those after it need and its own bytes, less its largest area
+pub next-needed : (choices : HeaderFields → List SlotFields) (part : List Need) (i : ℕ)
+    (need : Need) → i < length part → need ≡ get_or part i need
+    → reserve_before (open_frames choices (drop i part))
+    ≡ (need.bytes + reserve_before (open_frames choices (drop (i + 1) part)))
+    - greatest_number (open_frame (need_item choices need)).areas
+next-needed choices part i need within is =
+    ap (λ l. reserve_before (open_frames choices l)) (next_need part i need within is)
+    ∙ needed-cons choices need (drop (i + 1) part)
+
+-- no more than a window is needed after the frame at i either
+pub next-within : (window : ℕ) (choices : HeaderFields → List SlotFields) (part : List Need) (i : ℕ)
+    (need : Need) → i < length part → need ≡ get_or part i need
+    → AreReservesInWindow window (open_frames choices (drop i part))
+    → (reserve_before (open_frames choices (drop (i + 1) part)) ≤ window)
+    × AreReservesInWindow window (open_frames choices (drop (i + 1) part))
+next-within window choices part i need within is all = within-cons window choices need (drop (i + 1)
+    part) (subst (λ l. AreReservesInWindow window (open_frames choices l))
+    (next_need part i need within is) all)
+
+-- ---- the parts
+-- the parts from a place on are the one there and those after it
+pub parts-cons : (needs : List Need) (parts : List ℕ) (at from end : ℕ) → at < length parts
+    → from ≡ get_or parts at 0 → (at + 1 < length parts → end ≡ get_or parts (at + 1) 0)
+    → (length parts ≤ at + 1 → end ≡ length needs) → needs_in_parts needs (drop at parts)
+    ≡ slice_range needs from end ∷ needs_in_parts needs (drop (at + 1) parts)
+unfolding needs_in_parts
+parts-cons needs parts at from end within is next last =
+    let one : suc at ≡ at + 1 = omega arith in
+    let two : suc (at + 1) ≡ at + 2 = omega arith in
+    let here : drop at parts ≡ from ∷ drop (at + 1) parts =
+    drop-cons parts at 0 within ∙ ap (λ n. get_or parts at 0 ∷ drop n parts) one
+    ∙ ap (λ n. n ∷ drop (at + 1) parts) (sym is) in
+    ap (needs_in_parts needs) here
+    ∙ elim (cases_lt (at + 1) (length parts))
+    as (λ _. needs_in_parts needs (from ∷ drop (at + 1) parts)
+    ≡ slice_range needs from end ∷ needs_in_parts needs (drop (at + 1) parts)) [
+      | inl more ↦
+          let then : drop (at + 1) parts ≡ end ∷ drop (at + 2) parts =
+          drop-cons parts (at + 1) 0 more ∙ ap (λ n. get_or parts (at + 1) 0 ∷ drop n parts) two
+          ∙ ap (λ n. n ∷ drop (at + 2) parts) (sym (next more)) in
+          ap (λ l. needs_in_parts needs (from ∷ l)) then
+          ∙ ap (λ l. slice_range needs from end ∷ needs_in_parts needs l) (sym then)
+      | inr none ↦
+          let empty : drop (at + 1) parts ≡ [] = drop_all (at + 1) parts (omega arith) in
+          ap (λ l. needs_in_parts needs (from ∷ l)) empty
+          ∙ ap (λ n. slice_range needs from n ∷ []) (sym (last (omega arith)))
+          ∙ ap (λ l. slice_range needs from end ∷ needs_in_parts needs l) (sym empty)
+    ]
+
+-- past the last place there are no parts
+pub parts-none : (needs : List Need) (parts : List ℕ) (at : ℕ) → length parts ≤ at
+    → needs_in_parts needs (drop at parts) ≡ []
+unfolding needs_in_parts
+parts-none needs parts at all = ap (needs_in_parts needs) (drop_all at parts all)
+
+-- if all parts are feasible, so is the first, and so are the others
+pub feasible-cons : (window : ℕ) (part : List Need) (parts : List (List Need))
+    → ArePartsFeasible window (part ∷ parts)
+    → HasLayout window window (map own_frame part) × ArePartsFeasible window parts
+unfolding ArePartsFeasible
+feasible-cons window part parts all = all
+
+-- the need at i is of the class of all
+pub class-at : (class : ClassFields) (needs : List Need) (i : ℕ) (d : Need)
+    → AreNeedsOfClass class needs → i < length needs → class_of (get_or needs i d).header ≡ class
+unfolding AreNeedsOfClass
+class-at class [] i d all within = absurd (omega arith)
+class-at class (need ∷ needs) zero d all within = all.0
+class-at class (need ∷ needs) (suc i) d all within = class-at class needs i d all.1 (omega arith)
+
+-- so it is of a need that the code reads, and of some of the needs
+pub same-class : (class : ClassFields) (needs : List Need) (i : ℕ) (need : Need)
+    → AreNeedsOfClass class needs → i < length needs → need ≡ get_or needs i need
+    → class ≡ class_of need.header
+same-class class needs i need all within is =
+    sym (ap (λ n. class_of n.header) is ∙ class-at class needs i need all within)
+
+-- and the area of a slot is that in the class of the need
+pub area-in : (class : ClassFields) (needs : List Need) (i area : ℕ) (need opened : Need)
+    (slot : SlotFields) → AreNeedsOfClass class needs → i < length needs
+    → need ≡ get_or needs i need → opened ≡ need → area ≡ area_of class slot opened.header.protected
+    → area ≡ area_of (class_of need.header) slot need.header.protected
+area-in class needs i area need opened slot all within is same gives =
+    gives ∙ ap (λ n. area_of class slot n.header.protected) same
+    ∙ ap (λ k. area_of k slot need.header.protected) (same-class class needs i need all within is)
+
+-- the first needs are of the class
+pub class-take : (class : ClassFields) (needs : List Need) (k : ℕ) → AreNeedsOfClass class needs
+    → AreNeedsOfClass class (take k needs)
+unfolding AreNeedsOfClass
+class-take class needs zero all = tt
+class-take class [] (suc k) all = tt
+class-take class (need ∷ needs) (suc k) all = (all.0, class-take class needs k all.1)
+
+-- those behind them are too
+pub class-drop : (class : ClassFields) (needs : List Need) (k : ℕ) → AreNeedsOfClass class needs
+    → AreNeedsOfClass class (drop k needs)
+unfolding AreNeedsOfClass
+class-drop class needs zero all = all
+class-drop class [] (suc k) all = all
+class-drop class (need ∷ needs) (suc k) all = class-drop class needs k all.1
+
+-- so is any stretch of them
+pub class-range : (class : ClassFields) (needs : List Need) (from to : ℕ)
+    → AreNeedsOfClass class needs → AreNeedsOfClass class (slice_range needs from to)
+class-range class needs from to all =
+    class-take class (drop from needs) (to - from) (class-drop class needs from all)
+
+-- needs of one class are of that of their first
+pub one-class : (class : ClassFields) (needs : List Need) (d : Need) → AreNeedsOfOneClass needs
+    → class ≡ class_of (get_or needs 0 d).header → AreNeedsOfClass class needs
+unfolding AreNeedsOfClass
+one-class class [] d all is = tt
+one-class class (first ∷ needs) d all is =
+    (sym is, subst (λ c. AreNeedsOfClass c needs) (sym is) all)
+
+-- the window of a need is that of the first
+window-at : (needs : List Need) (i : ℕ) (d : Need) → AreNeedsOfOneClass needs → i < length needs
+    → window_of (get_or needs i d).header.version ≡ window_in needs
+window-at [] i d all within = absurd (omega arith)
+window-at (first ∷ needs) zero d all within = refl
+window-at (first ∷ needs) (suc i) d all within =
+    ap (λ c. window_of c.version) (class-at (class_of first.header) needs i d all (omega arith))
+
+-- a part from one place to a later one has frames
+pub part-some : (needs : List Need) (from end : ℕ) → from < end → end ≤ length needs
+    → 0 < length (slice_range needs from end)
+part-some needs from end some within = omega (
+  arith,
+  length-take-le (end - from) (drop from needs) (omega (arith, length-drop from needs)),
+  length-drop from needs,
+)
+
+-- the window of the first need is that of all
+pub window-first : (needs : List Need) (d : Need) (class : ClassFields) (window : ℕ)
+    → AreNeedsOfOneClass needs → 0 < length needs → class ≡ class_of (get_or needs 0 d).header
+    → window ≡ window_of class.version → window ≡ window_in needs
+window-first needs d class window all some has gives =
+    gives ∙ ap (λ c. window_of c.version) has ∙ window-at needs 0 d all some
+
+-- a part isn't empty, and ends within the needs
+pub part-bounds : (needs : List Need) (parts : List ℕ) (at end : ℕ) → AllPairs (λ m n. m < n) parts
+    → All (λ place. place < length needs) parts → at < length parts
+    → (at + 1 < length parts → end ≡ get_or parts (at + 1) 0)
+    → (length parts ≤ at + 1 → end ≡ length needs)
+    → (get_or parts at 0 < end) × (end ≤ length needs)
+part-bounds needs parts at end ascend all within next last =
+    elim (cases_lt (at + 1) (length parts)) as (λ _. (get_or parts at 0 < end)
+    × (end ≤ length needs)) [
+      | inl more ↦ let is = next more in let less = ascend at (at + 1) 0 (omega arith) more in
+          let below = all (at + 1) 0 more in (omega arith, omega arith)
+      | inr none ↦ let is = last (omega arith) in let below = all at 0 within in
+          (omega arith, omega arith)
+    ]
+
+-- all needs are one part
+pub range-all : (needs : List Need) → slice_range needs 0 (length needs) ≡ needs
+range-all needs = take_all (length needs - 0) needs (omega arith)
+
+-- if the one part is feasible, so are all needs
+pub one-part : (needs : List Need) (window : ℕ) → window ≡ window_in needs
+    → ArePartsFeasible (window_in needs) (needs_in_parts needs (0 ∷ []))
+    → HasLayout window window (map own_frame needs)
+unfolding ArePartsFeasible needs_in_parts
+one-part needs window is feasible =
+    subst (λ n. HasLayout n n (map own_frame needs)) (sym is) (subst (λ l.
+    HasLayout (window_in needs) (window_in needs) (map own_frame l)) (range-all needs) feasible.0)
+
+-- a part with a layout in its own slots can be placed after a lead-in of any slot
+pub placeable-own : (class lengths : ClassFields) (window : ℕ) (part : List Need) → lengths ≡ class
+    → window ≤ area_of class largest_slot false → window ≤ most_back → 0 < length part
+    → HasLayout window window (map own_frame part)
+    → IsPlaceablePart window lengths all_slots own_area_of part
+placeable-own class lengths window part is spanned most some feasible =
+    let largest = subst (λ k. window ≤ greatest_number (slot_areas k false all_slots)) (sym is)
+    (leads-span class window spanned) in
+    record {
+      some = some;
+      most = most;
+      feasible =
+          feasible-windows window window (greatest_number (slot_areas lengths false all_slots))
+          (map own_frame part) largest feasible;
+    }
+
+-- what the call over the part at this place is on
+pub part-ready : (needs : List Need) (parts : List ℕ) (at end window : ℕ)
+    → AllPairs (λ m n. m < n) parts → All (λ place. place < length needs) parts → at < length parts
+    → (at + 1 < length parts → end ≡ get_or parts (at + 1) 0)
+    → (length parts ≤ at + 1 → end ≡ length needs)
+    → ArePartsFeasible window (needs_in_parts needs (drop at parts))
+    → (0 < length (slice_range needs (get_or parts at 0) end))
+    × HasLayout window window (map own_frame (slice_range needs (get_or parts at 0) end))
+    × ArePartsFeasible window (needs_in_parts needs (drop (at + 1) parts))
+part-ready needs parts at end window ascend all within next last feasible =
+    let from : ℕ = get_or parts at 0 in
+    let bounds = part-bounds needs parts at end ascend all within next last in
+    let here = feasible-cons window (slice_range needs from end)
+    (needs_in_parts needs (drop (at + 1) parts)) (subst (ArePartsFeasible window)
+    (parts-cons needs parts at from end within refl next last) feasible) in
+    (part-some needs from end bounds.0 bounds.1, here.0, here.1)

@@ -1,0 +1,454 @@
+-- Frames that are placed by what is needed after them are the plan.
+use Rattle.std.proofs.Common.{ap, append_assoc, ap₂, arith, drop, false, get_or, length, List, map}
+use Rattle.std.proofs.Common.{None, Option, refl, Some, subst, sym, true, zero, ℕ, [], ◌++◌, ◌+◌}
+use Rattle.std.proofs.{Common.{◌-◌, ◌<◌, ◌∙◌, ◌∷◌, ◌≡◌, ◌≤◌}, lemmas.List.{append-nil, map-append}}
+use Rattle.frame_header.specs.{Fields.{ClassFields, HeaderFields, SlotFields}, Slots.all_slots}
+use Rattle.frame_header.specs.Tables.{area_of, class_of}
+use Rattle.slot_plan.proofs.{AreaLemmas.{Contains-area, only_one, slot-area}, PartLemmas.next_need}
+use Rattle.slot_plan.proofs.ReserveLemmas.{append-can, append-needed, AreLeastAreas, begins-frees}
+use Rattle.slot_plan.proofs.ReserveLemmas.{can-needed, fit-least, frees_of, least-is, needed-can}
+use Rattle.slot_plan.specs.Layouts.{FrameLengths, HasLayout, IsDataLayout}
+use Rattle.slot_plan.specs.Lists.{AreChosenAreas, CanBeLaid, frames_with_areas, OpenFrame}
+use Rattle.slot_plan.specs.Parts.{all_items, AreLeadIns, AreNeedsOfClass, IsLeadIn, item_area}
+use Rattle.slot_plan.specs.Parts.{lead_in_item, led_items, need_item, open_frame, part_items}
+use Rattle.slot_plan.specs.Parts.{PlanItem}
+use Rattle.slot_plan.specs.Plans.{AreItemSlots, IsLedPlan, IsPlan, IsPlanFor, item_areas}
+use Rattle.slot_plan.specs.Reserve.{area_by_header, AreItemsPlaced, AreReserves}
+use Rattle.slot_plan.specs.Reserve.{AreReservesInWindow, free_bytes_behind, greatest_number}
+use Rattle.slot_plan.specs.Reserve.{IsLeastLeadIn, IsLeastSlot, IsPlacedLeadIn, open_frames}
+use Rattle.slot_plan.specs.Reserve.{PlacesLedPart, PlacesMore, PlacesPart, reserve_before}
+use Rattle.slot_plan.specs.declared.{needs.{Need.Need, Placed.Placed}, reserves.Reserves.Reserves}
+
+-- ---- what is placed is the least list
+least-placed : (window free : ℕ) (items : List PlanItem) (placed : List Placed)
+    → AreItemsPlaced window free items placed
+    → AreLeastAreas window free (map open_frame items) (item_areas items placed)
+unfolding AreItemsPlaced AreLeastAreas item_areas
+least-placed window free [] [] all = tt
+least-placed window free [] (p ∷ placed) all = absurd all
+least-placed window free (item ∷ items) [] all = absurd all
+least-placed window free (item ∷ items) (p ∷ placed) all = (
+  Contains-area item.class item.protected item.choices p.slot all.2.chosen,
+  all.2.enough,
+  (λ other has fits.
+      let slot = slot-area item.class item.protected item.choices other has in
+      let less : item_area item p.slot ≤ item_area item slot.0 =
+      all.2.least slot.0 slot.1 (omega (arith, slot.2, fits)) in
+      omega (arith, slot.2, less)),
+  least-placed window
+      (free_bytes_behind window free item.bytes (item_area item p.slot)) items placed all.3,
+)
+
+for-placed : (window free : ℕ) (items : List PlanItem) (placed : List Placed)
+    → AreItemsPlaced window free items placed → AreItemSlots items placed
+unfolding AreItemsPlaced AreItemSlots
+for-placed window free [] [] all = tt
+for-placed window free [] (p ∷ placed) all = absurd all
+for-placed window free (item ∷ items) [] all = absurd all
+for-placed window free (item ∷ items) (p ∷ placed) all = (
+  all.0,
+  all.2.chosen,
+  for-placed window
+      (free_bytes_behind window free item.bytes (item_area item p.slot)) items placed all.3,
+)
+
+begins-placed : (window free : ℕ) (items : List PlanItem) (placed : List Placed)
+    → AreItemsPlaced window free items placed → map (λ p. p.begin) placed
+    ≡ frees_of window free (frames_with_areas (map open_frame items) (item_areas items placed))
+unfolding AreItemsPlaced item_areas frames_with_areas frees_of
+begins-placed window free [] [] all = refl
+begins-placed window free [] (p ∷ placed) all = absurd all
+begins-placed window free (item ∷ items) [] all = absurd all
+begins-placed window free (item ∷ items) (p ∷ placed) all =
+    ap₂ (λ n l. n ∷ l) all.1 (begins-placed window
+    (free_bytes_behind window free item.bytes (item_area item p.slot)) items placed all.3)
+
+-- frames that are placed by what is needed after them are a plan for them
+pub plan-placed : (window : ℕ) (items : List PlanItem) (placed : List Placed)
+    → AreItemsPlaced window 0 items placed → IsPlanFor window items placed
+plan-placed window items placed all =
+    let least = least-placed window 0 items placed all in
+    let frames : List FrameLengths =
+    frames_with_areas (map open_frame items) (item_areas items placed) in
+    record {
+      slots = for-placed window 0 items placed all;
+      least = least-is window (map open_frame items) (item_areas items placed) least;
+      begins =
+          begins-placed window 0 items placed all ∙ begins-frees window 0 0 0 frames (omega arith)
+          (omega arith) (fit-least window 0 (map open_frame items) (item_areas items placed) least);
+    }
+
+-- ---- the lead-in of a part
+
+-- with a lead-in of one slot in front less is needed by its area
+pub lead-needed : (class : ClassFields) (slot : SlotFields) (opens : List OpenFrame)
+    → reserve_before (open_frame (lead_in_item class (slot ∷ [])) ∷ opens)
+    ≡ reserve_before opens - area_of class slot false
+unfolding reserve_before greatest_number
+lead-needed class slot opens = omega arith
+
+-- with a lead-in in front no more than a window is needed anywhere
+pub lead-within : (window : ℕ) (class : ClassFields) (slot : SlotFields) (opens : List OpenFrame)
+    → reserve_before opens ≤ window → AreReservesInWindow window opens
+    → AreReservesInWindow window (open_frame (lead_in_item class (slot ∷ [])) ∷ opens)
+unfolding AreReservesInWindow
+lead-within window class slot opens most within = (most, within)
+
+-- the area of a lead-in in front of chosen areas is chosen too
+pub lead-chosen : (class : ClassFields) (slot : SlotFields) (opens : List OpenFrame)
+    (areas : List ℕ) → AreChosenAreas opens areas → AreChosenAreas
+    (open_frame (lead_in_item class (slot ∷ [])) ∷ opens) (area_of class slot false ∷ areas)
+unfolding AreChosenAreas
+lead-chosen class slot opens areas chosen = ((zero, omega arith, refl), chosen)
+
+-- what is placed before a part is its lead-in alone
+lead_in-alone : (window : ℕ) (choices : HeaderFields → List SlotFields) (part : List Need)
+    (lead_in : Option SlotFields) → IsPlacedLeadIn window all_slots choices part lead_in
+    → IsLeadIn window choices part lead_in
+unfolding IsPlacedLeadIn IsLeadIn part_items
+lead_in-alone window choices part None can = can
+lead_in-alone window choices [] (Some slot) is = absurd is
+lead_in-alone window choices (first ∷ part) (Some slot) is =
+    let opens : List OpenFrame = open_frames choices (first ∷ part) in
+    let class : ClassFields = class_of first.header in (
+      (λ can. omega (arith, is.0, (needed-can window opens can).0)),
+      is.1,
+      is.2.chosen,
+      (λ other has less can.
+          let none =
+          (needed-can window (open_frame (lead_in_item class (other ∷ [])) ∷ opens) can).0 in
+          let value = lead-needed class other opens in
+          let before = is.2.least other has (omega arith) in
+          omega arith),
+    )
+
+-- with its lead-in a part has a layout
+pub lead_in-can : (window : ℕ) (choices : HeaderFields → List SlotFields) (part : List Need)
+    (lead_in : Option SlotFields) → IsLeadIn window choices part lead_in
+    → CanBeLaid window (map open_frame (part_items choices part lead_in))
+unfolding IsLeadIn
+lead_in-can window choices part None is = is
+lead_in-can window choices [] (Some slot) is = absurd is
+lead_in-can window choices (first ∷ part) (Some slot) is = is.1
+
+-- and so have all parts together
+pub nothing-can : (window : ℕ) → CanBeLaid window []
+unfolding CanBeLaid AreChosenAreas frames_with_areas HasLayout IsDataLayout
+nothing-can window = ([], tt, ([], tt))
+
+-- parts with their lead-ins have a layout all together
+pub whole-can : (window : ℕ) (choices : HeaderFields → List SlotFields) (parts : List (List Need))
+    (lead_ins : List (Option SlotFields)) → AreLeadIns window choices parts lead_ins
+    → CanBeLaid window (map open_frame (all_items choices parts lead_ins))
+unfolding AreLeadIns all_items
+whole-can window choices [] lead_ins all = nothing-can window
+whole-can window choices (part ∷ parts) [] all = absurd all
+whole-can window choices (part ∷ parts) (lead_in ∷ lead_ins) all =
+    subst (CanBeLaid window)
+    (sym (map-append open_frame (part_items choices part lead_in)
+    (all_items choices parts lead_ins)))
+    (append-can window (map open_frame (part_items choices part lead_in))
+    (map open_frame (all_items choices parts lead_ins))
+    (lead_in-can window choices part lead_in all.0)
+    (whole-can window choices parts lead_ins all.1))
+
+-- ---- placing on
+-- before the first frame nothing is placed
+pub places-begun : (window free : ℕ) (items : List PlanItem) (placed : List Placed)
+    → PlacesMore window free free items items placed placed
+places-begun window free items placed = record {
+  more = [];
+  appended = sym (append-nil placed);
+  goes = λ rest behind none all. all;
+}
+
+placed-cons : (window free : ℕ) (item : PlanItem) (items : List PlanItem) (p : Placed)
+    (placed : List Placed) → p.lead_in ≡ item.lead_in → p.begin ≡ free → IsLeastSlot
+    ((item.bytes + reserve_before (map open_frame items)) - free)
+    item.class item.protected item.choices p.slot → AreItemsPlaced window
+    (free_bytes_behind window free item.bytes (item_area item p.slot)) items placed
+    → AreItemsPlaced window free (item ∷ items) (p ∷ placed)
+unfolding AreItemsPlaced
+placed-cons window free item items p placed is begin least behind = (is, begin, least, behind)
+
+-- a frame in the least slot with what is needed after it is one placed more
+pub places-more : (window free now : ℕ) (items : List PlanItem) (item : PlanItem)
+    (left : List PlanItem)
+    (old new : List Placed) (p : Placed) → p.lead_in ≡ item.lead_in → p.begin ≡ now → IsLeastSlot
+    ((item.bytes + reserve_before (map open_frame left)) - now)
+    item.class item.protected item.choices p.slot
+    → PlacesMore window free now items (item ∷ left) old new → PlacesMore window free
+    (free_bytes_behind window now item.bytes (item_area item p.slot)) items left old (new ++ p ∷ [])
+places-more window free now items item left old new p is begin least on = record {
+  more = on.more ++ p ∷ [];
+  appended = ap (λ l. l ++ p ∷ []) on.appended ∙ append_assoc old on.more (p ∷ []);
+  goes = λ rest placed none all.
+      let same : reserve_before (map open_frame left)
+      ≡ reserve_before (map open_frame (left ++ rest)) = sym (ap reserve_before
+      (map-append open_frame left rest)
+      ∙ append-needed (map open_frame left) (map open_frame rest) none) in
+      let here = subst (λ n. IsLeastSlot ((item.bytes + n) - now)
+      item.class item.protected item.choices p.slot) same least in
+      subst (λ l. AreItemsPlaced window free (items ++ rest) l)
+      (sym (append_assoc on.more (p ∷ []) placed))
+      (on.goes rest (p ∷ placed) none
+      (placed-cons window now item (left ++ rest) p placed is begin here all));
+}
+
+-- frames placed up to one, and from it on, are all placed
+pub places-then : (window free now after : ℕ) (items left : List PlanItem)
+    (old mid new : List Placed) → PlacesMore window free now items left old mid
+    → PlacesMore window now after left [] mid new → PlacesMore window free after items [] old new
+places-then window free now after items left old mid new first second = record {
+  more = first.more ++ second.more;
+  appended = second.appended ∙ ap (λ l. l ++ second.more) first.appended
+      ∙ append_assoc old first.more second.more;
+  goes = λ rest placed none all.
+      subst (λ l. AreItemsPlaced window free (items ++ rest) l)
+      (sym (append_assoc first.more second.more placed))
+      (first.goes rest (second.more ++ placed) none (second.goes rest placed none all));
+}
+
+-- ---- part by part: whatever places the parts from here on rightly places all rightly
+unfoldable pub PartsPlaced : ℕ → (HeaderFields → List SlotFields) → List (List Need)
+    → List (List Need) → ℕ → List Placed → Type 0
+PartsPlaced window choices all left free before =
+    (lead_ins : List (Option SlotFields)) (placed : List Placed)
+    → AreLeadIns window choices left lead_ins
+    → AreItemsPlaced window free (all_items choices left lead_ins) placed
+    → (whole : List (Option SlotFields)) × AreLeadIns window choices all whole
+    × AreItemsPlaced window 0 (all_items choices all whole) (before ++ placed)
+
+-- before the first part nothing is placed
+pub parts-begun : (window : ℕ) (choices : HeaderFields → List SlotFields) (parts : List (List Need))
+    → PartsPlaced window choices parts parts 0 []
+unfolding PartsPlaced
+parts-begun window choices parts lead_ins placed alone all = (lead_ins, alone, all)
+
+leads-cons : (window : ℕ) (choices : HeaderFields → List SlotFields) (part : List Need)
+    (parts : List (List Need)) (lead_in : Option SlotFields) (lead_ins : List (Option SlotFields))
+    → IsLeadIn window choices part lead_in → AreLeadIns window choices parts lead_ins
+    → AreLeadIns window choices (part ∷ parts) (lead_in ∷ lead_ins)
+unfolding AreLeadIns
+leads-cons window choices part parts lead_in lead_ins here behind = (here, behind)
+
+whole-cons : (choices : HeaderFields → List SlotFields) (part : List Need)
+    (parts : List (List Need)) (lead_in : Option SlotFields) (lead_ins : List (Option SlotFields))
+    → part_items choices part lead_in ++ all_items choices parts lead_ins
+    ≡ all_items choices (part ∷ parts) (lead_in ∷ lead_ins)
+unfolding all_items
+whole-cons choices part parts lead_in lead_ins = refl
+
+-- a part that is placed behind those before it is one more
+pub parts-more : (window : ℕ) (choices : HeaderFields → List SlotFields) (all : List (List Need))
+    (part : List Need) (left : List (List Need)) (free after : ℕ) (before behind : List Placed)
+    → PlacesPart window all_slots choices part free after before behind
+    → PartsPlaced window choices all (part ∷ left) free before
+    → PartsPlaced window choices all left after behind
+unfolding PartsPlaced
+parts-more window choices all part left free after before behind part_placed on lead_ins placed
+    alone rest =
+    let lead_in : Option SlotFields = part_placed.lead_in in
+    let more : List Placed = part_placed.places.more in
+    let none = (needed-can window (map open_frame (all_items choices left lead_ins))
+    (whole-can window choices left lead_ins alone)).0 in
+    let here : AreItemsPlaced window free (all_items choices (part ∷ left) (lead_in ∷ lead_ins))
+    (more ++ placed) =
+    subst (λ l. AreItemsPlaced window free l (more ++ placed)) (whole-cons choices part left lead_in
+    lead_ins) (part_placed.places.goes (all_items choices left lead_ins) placed none rest) in
+    let end = on (lead_in ∷ lead_ins) (more ++ placed) (leads-cons window choices part left lead_in
+    lead_ins (lead_in-alone window choices part lead_in part_placed.least) alone) here in
+    let same : before ++ (more ++ placed) ≡ behind ++ placed = sym (append_assoc before more placed)
+    ∙ ap (λ l. l ++ placed) (sym part_placed.places.appended) in
+    (end.0, end.1, subst (λ l. AreItemsPlaced window 0 (all_items choices all end.0) l) same end.2)
+
+no-leads : (window : ℕ) (choices : HeaderFields → List SlotFields) → AreLeadIns window choices [] []
+unfolding AreLeadIns
+no-leads window choices = tt
+
+no-placed : (window free : ℕ) (choices : HeaderFields → List SlotFields)
+    → AreItemsPlaced window free (all_items choices [] []) []
+unfolding AreItemsPlaced all_items
+no-placed window free choices = tt
+
+-- all parts, placed one after the other, are the plan
+pub parts-all : (window : ℕ) (choices : HeaderFields → List SlotFields) (all : List (List Need))
+    (free : ℕ) (placed : List Placed) → PartsPlaced window choices all [] free placed
+    → IsPlan window choices all placed
+unfolding PartsPlaced
+parts-all window choices all free placed on =
+    let end = on [] [] (no-leads window choices) (no-placed window free choices) in
+    record {
+      lead_ins = end.0;
+      alone = end.1;
+      whole = plan-placed window (all_items choices all end.0) placed
+          (subst (λ l. AreItemsPlaced window 0
+          (all_items choices all end.0) l) (append-nil placed) end.2);
+    }
+
+-- ---- the next frame of a part
+-- the frame at i, in the least slot with what is needed after it, is one placed more
+pub places-next : (window free now next : ℕ) (choices : HeaderFields → List SlotFields)
+    (part : List Need) (i : ℕ) (need : Need) (p : Placed) (wanted : ℕ) (old new : List Placed)
+    → i < length part → need ≡ get_or part i need
+    → wanted ≡ reserve_before (open_frames choices (drop (i + 1) part)) → p.lead_in ≡ false
+    → p.begin ≡ now → IsLeastSlot ((need.bytes + wanted) - now) (class_of need.header)
+    need.header.protected (choices need.header) p.slot → next ≡ free_bytes_behind window now
+    need.bytes (area_of (class_of need.header) p.slot need.header.protected)
+    → PlacesMore window free now (map (need_item choices) part)
+    (map (need_item choices) (drop i part)) old new → PlacesMore window free next
+    (map (need_item choices) part) (map (need_item choices) (drop (i + 1) part)) old (new ++ p ∷ [])
+places-next window free now next choices part i need p wanted old new within is wants frame begin
+    least behind on =
+    let items : List PlanItem = map (need_item choices) part in
+    let left : List PlanItem = map (need_item choices) (drop (i + 1) part) in
+    let here : PlacesMore window free now items (need_item choices need ∷ left) old new =
+    subst (λ l. PlacesMore window free now items (map (need_item choices) l) old new)
+    (next_need part i need within is) on in
+    let enough = subst (λ n. IsLeastSlot ((need.bytes + n) - now)
+    (class_of need.header) need.header.protected (choices need.header) p.slot) wants least in
+    subst (λ n. PlacesMore window free n items left old (new ++ p ∷ [])) (sym behind) (places-more
+    window free now items (need_item choices need) left old new p frame begin enough here)
+
+-- ---- a part with its lead-in
+module _ (window : ℕ) (leads : List SlotFields) (choices : HeaderFields → List SlotFields)
+    (area : HeaderFields → ℕ) where
+  -- a part that needs nothing before it is placed without a lead-in
+  pub part-without : (part : List Need) (reserves : Reserves) (free after : ℕ)
+      (old new : List Placed) → AreReserves window choices area part reserves → reserves.before ≡ 0
+      → PlacesMore window free after (map (need_item choices) part) [] old new
+      → PlacesPart window leads choices part free after old new
+  unfolding IsPlacedLeadIn part_items
+  part-without part reserves free after old new are none places = record {
+    lead_in = None;
+    least = can-needed window (open_frames choices part)
+        (map (area_by_header area) part) are.chosen (sym are.before ∙ none) are.within;
+    places = places;
+  }
+
+  led-with : (first : Need) (part : List Need) (free mid after : ℕ) (p : Placed)
+      (old new : List Placed) → p.lead_in ≡ true → p.begin ≡ free → IsLeastSlot
+      (reserve_before (open_frames choices (first ∷ part))) (class_of first.header) false leads
+      p.slot → mid ≡ free_bytes_behind window free 0 (area_of (class_of first.header) p.slot false)
+      → PlacesMore window mid after (map (need_item choices) (first ∷ part)) [] (old ++ p ∷ []) new
+      → PlacesLedPart window leads choices (first ∷ part) free after old new
+  unfolding IsLeastLeadIn part_items
+  led-with first part free mid after p old new frame begin least behind places =
+      let class : ClassFields = class_of first.header in
+      let items : List PlanItem = map (need_item choices) (first ∷ part) in
+      let opens : List OpenFrame = map open_frame items in
+      let lead : PlanItem = lead_in_item class (p.slot ∷ []) in
+      let enough = least.enough in
+      let least_one : IsLeastSlot ((0 + reserve_before opens) - free) class false
+      (p.slot ∷ []) p.slot =
+      record {
+        chosen = (zero, omega arith, refl);
+        enough = omega arith;
+        least = λ other is fits.
+            omega (arith, ap (λ s. area_of class s false) (only_one p.slot other is));
+      } in
+      let begun = places-more window free free (lead ∷ items) lead items old old p frame begin
+      least_one (places-begun window free (lead ∷ items) old) in
+      let on = subst (λ n. PlacesMore window free n (lead ∷ items) items old (old ++ p ∷ []))
+      (sym behind) begun in
+      record {
+        slot = p.slot;
+        least = least;
+        places = places-then window free mid after (lead ∷ items) items old
+            (old ++ p ∷ []) new on places;
+      }
+
+  -- the same where the class is known
+  pub led-of : (class : ClassFields) (part : List Need) (free mid after : ℕ) (p : Placed)
+      (old new : List Placed) → 0 < length part → AreNeedsOfClass class part → p.lead_in ≡ true
+      → p.begin ≡ free
+      → IsLeastSlot (reserve_before (open_frames choices part)) class false leads p.slot
+      → mid ≡ free_bytes_behind window free 0 (area_of class p.slot false)
+      → PlacesMore window mid after (map (need_item choices) part) [] (old ++ p ∷ []) new
+      → PlacesLedPart window leads choices part free after old new
+  unfolding AreNeedsOfClass
+  led-of class [] free mid after p old new any same frame begin least behind places =
+      absurd (omega arith)
+  led-of class (first ∷ part) free mid after p old new any same frame begin least behind places =
+      led-with first part free mid after p old new frame begin
+      (subst
+      (λ k. IsLeastSlot (reserve_before (open_frames choices (first ∷ part))) k false leads p.slot)
+      (sym same.0) least)
+      (behind ∙ ap (λ k. free_bytes_behind window free 0 (area_of k p.slot false)) (sym same.0))
+      places
+
+  lead-needing : (part : List Need) (reserves : Reserves) (slot : SlotFields)
+      → AreReserves window choices area part reserves → 0 < reserves.before
+      → IsLeastLeadIn leads choices part slot → IsPlacedLeadIn window leads choices part (Some slot)
+  unfolding IsLeastLeadIn IsPlacedLeadIn part_items
+  lead-needing [] reserves slot are some least = absurd least
+  lead-needing (first ∷ part) reserves slot are some least =
+      let class : ClassFields = class_of first.header in
+      let opens : List OpenFrame = open_frames choices (first ∷ part) in
+      let value : reserve_before opens ≡ reserves.before = sym are.before in
+      let enough = least.enough in (
+        omega (arith, value, some),
+        can-needed window (open_frame (lead_in_item class (slot ∷ [])) ∷ opens)
+            (area_of class slot false ∷ map (area_by_header area) (first ∷ part))
+            (lead-chosen class slot opens (map (area_by_header area) (first ∷ part)) are.chosen)
+            (omega (arith, lead-needed class slot opens, enough))
+            (lead-within window class slot opens (omega (arith, value, are.most)) are.within),
+        least,
+      )
+
+  -- where its frames need something free, that is its own lead-in
+  pub part-led : (part : List Need) (reserves : Reserves) (free after : ℕ) (old new : List Placed)
+      → AreReserves window choices area part reserves → 0 < reserves.before
+      → PlacesLedPart window leads choices part free after old new
+      → PlacesPart window leads choices part free after old new
+  part-led part reserves free after old new are some led = record {
+    lead_in = Some led.slot;
+    least = lead-needing part reserves led.slot are some led.least;
+    places = led.places;
+  }
+
+-- ---- a part after a lead-in of any slot
+any-slot : (window : ℕ) (class : ClassFields) (slot : SlotFields) (items : List PlanItem)
+    (placed : List Placed)
+    → IsLeastSlot (reserve_before (map open_frame items)) class false all_slots slot
+    → AreItemsPlaced window 0 (lead_in_item class (slot ∷ []) ∷ items) placed
+    → AreItemsPlaced window 0 (lead_in_item class all_slots ∷ items) placed
+unfolding AreItemsPlaced
+any-slot window class slot items [] least all = absurd all
+any-slot window class slot items (p ∷ placed) least all =
+    let same : reserve_before (map open_frame items)
+    ≡ (0 + reserve_before (map open_frame items)) - 0 = omega arith in
+    let here = subst (IsLeastSlot (reserve_before (map open_frame items)) class false all_slots)
+    (only_one slot p.slot all.2.chosen) least in
+    (all.0, all.1, subst (λ n. IsLeastSlot n class false all_slots p.slot) same here, all.3)
+
+led-items : (window : ℕ) (choices : HeaderFields → List SlotFields) (part : List Need)
+    (slot : SlotFields) (placed : List Placed) → IsLeastLeadIn all_slots choices part slot
+    → AreItemsPlaced window 0 (part_items choices part (Some slot)) placed
+    → AreItemsPlaced window 0 (led_items choices part) placed
+unfolding IsLeastLeadIn part_items led_items
+led-items window choices [] slot placed least all = absurd least
+led-items window choices (first ∷ part) slot placed least all =
+    any-slot window (class_of first.header) slot
+    (map (need_item choices) (first ∷ part)) placed least all
+
+nothing_needed : reserve_before (map open_frame []) ≡ 0
+unfolding reserve_before
+nothing_needed = refl
+
+nothing_placed : (window free : ℕ) → AreItemsPlaced window free [] []
+unfolding AreItemsPlaced
+nothing_placed window free = tt
+
+-- is its led plan
+pub led-placed : (window after : ℕ) (choices : HeaderFields → List SlotFields) (part : List Need)
+    (placed : List Placed) → PlacesLedPart window all_slots choices part 0 after [] placed
+    → IsLedPlan window choices part placed
+led-placed window after choices part placed led =
+    let goes = led.places.goes [] [] nothing_needed (nothing_placed window after) in
+    let items : List PlanItem = part_items choices part (Some led.slot) in
+    let all : AreItemsPlaced window 0 items placed =
+    subst (AreItemsPlaced window 0 items) (append-nil led.places.more ∙ sym led.places.appended)
+    (subst (λ l. AreItemsPlaced window 0 l (led.places.more ++ [])) (append-nil items) goes) in
+    plan-placed window (led_items choices part) placed
+    (led-items window choices part led.slot placed led.least all)

@@ -1,0 +1,46 @@
+-- One frame more, and the last.
+use Rattle.std.proofs.Common.{ap, arith, ◌∙◌}
+use Rattle.frame_header.specs.Tables.{window_of}
+use Rattle.slot_plan.proofs.FreeByteLemmas.{fits-in, leaves-all, leaves-more, leaves-none}
+use Rattle.slot_plan.proofs.FreeByteLemmas.{leaves-room, window-read}
+use Rattle.slot_plan.specs.Reserve.{free_bytes_behind}
+use Rattle.slot_plan.proofs.free_bytes.leaves.Goals as goal
+
+pub loop-need-init : goal.loop-need-init
+loop-need-init c = leaves-none c.args.free c.args.needs.now
+
+pub free_behind-left-requires-clause-free : goal.free_behind-left-requires-clause-free
+free_behind-left-requires-clause-free c =
+    let fit = c.requires in
+    let window = window-read fit.class c.class.result c.args.needs.now c.loop-need.need-index
+    c.window-window.result c.need-item.result fit.same c.loop-need-test.true c.need-item.is
+    c.class.ensures c.window-window.ensures.window in
+    omega (arith, window, (c.loop-need.invariant fit.class fit.same fit.within fit.fits).within)
+
+pub free_behind-left-requires-clause-fits : goal.free_behind-left-requires-clause-fits
+free_behind-left-requires-clause-fits c =
+    let fit = c.requires in
+    leaves-room (window_of fit.class.version)
+    c.args.free c.args.needs.now c.loop-need.need-index c.need-item.result c.loop-need.left
+    c.area.result c.loop-need-test.true c.need-item.is c.area.ensures.area
+    (c.loop-need.invariant fit.class fit.same fit.within fit.fits)
+
+pub loop-need-preserved : goal.loop-need-preserved
+loop-need-preserved c = λ class same within fits.
+    let window = window-read class c.class.result c.args.needs.now c.loop-need.need-index
+    c.window-window.result c.need-item.result same
+    c.loop-need-test.true c.need-item.is c.class.ensures c.window-window.ensures.window in
+    leaves-more (window_of class.version)
+    c.args.free c.args.needs.now c.loop-need.need-index c.need-item.result c.loop-need.left
+    c.area.result c.loop-need-test.true c.need-item.is c.area.ensures.area
+    (c.loop-need.invariant class same within fits) c.free_behind-left.result
+    (c.free_behind-left.ensures.free
+    ∙ ap (λ n. free_bytes_behind n c.loop-need.left c.need-item.result.bytes c.area.result) window)
+
+pub returns : goal.returns
+returns c = λ class same within.
+    let fits = fits-in c.requires.class class c.args.needs.now (λ n. c.args.free)
+    c.requires.same same c.requires.fits in
+    leaves-all (window_of class.version) c.args.free c.args.needs.now c.loop-need.need-index
+    c.loop-need.left (omega (arith, c.loop-need-test.false)) within fits
+    (c.loop-need.invariant class same within fits)

@@ -1,6 +1,0 @@
--- The led plan is that of the first list.
-use Rattle.slot_plan.proofs.LeastPlan.{led-plan-is}
-use Rattle.slot_plan.proofs.laws.led_plan_is_the_plan.Goals as goal
-
-pub returns : goal.returns
-returns c = led-plan-is

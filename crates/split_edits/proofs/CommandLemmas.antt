@@ -1,0 +1,586 @@
+-- What the command leaves, by its steps.
+use Rattle.std.proofs.Common.{ap, arith, Err, inl, inr, length, List, map, None, Ok, Option, refl}
+use Rattle.std.proofs.Common.{Result, Some, subst, sym, take, ℕ, [], ◌+◌, ◌<◌, ◌∙◌, ◌∷◌, ◌≡◌, ◌≢◌}
+use Rattle.std.{proofs.Common.◌≤◌, specs.Prelude.{IfErr, ◌⊎◌}}
+use Rattle.bit_fields.specs.Bits.{AreBytes}
+use Rattle.commands.proofs.InputLemmas.{of_bytes_behind}
+use Rattle.commands.proofs.NamedLemmas.{first_at, lost_name, missed_name, unread_name}
+use Rattle.commands.proofs.{RefusingLemmas.{before_first, then_all, then_ok}, WhyLemmas.each_why}
+use Rattle.commands.specs.AfterCall.{end_offset, HasNumbers, HasSurveyNumbers, input_of}
+use Rattle.commands.specs.AfterCall.{IsCommandDone, IsCommandFault, IsEditRefusal, IsLateFault}
+use Rattle.commands.specs.AfterCall.{IsNotBefore, IsOutputUnfinished, IsWrittenTo, TakesMemory}
+use Rattle.commands.specs.AfterCall.{why_of}
+use Rattle.commands.specs.Command.{AreStreams, clash_from, clash_of, Command, HasAnswer}
+use Rattle.commands.specs.{Command.{HoldsStreams, Made, Output, written_files}, Refusing.then_made}
+use Rattle.commands.specs.SingleOutput.{IsFileFault, most_frames}
+use Rattle.commands.specs.declared.fault.EditFault.{EditFault}
+use Rattle.commands.specs.declared.fault.EditFault.TheVariants.{EqualNames, Input, Memory, Refused}
+use Rattle.commands.specs.declared.fault.EditFault.TheVariants.{Write}
+use Rattle.cut_edits.specs.Heads.{HasHeadNumbers, IsHeadFault}
+use Rattle.laying.specs.Laid.{LaidPart, stream_laid}
+use Rattle.outside.proofs.FilesLemmas.{there_holds, touches_more, touches_none}
+use Rattle.outside.specs.Counts.{EndedAt, HappenedTo}
+use Rattle.outside.specs.Files.{Contents, Files, Holds, IfTold, IsFileThere, OnlyTouches, Told}
+use Rattle.outside.specs.{Files.Untold, Seen.Seen}
+use Rattle.requests.{proofs.NamesLemmas.names-length, specs.Names.piece_names}
+use Rattle.split_edits.proofs.PiecesLemmas.{name-here, names-all, names-first, outputs-are}
+use Rattle.split_edits.specs.Cutting.{Cutting, equal_names_or, input_pieces, input_streams}
+use Rattle.split_edits.specs.Cutting.{IsProperCutting, laid_streams, piece_parts, piece_parts_from}
+use Rattle.split_edits.specs.Cutting.{pieces_from, pieces_result, places_result, places_streams}
+use Rattle.split_edits.specs.Cutting.{split_command, split_result, surveyed_pieces}
+use Rattle.split_edits.specs.Cutting.{surveyed_streams, with_first}
+use Rattle.split_edits.specs.Steps.{ArePieces, HasPiecesNumbers, HasPlacesNumbers, IsPiecesFault}
+use Rattle.split_edits.specs.Steps.{IsPlacesFault, IsUnfinishedPart, IsWrittenPart, names_of_pieces}
+use Rattle.split_edits.specs.Steps.{piece_outputs, piece_part, pieces_of, PiecesStopShort}
+use Rattle.split_edits.specs.Steps.{SaysPlaces, with_outputs, with_part}
+use Rattle.split_edits.specs.declared.piece.PlannedPiece.{PlannedPiece}
+use Rattle.sync_survey.proofs.BytesFaultLemmas.{IsOfBytes, surveyed_of_bytes}
+use Rattle.sync_survey.proofs.{FoldersLemmas.survey_of-short, SurveyedFileLemmas.survey_of-sound}
+use Rattle.sync_survey.specs.{Faults.{longest_file, survey_fields, SurveyFields}, Survey.survey_of}
+use Rattle.sync_survey.specs.declared.survey_fault.SurveyFault.{SurveyFault}
+use Rattle.sync_survey.specs.declared.survey_fault.SurveyFault.TheVariants.{Absent, Read}
+
+-- ---- what is laid from one place on
+
+-- what is laid with a first piece in front is that piece, and what is laid of the others
+pub first-parts : (first : LaidPart) (r : Result (List LaidPart) EditFault) (ls : List LaidPart)
+    → with_first first r ≡ Ok ls → (more : List LaidPart) × (r ≡ Ok more) × (first ∷ more ≡ ls)
+first-parts first (Ok more) ls e = (more, refl, cc)
+first-parts first (Err fault) ls e = absurd cc
+
+-- ---- what holds of every refusal once the input was surveyed
+
+module _ {X : Type 0} (cut : Cutting X) (P : EditFault → Type 0) (between : (from to : X)
+    (file : List ℕ) (s : SurveyFields) → IfErr (cut.between from to file s) P) where
+  first-all : (first : LaidPart) (r : Result (List LaidPart) EditFault) → IfErr r P
+      → IfErr (with_first first r) P
+  first-all first (Ok more) is = tt
+  first-all first (Err fault) is = is
+
+  laid-all : (file : List ℕ) (s : SurveyFields) (from : X) (tos : List X)
+      → IfErr (piece_parts_from cut file s from tos) P
+  laid-all file s from [] = tt
+  laid-all file s from (to ∷ more) =
+      then_all P (cut.between from to file s)
+      (λ first. with_first first (piece_parts_from cut file s to more)) (between from to file s)
+      (λ first. first-all first (piece_parts_from cut file s to more) (laid-all file s to more))
+
+  at-all : (file : List ℕ) (s : SurveyFields) (places : List X)
+      → IfErr (piece_parts cut file s places) P
+  at-all file s [] = tt
+  at-all file s (place ∷ places) = laid-all file s place places
+
+  made-all : (prefix file : List ℕ) (s : SurveyFields) (places : Result (List X) EditFault)
+      → IfErr places P → IfErr (then_made places (places_result cut prefix file s)) P
+  made-all prefix file s places is =
+      then_all P places (places_result cut prefix file s) is
+      (λ ps. then_all P (piece_parts cut file s ps)
+      (pieces_result prefix file (cut.survey s)) (at-all file s ps) (λ cs. tt))
+
+takes : (r : Result Made EditFault) → IfErr r IsLateFault → TakesMemory r
+takes (Ok made) late = tt
+takes (Err fault) late = late
+
+module _ {X : Type 0} (cut : Cutting X) (proper : IsProperCutting cut) where
+  -- ---- the refusals that come once memory was taken
+
+  made-late : (prefix file : List ℕ) (s : SurveyFields) (f : Contents)
+      → IfErr (then_made (cut.places f) (places_result cut prefix file s)) IsLateFault
+  made-late prefix file s f =
+      made-all cut IsLateFault proper.late prefix file s (cut.places f) (proper.places_late f)
+
+  by-late : (prefix file : List ℕ) (f : Contents) (r : Result SurveyFields SurveyFault)
+      → ((fault : SurveyFault) → r ≡ Err fault → IsOfBytes fault)
+      → IfErr (surveyed_pieces cut prefix (cut.places f) file r) IsLateFault
+  by-late prefix file f (Err fault) of_bytes = of_bytes_behind fault (of_bytes fault refl)
+  by-late prefix file f (Ok s) of_bytes = made-late prefix file s f
+
+  short-late : (prefix file : List ℕ) (f : Contents) → length file ≤ longest_file
+      → IfErr (input_pieces cut prefix (cut.places f) (Some file)) IsLateFault
+  short-late prefix file f few =
+      subst (λ r. IfErr (surveyed_pieces cut prefix (cut.places f) file r) IsLateFault)
+      (sym (survey_of-short file most_frames few))
+      (by-late prefix file f (survey_fields file most_frames) (surveyed_of_bytes file most_frames))
+
+  -- ---- none comes before the sheet is read
+
+  made-before : (prefix file : List ℕ) (s : SurveyFields) (f : Contents) → IfErr
+      (then_made (cut.places f) (places_result cut prefix file s)) (IsNotBefore (Input 1 Read))
+  made-before prefix file s f = made-all cut (IsNotBefore (Input 1 Read)) proper.after prefix file s
+      (cut.places f) (proper.places_after f)
+
+  -- ---- the streams of the pieces
+
+  module _ (prefix file : List ℕ) (s : SurveyFields) (octets : AreBytes file)
+      (survey_is : survey_of file most_frames ≡ Ok s) where
+    abbrev Hold : ℕ → List LaidPart → Type 0
+    Hold k ls = AreStreams (pieces_from prefix k file (cut.survey s) ls)
+        (map (λ (l : LaidPart). stream_laid l file (cut.survey s)) ls)
+
+    from-hold : (k : ℕ) (from : X) (tos : List X) (ls : List LaidPart)
+        → piece_parts_from cut file s from tos ≡ Ok ls → Hold k ls
+    from-hold k from [] ls e = let none : [] ≡ ls = cc in subst (Hold k) none tt
+    from-hold k from (to ∷ tos) ls e =
+        let parts = then_ok (cut.between from to file s)
+        (λ first. with_first first (piece_parts_from cut file s to tos)) ls e in
+        let more = first-parts parts.0 (piece_parts_from cut file s to tos) ls parts.2 in
+        subst (Hold k) more.2 (
+          proper.streams from to file s parts.0 octets survey_is parts.1,
+          from-hold (k + 1) to tos more.0 more.1,
+        )
+
+    -- all pieces that are laid hold their streams
+    pub at-hold : (places : List X) (ls : List LaidPart) → piece_parts cut file s places ≡ Ok ls
+        → Hold 1 ls
+    at-hold [] ls e = let none : [] ≡ ls = cc in subst (Hold 1) none tt
+    at-hold (place ∷ places) ls e = from-hold 1 place places ls e
+
+-- ---- what the told files make of the command
+
+if-told : (files : Files) {P : Contents → Type 0} → ((f : Contents) → files ≡ Told f → P f)
+    → IfTold files P
+if-told (Untold touched) at = tt
+if-told (Told f) at = at f refl
+
+none-equal : (o : Option ℕ) (r : Result Made EditFault) → o ≡ None → equal_names_or o r ≡ r
+none-equal (Some place) r e = absurd cc
+none-equal None r e = refl
+
+-- the first input that has the name of a piece
+pub clash-found : {X : Type 0} (cut : Cutting X) (input prefix : List ℕ) (sheets : List (List ℕ))
+    (found other : Option ℕ) → sheets ≡ cut.more
+    → found ≡ clash_from (piece_names prefix) 0 (input ∷ sheets) → found ≡ other
+    → clash_of (split_command cut input prefix) ≡ other
+clash-found cut input prefix sheets found other is clash e =
+    sym (ap (λ l. clash_from (piece_names prefix) 0 (input ∷ l)) is) ∙ sym clash ∙ e
+
+module _ {X : Type 0} (cut : Cutting X) (proper : IsProperCutting cut) (input prefix : List ℕ) where
+  abbrev more : List (List ℕ)
+  more = cut.more
+
+  abbrev command : Command
+  command = split_command cut input prefix
+
+  gives-equal : (files : Files) (place : ℕ) → clash_of command ≡ Some place
+      → HasAnswer command files (Err (EqualNames place))
+  unfolding split_result
+  gives-equal (Untold touched) place e = tt
+  gives-equal (Told f) place e =
+      ap (λ o. equal_names_or o (input_pieces cut prefix (cut.places f) (f input))) e
+
+  -- a name of an input is one of the 99
+  pub equal-left : (place : ℕ) (now : Seen) → clash_of command ≡ Some place
+      → IsCommandFault command now now (EqualNames place)
+  equal-left place now e = record { defined = gives-equal now.files place e; stays = refl }
+
+  module _ (apart : clash_of command ≡ None) where
+    makes-where : (f : Contents) (o : Option (List ℕ)) → f input ≡ o
+        → command.makes f ≡ input_pieces cut prefix (cut.places f) o
+    unfolding split_result
+    makes-where f o is =
+        none-equal (clash_of command) (input_pieces cut prefix (cut.places f) (f input)) apart
+        ∙ ap (input_pieces cut prefix (cut.places f)) is
+
+    stays-touched : (old new : Files) → new ≡ old → OnlyTouches (piece_names prefix) old new
+    stays-touched old new stays = rw stays (touches_none (piece_names prefix) old)
+
+    -- ---- the survey of the input
+
+    input-refused : (files : Files) (fault : SurveyFault) → IsFileThere files input
+        → ((bytes : List ℕ) → Holds files input bytes → survey_of bytes most_frames ≡ Err fault)
+        → HasAnswer command files (Err (Input 0 fault))
+    input-refused (Untold touched) fault there refused = tt
+    input-refused (Told f) fault there refused =
+        let held = there_holds f input there in
+        makes-where f (Some held.0) held.1
+        ∙ ap (surveyed_pieces cut prefix (cut.places f) held.0) (refused held.0 held.1)
+
+    input-missing : (files : Files) → IfTold files (λ f. f input ≡ None)
+        → HasAnswer command files (Err (Input 0 Absent))
+    input-missing (Untold touched) missing = tt
+    input-missing (Told f) missing = makes-where f None missing
+
+    input-takes : (files : Files) → IsFileThere files input
+        → ((bytes : List ℕ) → Holds files input bytes → length bytes ≤ longest_file)
+        → IfTold files (λ f. TakesMemory (command.makes f))
+    input-takes (Untold touched) there few = tt
+    input-takes (Told f) there few =
+        let held = there_holds f input there in
+        rw (makes-where f (Some held.0) held.1) (takes (input_pieces cut prefix (cut.places f)
+        (Some held.0)) (short-late cut proper prefix held.0 f (few held.0 held.1)))
+
+    module _ (old new : Seen) (fault : EditFault) where
+      -- a fault of the input leaves all as it was
+      pub input-left : IsFileFault 0 most_frames input old new fault
+          → IsCommandFault command old new fault
+      input-left h = each_why (why_of fault) h (record {
+        rejected = λ r. record {
+          defined = rw r.1 (input-refused old.files r.0 r.2.there r.2.bytes);
+          stays = r.2.stays;
+        };
+        missing = λ m. record {
+          defined = rw m.is (input-missing old.files m.missing);
+          rose = missed_name command.inputs 0 refl m;
+          files = m.files;
+        };
+        unread = λ u. record {
+          names = apart;
+          before = before_first old.files command.makes fault u.is;
+          rose = unread_name command.inputs 0 refl u;
+          files = inl u.files;
+        };
+        shorter = λ l. record {
+          ended = lost_name command.inputs 0 refl l;
+          touches = stays-touched old.files new.files l.files;
+        };
+        unwritten = λ k w. absurd w;
+        unsent = λ w. absurd w;
+        no_memory = λ n.
+            record { names = apart; takes = input-takes old.files n.there n.few; stays = n.stays };
+      })
+
+    -- ---- a surveyed input
+
+    module _ (old mid new : Seen) (stays : mid ≡ old) (fault : EditFault) where
+      -- its head could not be read
+      pub head-left : IsHeadFault input mid new fault → IsCommandFault command old new fault
+      head-left h = each_why (why_of fault) (rw stays at h) (record {
+        rejected = λ r. absurd r;
+        missing = λ m. absurd m;
+        unread = λ u. record {
+          names = apart;
+          before = before_first old.files command.makes fault u.is;
+          rose = unread_name command.inputs 0 refl u;
+          files = inl u.files;
+        };
+        shorter = λ l. record {
+          ended = lost_name command.inputs 0 refl l;
+          touches = stays-touched old.files new.files l.files;
+        };
+        unwritten = λ k w. absurd w;
+        unsent = λ w. absurd w;
+        no_memory = λ n. absurd n;
+      })
+
+    module _ (s : SurveyFields) (old : Seen) (there : IsFileThere old.files input) (survey_is :
+        (bytes : List ℕ) → Holds old.files input bytes → survey_of bytes most_frames ≡ Ok s) where
+      makes-then : (f : Contents) → old.files ≡ Told f
+          → (bytes : List ℕ) × (f input ≡ Some bytes) × (survey_of bytes most_frames ≡ Ok s)
+          × (command.makes f ≡ then_made (cut.places f) (places_result cut prefix bytes s))
+      makes-then f told =
+          let held = there_holds f input (rw told at there) in
+          let sound = survey_is held.0 (rw told held.1) in (
+            held.0,
+            held.1,
+            sound,
+            makes-where f (Some held.0) held.1
+                ∙ ap (surveyed_pieces cut prefix (cut.places f) held.0) sound,
+          )
+
+      behind-takes : IfTold old.files (λ f. TakesMemory (command.makes f))
+      behind-takes = if-told old.files (λ f told. let made = makes-then f told in
+          rw made.3 (takes _ (made-late cut proper prefix made.0 s f)))
+
+      -- the sheet could not be read
+      behind-before : IfTold old.files (λ f. IfErr (command.makes f) (IsNotBefore (Input 1 Read)))
+      behind-before = if-told old.files (λ f told. let made = makes-then f told in
+          rw made.3 (made-before cut proper prefix made.0 s f))
+
+      -- there are no positions
+      places-refused : (fault : EditFault) → SaysPlaces cut old.files (Err fault)
+          → HasAnswer command old.files (Err fault)
+      places-refused fault none =
+          if-told old.files (λ f told.
+          let made = makes-then f told in
+          made.3 ∙ ap (λ p. then_made p (places_result cut prefix made.0 s)) (rw told at none))
+
+      module _ (new : Seen) (fault : EditFault) where
+        places-left-here : IsPlacesFault cut old new fault → IsCommandFault command old new fault
+        places-left-here h = each_why (why_of fault) h (record {
+          rejected = λ r. record { defined = places-refused fault r.0; stays = r.1 };
+          missing = λ m. record {
+            defined = places-refused fault m.0;
+            rose = missed_name (input ∷ more) 1 (first_at more) m.1;
+            files = m.1.files;
+          };
+          unread = λ u. record {
+            names = apart;
+            before = rw u.is behind-before;
+            rose = unread_name (input ∷ more) 1 (first_at more) u;
+            files = inl u.files;
+          };
+          shorter = λ l. record {
+            ended = lost_name (input ∷ more) 1 (first_at more) l;
+            touches = stays-touched old.files new.files l.files;
+          };
+          unwritten = λ k w. absurd w;
+          unsent = λ w. absurd w;
+          no_memory = λ same. record { names = apart; takes = behind-takes; stays = same };
+        })
+
+      -- ---- these positions
+
+      module _ (places : List X) (are : SaysPlaces cut old.files (Ok places)) where
+        makes-at : (f : Contents) → old.files ≡ Told f
+            → (bytes : List ℕ) × (f input ≡ Some bytes) × (survey_of bytes most_frames ≡ Ok s)
+            × (cut.places f ≡ Ok places)
+            × (command.makes f ≡ places_result cut prefix bytes s places)
+        makes-at f told =
+            let made = makes-then f told in
+            let here : cut.places f ≡ Ok places = rw told at are in (
+              made.0,
+              made.1,
+              made.2,
+              here,
+              made.3 ∙ ap (λ p. then_made p (places_result cut prefix made.0 s)) here,
+            )
+
+        range-refused : (fault : EditFault) → ((bytes : List ℕ) → Holds old.files input bytes
+            → piece_parts cut bytes s places ≡ Err fault) → HasAnswer command old.files (Err fault)
+        range-refused fault none =
+            if-told old.files (λ f told.
+            let made = makes-at f told in
+            made.4 ∙ ap (λ r. then_made r (pieces_result prefix made.0 (cut.survey s)))
+            (none made.0 (subst (λ fs. Holds fs input made.0) (sym told) made.1)))
+
+        -- the outputs hold their streams
+        pub split-streams : ((bytes : List ℕ) → Holds old.files input bytes → AreBytes bytes)
+            → HoldsStreams command old.files
+        unfolding input_streams
+        split-streams octets =
+            if-told old.files (λ f told. λ whole is.
+            let made = makes-at f told in
+            let t = cut.survey s in
+            let parts =
+            then_ok (piece_parts cut made.0 s places) (pieces_result prefix made.0 t) whole
+            (sym made.4 ∙ is) in
+            let same : record { outputs = pieces_from prefix 1 made.0 t parts.0; text = [] }
+            ≡ whole = cc in
+            let streams : command.streams f
+            ≡ map (λ (l : LaidPart). stream_laid l made.0 t) parts.0 =
+            ap (input_streams cut (cut.places f)) made.1
+            ∙ ap (surveyed_streams cut (cut.places f) made.0) made.2
+            ∙ ap (places_streams cut made.0 s) made.3
+            ∙ ap (laid_streams made.0 t) parts.1 in
+            record {
+              sources = ((made.0, made.1, survey_of-sound made.0 most_frames s made.2), tt);
+              streams = subst (λ (m : Made). AreStreams m.outputs (command.streams f)) same
+                  (subst (AreStreams (pieces_from prefix 1 made.0 t parts.0)) (sym streams)
+                  (at-hold cut proper prefix made.0 s (octets made.0 (subst
+                  (λ fs. Holds fs input made.0) (sym told) made.1)) made.2 places parts.0 parts.1));
+            })
+
+        -- the pieces, of which all or some were written
+        module _ (pieces : List PlannedPiece) (named : ArePieces prefix (cut.survey s) 1 pieces)
+            (laid : (bytes : List ℕ) → Holds old.files input bytes → piece_parts cut bytes s places
+            ≡ Ok (map piece_part pieces)) (few : length pieces ≤ 99) where
+          abbrev laid_survey : SurveyFields
+          laid_survey = cut.survey s
+
+          abbrev made : List ℕ → Made
+          made bytes = record { outputs = piece_outputs laid_survey pieces bytes; text = [] }
+
+          makes-pieces : (f : Contents) → old.files ≡ Told f →
+              (bytes : List ℕ) × (Holds old.files input bytes) × (command.makes f ≡ Ok (made bytes))
+          makes-pieces f told =
+              let at = makes-at f told in
+              let holds = subst (λ fs. Holds fs input at.0) (sym told) at.1 in (
+                at.0,
+                holds,
+                at.4 ∙ ap (λ r. then_made r (pieces_result prefix at.0 laid_survey))
+                    (laid at.0 holds)
+                    ∙ ap (λ (outputs : List Output). Ok (record { outputs = outputs; text = [] }))
+                    (sym (outputs-are prefix laid_survey 1 pieces at.0 named)),
+              )
+
+          none-before : (P : EditFault → Type 0) → IfTold old.files (λ f. IfErr (command.makes f) P)
+          none-before P = if-told old.files (λ f told. rw (makes-pieces f told).2 tt)
+
+          whole : (new : Files) → ((bytes : List ℕ) → Holds old.files input bytes
+              → new ≡ with_outputs (piece_outputs laid_survey pieces bytes) old.files)
+              → IfTold old.files (λ f. (made : Made) × (command.makes f ≡ Ok made)
+              × (new ≡ Told (written_files made.outputs f)))
+          unfolding with_outputs
+          whole new all = if-told old.files (λ f told. let makes = makes-pieces f told in (
+            made makes.0,
+            makes.2,
+            subst (λ fs. new ≡ with_outputs (piece_outputs laid_survey pieces makes.0) fs) told
+                (all makes.0 makes.1),
+          ))
+
+          names-touched : (before after : Files) → OnlyTouches (names_of_pieces pieces) before after
+              → OnlyTouches (piece_names prefix) before after
+          names-touched before after only =
+              touches_more (names_of_pieces pieces) (piece_names prefix) before after
+              (λ other. names-all prefix laid_survey pieces (λ name. other ≢ name) few named) only
+
+          first-touched : (k : ℕ) (new : Files)
+              → OnlyTouches (take (k + 1) (names_of_pieces pieces)) old.files new
+              → OnlyTouches (take (k + 1) (piece_names prefix)) old.files new
+          first-touched k new touches = touches_more (take (k + 1) (names_of_pieces pieces))
+              (take (k + 1) (piece_names prefix)) old.files new (λ other. names-first prefix
+              laid_survey pieces (λ name. other ≢ name) k few named) touches
+
+          part : (k : ℕ) (new : Files)
+              → IsWrittenPart (pieces_of input laid_survey pieces) k old.files new
+              → IsWrittenTo command k old.files new
+          unfolding with_part
+          part k new h = record {
+            made = if-told old.files (λ f told. let makes = makes-pieces f told in
+                let part = h.files makes.0 makes.1 in (
+                  made makes.0,
+                  makes.2,
+                  part.0,
+                  part.1,
+                  subst (λ fs. new
+                      ≡ with_part k part.1 (piece_outputs laid_survey pieces makes.0) fs)
+                      told part.2,
+                ));
+            touches = first-touched k new h.touches;
+          }
+
+          unfinished : (k : ℕ) (new : Files)
+              → IsUnfinishedPart (pieces_of input laid_survey pieces) k old.files new
+              → IsOutputUnfinished command k old.files new
+          unfolding with_part
+          unfinished k new h = record {
+            made = if-told old.files (λ f told. let makes = makes-pieces f told in
+                let part = h.files makes.0 makes.1 in (
+                  made makes.0,
+                  makes.2,
+                  part.0,
+                  part.1,
+                  part.2,
+                  subst (λ fs. new
+                      ≡ with_part k part.1 (piece_outputs laid_survey pieces makes.0) fs)
+                      told part.3,
+                ));
+            touches = first-touched k new h.touches;
+          }
+
+          ended-name : (new : Seen) (fault : EditFault) → PiecesStopShort input old new fault
+              → EndedAt
+              (input_of (input ∷ more) fault) (end_offset fault) old.counts.ends new.counts.ends
+          ended-name new fault h =
+              subst (λ e. EndedAt (input_of (input ∷ more) e)
+              (end_offset e) old.counts.ends new.counts.ends) (sym h.is)
+              (subst (λ e. EndedAt (input_of (input ∷ []) e)
+              (end_offset e) old.counts.ends new.counts.ends) h.is h.ended.rose)
+
+          split-left-here : (new : Seen) (fault : EditFault)
+              → OnlyTouches (names_of_pieces pieces) old.files new.files
+              → IsPiecesFault (pieces_of input laid_survey pieces) old new fault
+              → IsCommandFault command old new fault
+          split-left-here new fault only h = each_why (why_of fault) h (record {
+            rejected = λ w. absurd w;
+            missing = λ w. absurd w;
+            unread = λ u. record {
+              names = apart;
+              before = none-before (IsNotBefore fault);
+              rose = subst (λ e. HappenedTo (input_of (input ∷ more) e)
+                  old.counts.read_faults new.counts.read_faults) (sym u.is) u.rose;
+              files = inr (u.place, part u.place new.files u.files);
+            };
+            shorter = λ l. record {
+              ended = record {
+                rose = ended-name new fault l;
+                counts = l.ended.counts;
+                untold = l.ended.untold;
+              };
+              touches = names-touched old.files new.files only;
+            };
+            unwritten = λ k w. record {
+              rose = subst (λ n. HappenedTo n old.counts.write_faults new.counts.write_faults)
+                  (name-here prefix laid_survey pieces k few w.within named) w.rose;
+              files = unfinished k new.files w.files;
+            };
+            unsent = λ w. absurd w;
+            no_memory = λ w. absurd w;
+          })
+
+      -- ---- what is left by a step after those that left all as it was
+
+      module _ (mid new : Seen) (stays : mid ≡ old) where
+        -- where there are no positions
+        pub places-left : (fault : EditFault) → IsPlacesFault cut mid new fault
+            → IsCommandFault command old new fault
+        places-left fault h = places-left-here new fault (rw stays at h)
+
+        -- want of memory leaves all as it was
+        pub memory-left : new ≡ mid → IsCommandFault command old new Memory
+        memory-left same = record { names = apart; takes = behind-takes; stays = same ∙ stays }
+
+        module _ (places : List X) (are : SaysPlaces cut old.files (Ok places)) where
+          -- where they aren't pieces
+          pub range-left : (fault : EditFault) → new ≡ mid → (fault ≡ Memory)
+              ⊎ (IsEditRefusal cut.refuses fault × ((bytes : List ℕ) → Holds old.files input bytes
+              → piece_parts cut bytes s places ≡ Err fault)) → IsCommandFault command old new fault
+          range-left fault same (inl is) = rw is (memory-left same)
+          range-left (Refused refusal) same (inr h) = record {
+            defined = range-refused places are (Refused refusal) h.1;
+            stays = same ∙ stays;
+          }
+          range-left _ same (inr h) = absurd h.0
+
+          module _ (pieces : List PlannedPiece) (named : ArePieces prefix (cut.survey s) 1 pieces)
+              (laid : (bytes : List ℕ) → Holds old.files input bytes
+              → piece_parts cut bytes s places
+              ≡ Ok (map piece_part pieces)) (few : length pieces ≤ 99) where
+            -- if all pieces were written, and no count changed, the command is done
+            pub split-done : ((bytes : List ℕ) → Holds mid.files input bytes
+                → new.files ≡ with_outputs (piece_outputs (cut.survey s) pieces bytes) mid.files)
+                → OnlyTouches (names_of_pieces pieces) mid.files new.files → new.counts ≡ mid.counts
+                → IsCommandDone command old new
+            split-done wrote touches counts = record {
+              made = whole places are pieces named laid few new.files (rw stays at wrote);
+              touches = names-touched places are pieces named laid few
+                  old.files new.files (rw stays at touches);
+              counts = counts ∙ ap (λ (m : Seen). m.counts) stays;
+            }
+
+            -- a fault of the second pass leaves the pieces before it whole
+            pub split-left : OnlyTouches (names_of_pieces pieces) mid.files new.files
+                → (fault : EditFault)
+                → IsPiecesFault (pieces_of input (cut.survey s) pieces) mid new fault
+                → IsCommandFault command old new fault
+            split-left touches fault h = split-left-here places are pieces named laid few new fault
+                (rw stays at touches) (rw stays at h)
+
+-- ---- the numbers of a fault, whatever is told of the files
+
+module _ {X : Type 0} (cut : Cutting X) (input prefix : List ℕ) where
+  -- of one that was met while the places were found
+  pub places-numbers : (fault : EditFault) → HasPlacesNumbers cut fault
+      → HasNumbers (split_command cut input prefix) fault
+  places-numbers (Input place fault) is =
+      (omega (arith, is.0, is.1.0), is.1.1, is.1.2, inr (inr is.1.3))
+  places-numbers (Refused refusal) is = is
+  places-numbers Memory is = tt
+  places-numbers _ is = absurd is
+
+  -- a fault of the survey has the right numbers
+  pub survey-numbers : (fault : EditFault) → HasSurveyNumbers 0 fault
+      → HasNumbers (split_command cut input prefix) fault
+  survey-numbers (Input place fault) is = (omega (arith, is.0), is.1, is.2, inl is.0)
+  survey-numbers Memory is = tt
+  survey-numbers _ is = absurd is
+
+  -- so has one of the head
+  pub head-numbers : (fault : EditFault) → HasHeadNumbers fault
+      → HasNumbers (split_command cut input prefix) fault
+  head-numbers (Input place fault) is = (omega (arith, is.0), is.1, is.2, inl is.0)
+  head-numbers _ is = absurd is
+
+  -- of places between which there is nothing
+  pub range-numbers : {Y : Type 0} (fault : EditFault) → (fault ≡ Memory)
+      ⊎ (IsEditRefusal cut.refuses fault × Y) → HasNumbers (split_command cut input prefix) fault
+  range-numbers fault (inl none) = subst (HasNumbers (split_command cut input prefix)) (sym none) tt
+  range-numbers (Refused refusal) (inr is) = is.0
+  range-numbers _ (inr is) = absurd is.0
+
+  -- and one of the second pass
+  pub pieces-numbers : (count : ℕ) (fault : EditFault) → count < 100 → HasPiecesNumbers count fault
+      → HasNumbers (split_command cut input prefix) fault
+  pieces-numbers count (Input place fault) most is = (omega (arith, is.0), is.1, is.2, inl is.0)
+  pieces-numbers count (Write place) most is = omega (arith, names-length prefix, most, is)
+  pieces-numbers count _ most is = absurd is

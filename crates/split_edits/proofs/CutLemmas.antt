@@ -1,0 +1,242 @@
+-- What a file is cut into at positions, and at places of samples:
+-- no fault comes too early, and what is laid holds its stream.
+use Rattle.std.proofs.Common.{ap, ap₂, arith, Bool, cond, Err, false, length, List, None, Ok}
+use Rattle.std.proofs.Common.{Option, refl, Result, Some, subst, sym, true, ℕ, ◌&&◌, ◌||◌, ◌∙◌, ◌≡◌}
+use Rattle.std.specs.Prelude.{IfErr, IfSome, nat_le, nat_lt, replicate}
+use Rattle.commands.proofs.{RefusingLemmas.{then_all, then_ok, unless_all}, SheetLemmas.sheet-all}
+use Rattle.commands.specs.{AfterCall.{IsEditRefusal, IsLateFault, IsNotBefore}, Refusing.then_made}
+use Rattle.commands.specs.{Sheet.sheet_in, SingleOutput.most_frames}
+use Rattle.commands.specs.declared.fault.EditFault.{EditFault, TheVariants.{Input, Refused}}
+use Rattle.commands.specs.declared.fault.Refusal.{Refusal}
+use Rattle.commands.specs.declared.fault.Refusal.TheVariants.{Range, Sheet, SheetTooLarge}
+use Rattle.commands.specs.declared.fault.Refusal.TheVariants.{Span as NoSpan}
+use Rattle.cue_sheet.specs.{Cues.cue_of, Places.frame_at, declared.cue_fault.CueFault.CueFault}
+use Rattle.cue_sheet.specs.declared.place.Place.{Place}
+use Rattle.cut_edits.proofs.{ChosenLemmas.{chosen-holds, with_right}, HeadLemmas.apart-length}
+use Rattle.cut_edits.proofs.PieceLemmas.{apart_had, head_long, piece-holds, span-there, span_apart}
+use Rattle.cut_edits.specs.Chosen.{Chosen, chosen_file, chosen_needs, chosen_stream, cut_choice}
+use Rattle.cut_edits.specs.Chosen.{cut_refuses, first_plan, first_planning, laying_part}
+use Rattle.cut_edits.specs.Chosen.{outside_fault, own_slots_part, placed_part, planned_part}
+use Rattle.cut_edits.specs.Exact.{exact_part, exact_refuses, file_span, samples_fault, span_between}
+use Rattle.cut_edits.specs.Exact.{span_piece, survey_without_head}
+use Rattle.exact_span.specs.{Places.sample_at, PlayedPositions.{length_of_played, played_of}}
+use Rattle.exact_span.specs.declared.{exact_place.ExactPlace.ExactPlace, span.Span.Span}
+use Rattle.info_header.specs.declared.fields.Info.{Info}
+use Rattle.laying.{proofs.SurveyFrameLemmas.survey-had, specs.KeptFields.fields_of_head}
+use Rattle.laying.specs.{Laid.{file_laid, LaidPart, stream_laid}, NeedsFit.own_choice}
+use Rattle.split_edits.specs.Cutting.{IsProperCutting}
+use Rattle.split_edits.specs.Split.{cue_sheet_places, cue_sheet_refuses, cut_part, cutting_of}
+use Rattle.split_edits.specs.Split.{exact_cutting_of, exact_places_result, exact_refuses_of}
+use Rattle.split_edits.specs.Split.{places_to_end, refuses_of}
+use Rattle.split_edits.specs.declared.exact_points.ExactPoints.{ExactPoints}
+use Rattle.split_edits.specs.declared.exact_points.ExactPoints.TheVariants.{Places as ExactPlaces}
+use Rattle.split_edits.specs.declared.exact_points.ExactPoints.TheVariants.{Sheet as InExactSheet}
+use Rattle.split_edits.specs.declared.points.Points.{Points, TheVariants.{Places, Sheet as InSheet}}
+use Rattle.sync_survey.specs.{Faults.{HoldsStream, SurveyFields}, Survey.survey_of}
+use Rattle.sync_survey.specs.declared.survey_fault.SurveyFault.TheVariants.{Absent, Read}
+
+-- ---- the positions of a sheet
+
+end-all : (P : EditFault → Type 0) → ((fault : CueFault) → P (Refused (Sheet fault)))
+    → (r : Result (List Place) CueFault) → IfErr (places_to_end r) P
+end-all P cue (Ok starts) = tt
+end-all P cue (Err fault) = cue fault
+
+where-all : (P : EditFault → Type 0) → P (Input 1 Absent)
+    → ((size : ℕ) → P (Refused (SheetTooLarge size)))
+    → ((fault : CueFault) → P (Refused (Sheet fault))) → (o : Option (List ℕ))
+    → IfErr (cue_sheet_places o) P
+where-all P absent large cue o = then_all P (sheet_in o) (λ bytes. places_to_end (cue_of bytes))
+    (sheet-all P absent large o) (λ bytes. end-all P cue (cue_of bytes))
+
+where-late : (o : Option (List ℕ)) → IfErr (cue_sheet_places o) IsLateFault
+where-late = where-all IsLateFault refl (λ size. refl) (λ fault. refl)
+
+where-after : (o : Option (List ℕ)) → IfErr (cue_sheet_places o) (IsNotBefore (Input 1 Read))
+where-after = where-all (IsNotBefore (Input 1 Read)) (omega arith) (λ size. tt) (λ fault. tt)
+
+as-all : (P : EditFault → Type 0) (r : Result (List Place) EditFault) → IfErr r P
+    → IfErr (exact_places_result r) P
+as-all P (Ok places) is = tt
+as-all P (Err fault) is = is
+
+-- nothing is refused where the test holds
+unless-test : (P : EditFault → Type 0) (refusal : Refusal) → P (Refused refusal) → (test : Bool)
+    → IfSome (cond test None (Some refusal)) (λ r. P (Refused r))
+unless-test P refusal is true = tt
+unless-test P refusal is false = is
+
+-- ---- at positions
+
+module _ (P : EditFault → Type 0)
+    (range : (from to frames : ℕ) → P (Refused (Range from to frames))) where
+  frames-all : (from to : Place) (file : List ℕ) (s : SurveyFields)
+      → IfErr (cut_part from to file s) P
+  unfolding laying_part cut_choice
+  frames-all from to file s =
+      let a = frame_at s.class (length s.frames) from in
+      let b = frame_at s.class (length s.frames) to in
+      let n = length s.frames in
+      then_all P (cut_choice from to file s) (planned_part (first_planning own_choice) s)
+      (unless_all P (outside_fault a b n) _
+      (unless-test P (Range a b n) (range a b n) (nat_lt a b && nat_le b n))) (λ chosen. tt)
+
+frames-hold : (from to : Place) (file : List ℕ) (s : SurveyFields) (laid : LaidPart)
+    → survey_of file most_frames ≡ Ok s → cut_part from to file s ≡ Ok laid
+    → HoldsStream (file_laid laid file s) (stream_laid laid file s)
+unfolding laying_part cut_choice chosen_file chosen_stream
+frames-hold from to file s laid surveyed e =
+    let parts =
+    then_ok (cut_choice from to file s) (planned_part (first_planning own_choice) s) laid e in
+    let same : own_slots_part parts.0 s ≡ laid = cc in
+    let right = with_right None (replicate 36 0) (frame_at s.class (length s.frames) from)
+    (frame_at s.class (length s.frames) to) s parts.0 refl parts.1 in
+    subst (λ (l : LaidPart). HoldsStream (file_laid l file s) (stream_laid l file s)) same
+    (chosen-holds parts.0 file s
+    (survey-had file most_frames s surveyed) right.some right.within right.extension)
+
+-- a file that is cut at positions
+pub points-proper : (points : Points) → IsProperCutting (cutting_of points)
+points-proper (Places places) = record {
+  places_late = λ f. tt;
+  places_after = λ f. tt;
+  late = frames-all IsLateFault (λ a b n. refl);
+  after = frames-all (IsNotBefore (Input 1 Read)) (λ a b n. tt);
+  streams = λ from to file s laid octets surveyed e. frames-hold from to file s laid surveyed e;
+}
+points-proper (InSheet sheet) = record {
+  places_late = λ f. where-late (f sheet.now);
+  places_after = λ f. where-after (f sheet.now);
+  late = frames-all IsLateFault (λ a b n. refl);
+  after = frames-all (IsNotBefore (Input 1 Read)) (λ a b n. tt);
+  streams = λ from to file s laid octets surveyed e. frames-hold from to file s laid surveyed e;
+}
+
+-- its refusals are among those that there can be
+pub points-refusal : (points : Points) (fault : EditFault) → IsEditRefusal cut_refuses fault
+    → IsEditRefusal (refuses_of points) fault
+points-refusal (Places places) fault is = is
+points-refusal (InSheet sheet) (Refused refusal) is = ap (λ b. b || cue_sheet_refuses refusal) is
+points-refusal (InSheet sheet) _ is = absurd is
+
+-- the frames that were chosen in the slots of their plan, by the survey that is known
+module _ (from to : Place) (file : List ℕ) (s known : SurveyFields) (same : known ≡ s) where
+  -- they are what is laid from the one place to the other
+  pub frames-laid : (chosen : Chosen) (laid : LaidPart) → cut_choice from to file known ≡ Ok chosen
+      → laid ≡ placed_part chosen (first_plan own_choice known.class (chosen_needs chosen known))
+      → cut_part from to file s ≡ Ok laid
+  unfolding laying_part
+  frames-laid chosen laid chose is =
+      subst (λ (t : SurveyFields). cut_part from to file t ≡ Ok laid) same
+      (ap (λ (r : Result Chosen EditFault). then_made r
+      (planned_part (first_planning own_choice) known))
+      chose ∙ ap Ok (sym is))
+
+  -- and where they are refused, so is what is laid
+  pub frames-refused : (fault : EditFault) → cut_choice from to file known ≡ Err fault
+      → cut_part from to file s ≡ Err fault
+  unfolding laying_part
+  frames-refused fault chose =
+      subst (λ (t : SurveyFields). cut_part from to file t ≡ Err fault) same
+      (ap (λ (r : Result Chosen EditFault). then_made r
+      (planned_part (first_planning own_choice) known))
+      chose)
+
+-- ---- at places of samples
+
+module _ (P : EditFault → Type 0)
+    (span : (a b samples : ℕ) → P (Refused (NoSpan a b samples))) where
+  exact-all : (from to : ExactPlace) (file : List ℕ) (s : SurveyFields)
+      → IfErr (exact_part from to file s) P
+  unfolding exact_part file_span
+  exact-all from to file s =
+      let head = fields_of_head file s.head in
+      let samples = length_of_played (played_of head s.class (length s.frames)) in
+      let a = sample_at s.class samples from in
+      let b = sample_at s.class samples to in
+      then_all P (file_span from to head s)
+      (λ span. Ok (span_piece head span file (survey_without_head s)))
+      (unless_all P (samples_fault a b samples) _ (unless-test P (NoSpan a b samples)
+      (span a b samples) (nat_lt a b && nat_le b samples))) (λ span. tt)
+
+exact-hold : (from to : ExactPlace) (file : List ℕ) (s : SurveyFields) (laid : LaidPart)
+    → survey_of file most_frames ≡ Ok s → exact_part from to file s ≡ Ok laid → HoldsStream
+    (file_laid laid file (survey_without_head s)) (stream_laid laid file (survey_without_head s))
+unfolding exact_part
+exact-hold from to file s laid surveyed e =
+    let head = fields_of_head file s.head in
+    let parts =
+    then_ok (file_span from to head s)
+    (λ span. Ok (span_piece head span file (survey_without_head s))) laid e in
+    let same : span_piece head parts.0 file (survey_without_head s) ≡ laid = cc in
+    subst (λ (l : LaidPart). HoldsStream (file_laid l file (survey_without_head s))
+    (stream_laid l file (survey_without_head s)))
+    same
+    (piece-holds head (head_long file s.head) parts.0 file (survey_without_head s)
+    (apart_had file s surveyed)
+    (span_apart s parts.0 (span-there from to head s parts.0 parts.1)))
+
+-- a file that is cut at places of samples
+pub exact-points-proper : (points : ExactPoints) → IsProperCutting (exact_cutting_of points)
+exact-points-proper (ExactPlaces places) = record {
+  places_late = λ f. tt;
+  places_after = λ f. tt;
+  late = exact-all IsLateFault (λ a b n. refl);
+  after = exact-all (IsNotBefore (Input 1 Read)) (λ a b n. tt);
+  streams = λ from to file s laid octets surveyed e. exact-hold from to file s laid surveyed e;
+}
+exact-points-proper (InExactSheet sheet) = record {
+  places_late = λ f. as-all IsLateFault (cue_sheet_places (f sheet.now)) (where-late (f sheet.now));
+  places_after = λ f. as-all (IsNotBefore (Input 1 Read)) (cue_sheet_places (f sheet.now))
+      (where-after (f sheet.now));
+  late = exact-all IsLateFault (λ a b n. refl);
+  after = exact-all (IsNotBefore (Input 1 Read)) (λ a b n. tt);
+  streams = λ from to file s laid octets surveyed e. exact-hold from to file s laid surveyed e;
+}
+
+-- its refusals are among those that there can be
+pub exact-points-refusal : (points : ExactPoints) (fault : EditFault)
+    → IsEditRefusal exact_refuses fault → IsEditRefusal (exact_refuses_of points) fault
+exact-points-refusal (ExactPlaces places) fault is = is
+exact-points-refusal (InExactSheet sheet) (Refused refusal) is =
+    ap (λ b. b || cue_sheet_refuses refusal) is
+exact-points-refusal (InExactSheet sheet) _ is = absurd is
+
+-- setting the head apart leaves the samples where they are
+span_same : (from to : ExactPlace) (head : Option Info) (s : SurveyFields)
+    → file_span from to head (survey_without_head s) ≡ file_span from to head s
+unfolding file_span
+span_same from to head s =
+    ap (λ (n : ℕ). span_between s.class (played_of head s.class n) from to) (apart-length s)
+
+-- the span that was found, by the survey and the head that are known
+module _ (from to : ExactPlace) (file : List ℕ) (s known : SurveyFields)
+    (same : known ≡ survey_without_head s)
+    (head : Option Info) (head_is : head ≡ fields_of_head file s.head) where
+  found : (r : Result Span EditFault) → file_span from to head known ≡ r
+      → file_span from to (fields_of_head file s.head) s ≡ r
+  found r is =
+      sym (span_same from to (fields_of_head file s.head) s)
+      ∙ ap (λ (h : Option Info). file_span from to h (survey_without_head s)) (sym head_is)
+      ∙ ap (file_span from to head) (sym same)
+      ∙ is
+
+  -- its piece is what is laid from the one place to the other
+  pub exact-laid-is : (span : Span) (laid : LaidPart) → file_span from to head known ≡ Ok span
+      → laid ≡ span_piece head span file known → exact_part from to file s ≡ Ok laid
+  unfolding exact_part
+  exact-laid-is span laid is piece =
+      ap (λ (r : Result Span EditFault). then_made r
+      (λ p. Ok (span_piece (fields_of_head file s.head) p file (survey_without_head s))))
+      (found (Ok span) is)
+      ∙ ap₂ (λ (h : Option Info) (t : SurveyFields). Ok (span_piece h span file t)) (sym head_is)
+      (sym same)
+      ∙ ap Ok (sym piece)
+
+  -- and where it is refused, so is what is laid
+  pub exact-laid-refused : (fault : EditFault) → file_span from to head known ≡ Err fault
+      → exact_part from to file s ≡ Err fault
+  unfolding exact_part
+  exact-laid-refused fault is = ap (λ (r : Result Span EditFault). then_made r
+      (λ p. Ok (span_piece (fields_of_head file s.head) p file (survey_without_head s))))
+      (found (Err fault) is)

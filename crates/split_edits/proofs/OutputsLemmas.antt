@@ -1,0 +1,253 @@
+-- Outputs that are written one after the other.
+use Rattle.std.proofs.Common.{ap, append-nil, arith, drop, inl, inr, is_some, length, length-drop}
+use Rattle.std.proofs.Common.{List, map, None, Option, refl, slice_index_or, Some, string_bytes}
+use Rattle.std.proofs.Common.{subst, sym, take, ℕ, [], ◌++◌, ◌+◌, ◌<◌, ◌∙◌, ◌∷◌, ◌≡◌, ◌≢◌}
+use Rattle.std.proofs.Math.Seq.{take-add}
+use Rattle.std.proofs.lemmas.List.{drop-map, get_or-drop, length-map, length-take, map-append}
+use Rattle.std.proofs.lemmas.List.{take-map, Elements.{All-cons, All-nil, All-take}}
+use Rattle.commands.specs.Command.{begun_output, LacksBytes, Output, written_files}
+use Rattle.commands.specs.PassFaults.{pass_edit_fault}
+use Rattle.commands.specs.SingleOutput.{files_holding, HoldsLess, HoldsPrefix, IsPassFault}
+use Rattle.laying.specs.Laid.{file_laid, selected_part}
+use Rattle.outside.proofs.FilesLemmas.{touches_both, touches_more, touches_none, touches_told}
+use Rattle.outside.specs.Counts.{Counts, EndedAt, HappenedTo, NothingFailed}
+use Rattle.outside.specs.Files.{Contents, Files, Holds, IsFileThere, OnlyTouches, Told, Untold}
+use Rattle.outside.specs.{Files.with_file, Seen.seen_folder, declared.pass.PassFault.PassFault}
+use Rattle.outside.specs.declared.pass.PassFault.TheVariants.{Read, Shrunk, Write}
+use Rattle.split_edits.specs.Steps.{IsPiecesFault, IsUnfinishedPart, IsWrittenPart, names_of_pieces}
+use Rattle.split_edits.specs.Steps.{output_of, piece_outputs, pieces_of, with_outputs, with_part}
+use Rattle.split_edits.specs.declared.piece.PlannedPiece.{PlannedPiece}
+use Rattle.sync_survey.specs.Faults.{SurveyFields}
+
+-- ---- one output more
+
+written-append : (xs ys : List Output) (f : Contents)
+    → written_files (xs ++ ys) f ≡ written_files ys (written_files xs f)
+written-append [] ys f = refl
+written-append (x ∷ xs) ys f = written-append xs ys (with_file f x.name x.bytes)
+
+none-written : (files : Files) → files ≡ with_outputs [] files
+unfolding with_outputs
+none-written (Untold touched) = refl
+none-written (Told f) = refl
+
+more-written : (xs : List Output) (name bytes : List ℕ) (files : Files) (input file : List ℕ)
+    → Holds files input file → files_holding (with_outputs xs files) name bytes
+    ≡ with_outputs (xs ++ record { name = name; bytes = bytes } ∷ []) files
+unfolding with_outputs files_holding
+more-written xs name bytes (Untold touched) input file holds = absurd holds
+more-written xs name bytes (Told f) input file holds =
+    ap Told (sym (written-append xs (record { name = name; bytes = bytes } ∷ []) f))
+
+-- after k whole outputs the next one wasn't created, or holds a prefix
+module _ (k : ℕ) (outputs rest : List Output) (o : Output) (now new : Files) (input file : List ℕ)
+    (next : drop k outputs ≡ o ∷ rest) where
+  not-created : (old : Files) → Holds old input file → now ≡ with_outputs (take k outputs) old
+      → new ≡ now → new ≡ with_part k None outputs old
+  unfolding with_outputs with_part
+  not-created (Untold touched) holds is stays = absurd holds
+  not-created (Told f) holds is stays = rw (append-nil (take k outputs)) (stays ∙ is)
+
+  begun-with : (old : Files) → Holds old input file → now ≡ with_outputs (take k outputs) old
+      → (n : ℕ) → new ≡ files_holding now o.name (take n o.bytes)
+      → new ≡ with_part k (Some n) outputs old
+  unfolding with_outputs with_part files_holding
+  begun-with (Untold touched) holds is n part = absurd holds
+  begun-with (Told f) holds is n part = rw (next, written-append (take k outputs))
+      (part ∙ ap (λ files. files_holding files o.name (take n o.bytes)) is)
+
+  module _ (old : Files) (holds : Holds old input file)
+      (is : now ≡ with_outputs (take k outputs) old) where
+    -- a prefix of the next output is a part of all
+    pub part-of : HoldsPrefix o.name o.bytes now new
+        → (count : Option ℕ) × (new ≡ with_part k count outputs old)
+    part-of (inl stays) = (None, not-created old holds is stays)
+    part-of (inr part) = (Some part.0, begun-with old holds is part.0 part.1)
+
+    -- where it was created and a write failed, it lacks bytes
+    pub less-of : HoldsLess o.name o.bytes now new → (count : Option ℕ)
+        × LacksBytes count (drop k outputs) × (new ≡ with_part k count outputs old)
+    less-of (inl stays) = (None, tt, not-created old holds is stays)
+    less-of (inr part) = (Some part.0, rw next part.1, begun-with old holds is part.0 part.2)
+
+-- ---- the input, beside an output that was written
+
+-- the input is there as it was
+pub record Stands (input : List ℕ) (old new : Files) : Type 0 where
+  pub there : IsFileThere new input
+  pub before : (bytes : List ℕ) → Holds new input bytes → Holds old input bytes
+  pub after : (bytes : List ℕ) → Holds old input bytes → Holds new input bytes
+
+stands-beside : (input name : List ℕ) (old new : Files) → input ≢ name → IsFileThere old input
+    → OnlyTouches (name ∷ []) old new → Stands input old new
+stands-beside input name (Told f) (Told g) apart there only =
+    let at = only input (All-cons (λ n. input ≢ n) name [] apart (All-nil (λ n. input ≢ n))) in
+    record {
+      there = ap is_some at ∙ there;
+      before = λ bytes holds. sym at ∙ holds;
+      after =
+          λ bytes holds. at ∙ holds;
+    }
+stands-beside input name (Untold before) (Untold after) apart there only =
+    record { there = tt; before = λ bytes holds. holds; after = λ bytes holds. holds }
+stands-beside input name _ _ apart there only = absurd only
+
+-- ---- pieces that were written
+
+-- These pieces are whole, and the input is as it was.
+pub record Wrote (s : SurveyFields) (input : List ℕ) (done : List PlannedPiece)
+    (old now : Files) : Type 0 where
+  pub files : (bytes : List ℕ) → Holds old input bytes
+      → now ≡ with_outputs (piece_outputs s done bytes) old
+  pub touches : OnlyTouches (names_of_pieces done) old now
+  pub stands : Stands input old now
+
+-- before the first output nothing was written
+pub none-wrote : (s : SurveyFields) (input : List ℕ) (files : Files) → IsFileThere files input
+    → Wrote s input [] files files
+none-wrote s input files there = record {
+  files = λ bytes holds. none-written files;
+  touches = touches_none [] files;
+  stands =
+      record { there = there; before = λ bytes holds. holds; after = λ bytes holds. holds };
+}
+
+abbrev pub piece_made : SurveyFields → PlannedPiece → List ℕ → List ℕ
+piece_made s piece file = file_laid (selected_part piece.selected) file s
+
+-- the next one was written, or begun
+module _ (s : SurveyFields) (input : List ℕ) (all : List PlannedPiece) (k : ℕ)
+    (piece : PlannedPiece)
+    (old now new : Files) (next : drop k all ≡ piece ∷ drop (k + 1) all) (wrote : Wrote s input
+    (take k all) old now) (touches : OnlyTouches (string_bytes piece.name ∷ []) now new) where
+  abbrev done : List PlannedPiece
+  done = take k all
+
+  more : take (k + 1) all ≡ done ++ piece ∷ []
+  more = take-add k 1 all ∙ ap (λ (ps : List PlannedPiece). done ++ take 1 ps) next
+
+  touched : OnlyTouches (names_of_pieces (take (k + 1) all)) old new
+  touched = rw (
+    more,
+    map-append (λ (p : PlannedPiece). string_bytes p.name) done (piece ∷ []),
+  ) (touches_both (names_of_pieces done)
+      (string_bytes piece.name ∷ []) old now new wrote.touches touches)
+
+  touched-here : OnlyTouches (take (k + 1) (names_of_pieces all)) old new
+  touched-here = rw (take-map (λ (p : PlannedPiece). string_bytes p.name) (k + 1) all) touched
+
+  -- only the names of the pieces were touched
+  pub all-touched : OnlyTouches (names_of_pieces all) old new
+  all-touched = touches_more (take (k + 1) (names_of_pieces all)) (names_of_pieces all) old new
+      (λ other apart. All-take (λ name. other ≢ name) (k + 1) (names_of_pieces all) apart)
+      touched-here
+
+  -- if it was written whole, one more was
+  pub more-wrote : input ≢ string_bytes piece.name → ((bytes : List ℕ) → Holds now input bytes
+      → new ≡ files_holding now (string_bytes piece.name) (piece_made s piece bytes))
+      → Wrote s input (take (k + 1) all) old new
+  more-wrote apart whole =
+      let beside =
+      stands-beside input (string_bytes piece.name) now new apart wrote.stands.there touches in
+      record {
+        files = λ bytes holds.
+            whole bytes (wrote.stands.after bytes holds)
+            ∙ ap (λ files. files_holding files (string_bytes piece.name) (piece_made s piece bytes))
+            (wrote.files bytes holds)
+            ∙ more-written (piece_outputs s done bytes) (string_bytes piece.name)
+            (piece_made s piece bytes) old input bytes holds
+            ∙ ap (λ os. with_outputs os old) (sym (ap (λ ps. piece_outputs s ps bytes) more
+            ∙ map-append (output_of bytes s) done (piece ∷ [])));
+        touches = touched;
+        stands = record {
+          there = beside.there;
+          before = λ bytes holds. wrote.stands.before bytes (beside.before bytes holds);
+          after = λ bytes holds. beside.after bytes (wrote.stands.after bytes holds);
+        };
+      }
+
+  out : (bytes : List ℕ) → drop k (piece_outputs s all bytes)
+      ≡ output_of bytes s piece ∷ piece_outputs s (drop (k + 1) all) bytes
+  out bytes = drop-map (output_of bytes s) k all ∙ ap (map (output_of bytes s)) next
+
+  now-is : (bytes : List ℕ) → Holds old input bytes
+      → now ≡ with_outputs (take k (piece_outputs s all bytes)) old
+  now-is bytes holds = wrote.files bytes holds
+      ∙ ap (λ os. with_outputs os old) (sym (take-map (output_of bytes s) k all))
+
+  few : (bytes : List ℕ) → k < length (piece_outputs s all bytes)
+  few bytes = omega (arith, ap length (out bytes), length-drop k (piece_outputs s all bytes))
+
+  place-is : (place : ℕ) → place ≡ length done → place ≡ k
+  place-is place is = omega (arith, is, length-take k all, ap length next, length-drop k all)
+
+  name-here : (place : ℕ) → place ≡ length done
+      → slice_index_or (names_of_pieces all) place [] ≡ string_bytes piece.name
+  name-here place is =
+      let here : place ≡ k + 0 = omega (arith, place-is place is) in
+      ap (λ n. slice_index_or (names_of_pieces all) n []) here
+      ∙ sym (get_or-drop k (names_of_pieces all) 0 [])
+      ∙ ap (λ (l : List (List ℕ)). slice_index_or l 0 [])
+      (drop-map (λ (p : PlannedPiece). string_bytes p.name) k all ∙ ap names_of_pieces next)
+
+  part-written : ((bytes : List ℕ) → Holds now input bytes
+      → HoldsPrefix (string_bytes piece.name) (piece_made s piece bytes) now new) → (place : ℕ)
+      → place ≡ length done → IsWrittenPart (pieces_of input s all) place old new
+  part-written begun_output place is = rw (place-is place is) (record {
+    files = λ bytes holds. let part = part-of k _ _ (output_of bytes s piece) now new input bytes
+        (out bytes) old holds (now-is bytes holds)
+        (begun_output bytes (wrote.stands.after bytes holds)) in
+        (few bytes, part.0, part.1);
+    touches = touched-here;
+  })
+
+  part-unfinished : ((bytes : List ℕ) → Holds now input bytes
+      → HoldsLess (string_bytes piece.name) (piece_made s piece bytes) now new) → (place : ℕ)
+      → place ≡ length done → IsUnfinishedPart (pieces_of input s all) place old new
+  part-unfinished begun_output place is = rw (place-is place is) (record {
+    files = λ bytes holds. let part = less-of k _ _ (output_of bytes s piece) now new input bytes
+        (out bytes) old holds (now-is bytes holds)
+        (begun_output bytes (wrote.stands.after bytes holds)) in
+        (few bytes, part.0, part.1, part.2);
+    touches = touched-here;
+  })
+
+  -- if its pass failed, the fault is one of the pieces, with the ones before it whole
+  pub pieces-fault : (fault : PassFault) (place : ℕ) (before between after : Counts)
+      → place ≡ length done → between ≡ before → IsPassFault (piece_made s piece) (input ∷ [])
+      (string_bytes piece.name) (seen_folder now between) (seen_folder new after)
+      (pass_edit_fault 0 0 fault)
+      → IsPiecesFault (pieces_of input s all) (seen_folder old before) (seen_folder new after)
+      (pass_edit_fault 0 place fault)
+  pieces-fault Read place before between after is same h =
+      record {
+        is = refl;
+        rose = subst (λ c. HappenedTo input c.read_faults after.read_faults) same
+            h.rose;
+        place = place;
+        files = part-written h.files place is;
+      }
+  pieces-fault (Shrunk first second) place before between after is same h = record {
+    first = first;
+    second = second;
+    is = refl;
+    ended = record {
+      rose = subst (λ c. EndedAt input second c.ends after.ends) same h.rose;
+      counts = subst (λ c. NothingFailed c after) same h.counts;
+      untold = sym (touches_told (names_of_pieces done) old now wrote.touches) ∙ h.untold;
+    };
+  }
+  pieces-fault Write place before between after is same h =
+      record {
+        within = omega (
+          arith,
+          place-is place is,
+          ap length next,
+          length-drop k all,
+          length-map all (λ (p : PlannedPiece). string_bytes p.name),
+        );
+        rose = subst (λ n. HappenedTo n before.write_faults after.write_faults)
+            (sym (name-here place is)) (subst (λ c. HappenedTo (string_bytes piece.name)
+            c.write_faults after.write_faults) same h.1.rose);
+        files = part-unfinished h.1.files place is;
+      }

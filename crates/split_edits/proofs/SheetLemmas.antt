@@ -1,0 +1,57 @@
+-- What the bytes of a sheet say.
+use Rattle.std.proofs.Common.{ap, arith, Err, List, map, true, ℕ, [], ◌∷◌, ◌≡◌}
+use Rattle.std.proofs.lemmas.List.{length-map, Elements.{All-cons, All-head, All-nil, All-tail}}
+use Rattle.std.specs.List.{All}
+use Rattle.commands.{proofs.WhyLemmas.{each_refusal, each_why}, specs.AfterCall.why_of}
+use Rattle.commands.specs.Refusing.{then_made}
+use Rattle.commands.specs.Sheet.{HasSheetNumbers, IsSheetFault, sheet_read, sheet_refuses}
+use Rattle.commands.specs.declared.fault.EditFault.{EditFault, TheVariants.Refused}
+use Rattle.commands.specs.declared.fault.Refusal.{Refusal, TheVariants.SheetTooLarge}
+use Rattle.cue_sheet.specs.{Cues.cue_of, Places.IsPlace, declared.place.Place.Place}
+use Rattle.exact_span.specs.Places.{IsExactPlace}
+use Rattle.exact_span.specs.declared.exact_place.ExactPlace.TheVariants.{Place as Position}
+use Rattle.outside.specs.Seen.{Seen}
+use Rattle.split_edits.specs.Cutting.{ArePlaces}
+use Rattle.split_edits.specs.Split.{cue_sheet_refuses, places_in, places_to_end}
+use Rattle.split_edits.specs.Steps.{HasCueSheetNumbers, IsCueSheetFault}
+
+-- a sheet whose bytes aren't read says no positions
+read-places : (bytes : List ℕ) (fault : EditFault) → sheet_read bytes ≡ Err fault
+    → places_in bytes ≡ Err fault
+read-places bytes fault is = ap (λ r. then_made r (λ read. places_to_end (cue_of read))) is
+
+module _ (name : List ℕ) (old new : Seen) (fault : EditFault) where
+  -- a sheet that isn't read is a fault of the sheet
+  pub unread-fault : IsSheetFault name old new fault → IsCueSheetFault name old new fault
+  unread-fault h = each_why (why_of fault) h
+      (each_refusal (λ r. record {
+        there = r.there;
+        bytes = λ bytes holds. read-places bytes fault (r.bytes bytes holds);
+        stays = r.stays;
+      }))
+
+of_read : (refusal : Refusal) → sheet_refuses refusal ≡ true → cue_sheet_refuses refusal ≡ true
+of_read (SheetTooLarge size) is = is
+of_read _ is = absurd cc
+
+-- a fault of a sheet that isn't read has the number of the sheet
+pub unread-number : (fault : EditFault) → HasSheetNumbers fault → HasCueSheetNumbers fault
+unread-number (Refused refusal) h = of_read refusal h
+unread-number _ h = h
+
+-- ---- places of samples that a sheet says
+
+all-exact : (positions : List Place) → All IsPlace positions
+    → All IsExactPlace (map Position positions)
+all-exact [] all = All-nil IsExactPlace
+all-exact (p ∷ positions) all = All-cons IsExactPlace (Position p) (map Position positions)
+    (All-head IsPlace p positions all) (all-exact positions (All-tail IsPlace p positions all))
+
+-- positions are places of samples
+pub exact-sound : (positions : List Place) → ArePlaces IsPlace positions
+    → ArePlaces IsExactPlace (map Position positions)
+exact-sound positions are = (
+  all-exact positions are.0,
+  omega (arith, are.1, length-map positions Position),
+  omega (arith, are.2, length-map positions Position),
+)

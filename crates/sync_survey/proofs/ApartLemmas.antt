@@ -1,0 +1,307 @@
+-- Frames that are lost when the head is set apart. In a file without fault these are
+-- the frames whose main data begin before the areas of the frames before them, the
+-- head's left out; and all others have their main data in the areas without the head's.
+use Rattle.std.proofs.Common.{ap, ap₂, arith, Bool, cond, false, List, map, None, Option, refl}
+use Rattle.std.proofs.Common.{slice_get, Some, subst, suc, sum_by, sym, take, true, zero, ℕ, []}
+use Rattle.std.proofs.Common.{◌+◌, ◌-◌, ◌<◌, ◌==◌, ◌||◌, ◌∙◌, ◌∷◌, ◌≡◌, ◌≤◌}
+use Rattle.std.proofs.lemmas.Bool.{and_from, and_parts, and_right, eq-eqb, eqb-true, le-ltb, lt-ltb}
+use Rattle.std.proofs.lemmas.{Bool.{ltb-false, ltb-true}, List.Sums.sum_by-cons}
+use Rattle.std.specs.List.{enumerate_from}
+use Rattle.frame_header.specs.Fields.{ClassFields}
+use Rattle.side_info.specs.Side.{payload_bytes}
+use Rattle.sync_survey.proofs.LostFrameLemmas.{none-empty}
+use Rattle.sync_survey.proofs.PlacedRowLemmas.{end-marked, found-marked, from_some, place-marked}
+use Rattle.sync_survey.proofs.PlacedRowLemmas.{placed_by}
+use Rattle.sync_survey.proofs.SurveyPartsLemmas.{data-none_well, StandWell}
+use Rattle.sync_survey.specs.{Faults.data_faults, HeadApart.{apart_row, apart_rows, rows_set_apart}}
+use Rattle.sync_survey.specs.Laws.{AreSilentOrLost}
+use Rattle.sync_survey.specs.MainData.{data_end_after, data_end_before, end_of_data, head_area}
+use Rattle.sync_survey.specs.MainData.{is_lost, is_silent, lacks_data, marked_row, marked_rows}
+use Rattle.sync_survey.specs.{MainData.{own_area, place, points_too_far}, Row.Row}
+use Rattle.sync_survey.specs.{Survey.{AreWellPlaced, IsWellPlaced}, declared.places.Head.Head}
+
+-- ---- one frame
+
+-- its main data begin before the areas, and none end before it
+lacks_by : (place ended : ℕ) (r : Row) → ended ≡ 0 → place < r.side.main_data_begin
+    → lacks_data place ended r ≡ true
+lacks_by place ended r none far = and_from (ended == 0) (points_too_far place r)
+    (eq-eqb ended 0 none) (lt-ltb place r.side.main_data_begin far)
+
+record Lacks (place ended : ℕ) (r : Row) : Type 0 where
+  none : ended ≡ 0
+  far : place < r.side.main_data_begin
+
+lacks_parts : (place ended : ℕ) (r : Row) → lacks_data place ended r ≡ true → Lacks place ended r
+lacks_parts place ended r is =
+    let parts = and_parts (ended == 0) (points_too_far place r) is in
+    record { none = eqb-true ended 0 parts.0; far = ltb-true place r.side.main_data_begin parts.1 }
+
+-- the main data of a frame begin after those before them, and end within its own area
+pub record Stands (place ended : ℕ) (r : Row) : Type 0 where
+  pub begins : r.side.main_data_begin ≤ place
+  pub apart : ended ≤ place - r.side.main_data_begin
+  pub within : (place - r.side.main_data_begin) + payload_bytes r.side ≤ place + own_area r.header
+
+-- so they do where they are where they may be
+pub stands_by : (place ended : ℕ) (r : Row) → StandWell place ended r → Stands place ended r
+stands_by place ended r well = record {
+  begins = ltb-false place r.side.main_data_begin well.begins;
+  apart = ltb-false (place - r.side.main_data_begin) ended well.apart;
+  within = ltb-false (place + own_area r.header) (end_of_data place r) well.within;
+}
+
+-- where a frame is marked as lost exactly if it lacks data, main data that stand have no fault
+pub sound-by : (at other : ℕ) (r : Row) (lost : Bool) → lacks_data at other r ≡ lost
+    → (lost ≡ false → Stands at other r) → data_faults at other r ≡ []
+sound-by at other r true is stands = rw is refl
+sound-by at other r false is stands =
+    let well = stands refl in
+    rw (
+      is,
+      le-ltb at r.side.main_data_begin well.begins,
+      le-ltb (at - r.side.main_data_begin) other well.apart,
+      le-ltb (at + own_area r.header) (end_of_data at r) well.within,
+    ) refl
+
+-- ---- areas
+
+area_more : (xs : List Row) (i : ℕ) (r : Row) → slice_get xs i ≡ Some r
+    → sum_by (λ (q : Row). own_area q.header) (take (suc i) xs)
+    ≡ sum_by (λ (q : Row). own_area q.header) (take i xs) + own_area r.header
+area_more [] i r is = absurd cc
+area_more (x ∷ xs) zero r is = let same : x ≡ r = cc in
+    omega (arith, ap (λ (q : Row). own_area q.header) same)
+area_more (x ∷ xs) (suc i) r is =
+    let area = λ (q : Row). own_area q.header in
+    let apart : area x + (sum_by area (take i xs) + area r)
+    ≡ (area x + sum_by area (take i xs)) + area r = omega arith in
+    sum_by-cons area x (take (suc i) xs) ∙ ap (λ m. area x + m) (area_more xs i r is) ∙ apart
+    ∙ ap (λ m. m + area r) (sym (sum_by-cons area x (take i xs)))
+
+-- the place after a frame is its own area further on
+pub area-more : (rows : List Row) (i : ℕ) (r : Row) → slice_get rows i ≡ Some r
+    → place None rows (suc i) ≡ place None rows i + own_area r.header
+unfolding place
+area-more rows i r is = omega (arith, area_more rows i r is)
+
+-- with the head the place is its area further on
+pub place-apart : (head : Option Head) (rows : List Row) (i : ℕ)
+    → place head rows i ≡ head_area head + place None rows i
+unfolding place
+place-apart head rows i = omega arith
+
+-- ---- with the head and without it
+
+-- What is so with the head, so many bytes before the first area, and
+-- without it. `ended` and `other` are where the main data end before
+-- the frame. They end after it no further on, without the head's area.
+module _ (area at ended other : ℕ) (r : Row) (less : other ≤ ended - area)
+    (well : lacks_data (area + at) ended r ≡ false → Stands (area + at) ended r) where
+  far_lacks_by : (lost : Bool) → lacks_data (area + at) ended r ≡ lost → at < r.side.main_data_begin
+      → lacks_data at other r ≡ true
+  far_lacks_by true is far = let had = lacks_parts (area + at) ended r is in
+      lacks_by at other r (omega (arith, less, had.none)) far
+  far_lacks_by false is far = let stands = well is in
+      lacks_by at other r (omega (arith, less, stands.begins, stands.apart, far)) far
+
+  -- a frame whose main data begin before the areas without the head's is lost without it
+  far_lacks : at < r.side.main_data_begin → lacks_data at other r ≡ true
+  far_lacks = far_lacks_by (lacks_data (area + at) ended r) refl
+
+  near_by : (far : Bool) → points_too_far at r ≡ far → lacks_data at other r ≡ false
+      → r.side.main_data_begin ≤ at
+  near_by true is lost = let sure = far_lacks (ltb-true at r.side.main_data_begin is) in absurd cc
+  near_by false is lost = ltb-false at r.side.main_data_begin is
+
+  near : lacks_data at other r ≡ false → r.side.main_data_begin ≤ at
+  near = near_by (points_too_far at r) refl
+
+  stands_apart_by : (lost : Bool) → lacks_data (area + at) ended r ≡ lost
+      → lacks_data at other r ≡ false → Stands at other r
+  stands_apart_by true is kept =
+      let had = lacks_parts (area + at) ended r is in
+      let begins = near kept in
+      absurd (omega (arith, had.far, begins))
+  stands_apart_by false is kept =
+      let stands = well is in
+      let begins = near kept in
+      record {
+        begins = begins;
+        apart = omega (arith, less, stands.apart, begins);
+        within =
+            omega (arith, stands.within, begins);
+      }
+
+  stands_apart : lacks_data at other r ≡ false → Stands at other r
+  stands_apart = stands_apart_by (lacks_data (area + at) ended r) refl
+
+  less_by : (silent lost lost_apart : Bool) → is_silent r ≡ silent
+      → lacks_data (area + at) ended r ≡ lost → lacks_data at other r ≡ lost_apart
+      → cond (silent || lost_apart) other (end_of_data at r)
+      ≤ cond (silent || lost) ended (end_of_data (area + at) r) - area
+  less_by false true false silent is apart =
+      let had = lacks_parts (area + at) ended r is in
+      let begins = near apart in
+      absurd (omega (arith, had.far, begins))
+  less_by false false true silent is apart = let stands = well is in
+      omega (arith, less, stands.apart)
+  less_by false false false silent is apart = let begins = near apart in omega (arith, begins)
+  less_by _ _ _ silent is apart = less
+
+  less_behind : data_end_after at other (Some r) ≤ data_end_after (area + at) ended (Some r) - area
+  less_behind =
+      less_by (is_silent r) (lacks_data (area + at) ended r) (lacks_data at other r) refl refl refl
+
+-- ---- all frames
+
+module _ (head : Option Head) (class : ClassFields) (rows : List Row)
+    (placed : AreWellPlaced head class rows) where
+  abbrev area : ℕ
+  area = head_area head
+
+  abbrev at : ℕ → ℕ
+  at i = place None rows i
+
+  stands_at : (i : ℕ) (r : Row) → slice_get rows i ≡ Some r
+      → lacks_data (area + at i) (data_end_before head rows i) r ≡ false
+      → Stands (area + at i) (data_end_before head rows i) r
+  stands_at i r found kept =
+      let sound =
+      subst (λ n. data_faults n (data_end_before head rows i) r ≡ []) (place-apart head rows i)
+      (placed i r found).sound in
+      stands_by (area + at i) (data_end_before head rows i) r
+      (data-none_well (area + at i) (data_end_before head rows i) r sound kept)
+
+  less_next : (i : ℕ) (o : Option Row) → slice_get rows i ≡ o → data_end_before None rows i
+      ≤ data_end_before head rows i - area → data_end_after (at i) (data_end_before None rows i) o
+      ≤ data_end_after (area + at i) (data_end_before head rows i) o - area
+  less_next i None found less = less
+  less_next i (Some r) found less = less_behind area (at i) (data_end_before head rows i)
+      (data_end_before None rows i) r less (stands_at i r found)
+
+  -- without the head the main data end no further on, without its area
+  less_at : (i : ℕ) → data_end_before None rows i ≤ data_end_before head rows i - area
+  unfolding data_end_before
+  less_at zero = omega arith
+  less_at (suc i) =
+      subst (λ n. data_end_after (at i) (data_end_before None rows i) (slice_get rows i)
+      ≤ data_end_after n (data_end_before head rows i) (slice_get rows i) - area)
+      (sym (place-apart head rows i))
+      (less_next i (slice_get rows i) refl (less_at i))
+
+  lost_far : (i : ℕ) (r : Row) → slice_get rows i ≡ Some r → at i < r.side.main_data_begin
+      → is_lost None rows i r ≡ true
+  lost_far i r found far =
+      far_lacks area (at i) (data_end_before head rows i) (data_end_before None rows i) r
+      (less_at i) (stands_at i r found) far
+
+  -- a frame whose main data begin too far back is lost where the head is set apart
+  pub apart-lost : (i : ℕ) (r : Row) → slice_get rows i ≡ Some r → points_too_far (at i) r ≡ true
+      → is_lost None rows i r ≡ true
+  apart-lost i r found far = lost_far i r found (ltb-true (at i) r.side.main_data_begin far)
+
+  -- a frame that is lost is so without the head too
+  or_same : (i : ℕ) (r : Row) → slice_get rows i ≡ Some r → (lost : Bool) → r.lost ≡ lost
+      → (lost || is_lost None rows i r) ≡ is_lost None rows i r
+  or_same i r found true is =
+      let had = lacks_parts (place head rows i) (data_end_before head rows i) r
+      (sym (placed i r found).mark ∙ is) in
+      sym (lost_far i r found (omega (arith, had.far, place-apart head rows i)))
+  or_same i r found false is = refl
+
+  placed_apart : (i : ℕ) (r : Row) → slice_get rows i ≡ Some r
+      → IsWellPlaced None class (marked_rows None rows) i (marked_row None rows i r)
+  placed_apart i r found =
+      let is = placed i r found in
+      let ended = data_end_before None rows i in
+      placed_by None class (marked_rows None rows) i (marked_row None rows i r) (at i) ended
+      (sym (place-marked None rows i))
+      (sym (end-marked None rows i)) is.known is.class_is is.fits refl
+      (sound-by (at i) ended r (lacks_data (at i) ended r) refl (λ kept. stands_apart area (at i)
+      (data_end_before head rows i) ended r (less_at i) (stands_at i r found) kept))
+
+  placed_marked : AreWellPlaced None class (marked_rows None rows)
+  placed_marked i q found =
+      let parts = from_some None rows (marked_row None rows i) (slice_get rows i) q
+      (sym (found-marked None rows i) ∙ found) in
+      subst (IsWellPlaced None class (marked_rows None rows) i)
+      parts.2 (placed_apart i parts.0 parts.1)
+
+  -- ---- as the frames are marked
+
+  apart_same : (n : ℕ) (xs : List Row)
+      → ((i : ℕ) (r : Row) → slice_get xs i ≡ Some r → slice_get rows (n + i) ≡ Some r)
+      → map (λ (p : ℕ × Row). apart_row rows p.0 p.1) (enumerate_from n xs)
+      ≡ map (λ (p : ℕ × Row). marked_row None rows p.0 p.1) (enumerate_from n xs)
+  apart_same n [] stand = refl
+  apart_same n (x ∷ xs) stand =
+      let here : slice_get rows n ≡ Some x =
+      ap (slice_get rows) (omega arith) ∙ stand zero x refl in
+      ap₂ (λ (b : Bool) (l : List Row). record x { lost = b } ∷ l) (or_same n x here x.lost refl)
+      (apart_same (n + 1) xs (λ i r is. ap (slice_get rows) (omega arith) ∙ stand (suc i) r is))
+
+  apart_marked : apart_rows rows ≡ marked_rows None rows
+  unfolding apart_rows marked_rows
+  apart_marked = apart_same 0 rows (λ i r is. ap (slice_get rows) (omega arith) ∙ is)
+
+-- frames that are set apart are well placed without a head
+pub placed-apart : (head : Option Head) (class : ClassFields) (rows : List Row)
+    → AreWellPlaced head class rows → AreWellPlaced None class (rows_set_apart head rows)
+placed-apart None class rows placed = placed
+placed-apart (Some head) class rows placed = subst (AreWellPlaced None class)
+    (sym (apart_marked (Some head) class rows placed)) (placed_marked (Some head) class rows placed)
+
+-- every frame before such a frame is silent or lost in this sense
+pub apart-leads : (head : Option Head) (class : ClassFields) (rows : List Row)
+    → AreWellPlaced head class rows → (i : ℕ) (r : Row) → slice_get rows i ≡ Some r
+    → points_too_far (place None rows i) r ≡ true
+    → (is_lost None rows i r ≡ true) × AreSilentOrLost None rows i
+apart-leads head class rows placed i r found far =
+    let lost = apart-lost head class rows placed i r found far in (
+      lost,
+      none-empty None rows i
+          (lacks_parts (place None rows i) (data_end_before None rows i) r lost).none,
+    )
+
+-- ---- where no frame is lost
+
+near_stays : (rows : List Row) (n : ℕ) (xs : List Row) → ((i : ℕ) (r : Row)
+    → slice_get xs i ≡ Some r → r.side.main_data_begin ≤ place None rows (n + i))
+    → map (λ (p : ℕ × Row). apart_row rows p.0 p.1) (enumerate_from n xs) ≡ xs
+near_stays rows n [] near = refl
+near_stays rows n (x ∷ xs) near =
+    let here : x.side.main_data_begin ≤ place None rows n =
+    omega (arith, near zero x refl, ap (place None rows) (the_same n)) in
+    ap₂ (λ (b : Bool) (l : List Row). record x { lost = b } ∷ l)
+    (ap (λ b. x.lost || b)
+    (and_right (data_end_before None rows n == 0) (points_too_far (place None rows
+    n) x) (le-ltb (place None rows n) x.side.main_data_begin here)) ∙ or_false x.lost)
+    (near_stays rows (n + 1) xs (λ i r is. subst (λ m. r.side.main_data_begin ≤ place None rows m)
+    (next_same n i) (near (suc i) r is)))
+  where
+    the_same : (n : ℕ) → n + 0 ≡ n
+    the_same n = omega arith
+
+    next_same : (n i : ℕ) → n + suc i ≡ (n + 1) + i
+    next_same n i = omega arith
+
+    or_false : (b : Bool) → (b || false) ≡ b
+    or_false true = refl
+    or_false false = refl
+
+near_set : (head : Option Head) (rows : List Row) → apart_rows rows ≡ rows
+    → rows_set_apart head rows ≡ rows
+near_set None rows is = refl
+near_set (Some head) rows is = is
+
+-- where all main data begin within the areas without the head's, all frames stay
+pub near-same : (head : Option Head) (rows : List Row)
+    → ((i : ℕ) (r : Row) → slice_get rows i ≡ Some r → r.side.main_data_begin ≤ place None rows i)
+    → rows_set_apart head rows ≡ rows
+unfolding apart_rows
+near-same head rows near = near_set head rows (near_stays rows 0 rows
+    (λ i r is. omega (arith, near i r is, ap (place None rows) (sym_zero i))))
+  where
+    sym_zero : (i : ℕ) → 0 + i ≡ i
+    sym_zero i = omega arith

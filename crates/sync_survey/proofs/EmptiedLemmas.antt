@@ -1,0 +1,321 @@
+-- With its lost frames as frames without main data, a survey is laid out as
+-- that of a file without fault; and so it is where the head was set apart.
+use Rattle.std.proofs.Common.{ap, ap₂, arith, Bool, cond, false, length, List, map, None, Option}
+use Rattle.std.proofs.Common.{option_map, refl, slice_get, Some, subst, suc, sum_by, sym, take}
+use Rattle.std.proofs.Common.{true, zero, ℕ, [], ◌+◌, ◌==◌, ◌||◌, ◌∙◌, ◌∷◌, ◌≡◌, ◌≤◌}
+use Rattle.std.proofs.lemmas.{Bool.{and_right, le-ltb}, List.{length-map, take-map}}
+use Rattle.std.proofs.lemmas.List.{FromFn.length-enumerate_from, Sums.sum_by-cons}
+use Rattle.std.{proofs.lemmas.Option.slice_get-map, specs.List.enumerate_from}
+use Rattle.frame_header.specs.{Fields.{ClassFields, IsHeader}, Tables.{class_of, length_of}}
+use Rattle.side_info.proofs.SideLemmas.{SideFits-no_side}
+use Rattle.side_info.specs.Side.{no_side, payload_bits, payload_bytes, SideFits}
+use Rattle.sync_survey.proofs.ApartLemmas.{area-more, place-apart, placed-apart, sound-by, Stands}
+use Rattle.sync_survey.proofs.{ApartLemmas.stands_by, SurveyPartsLemmas.data-none_well}
+use Rattle.sync_survey.specs.Faults.{data_faults, SurveyFields}
+use Rattle.sync_survey.specs.HeadApart.{apart_row, apart_rows, emptied_row, emptied_survey}
+use Rattle.sync_survey.specs.HeadApart.{head_apart, rows_set_apart}
+use Rattle.sync_survey.specs.MainData.{data_end_after, data_end_before, end_of_data, head_area}
+use Rattle.sync_survey.specs.MainData.{is_silent, lacks_data, own_area, place, points_too_far}
+use Rattle.sync_survey.specs.Row.{Row}
+use Rattle.sync_survey.specs.Survey.{AreWellPlaced, FramesAreLaid, IsSurveyLaidOut, IsWellPlaced}
+use Rattle.sync_survey.specs.declared.places.Head.{Head}
+
+-- ---- one frame
+
+abbrev pub empty_row : Row → Row
+empty_row r = record r { side = no_side; lost = false }
+
+-- an empty frame has the header of the frame
+pub header_by : (b : Bool) (r : Row) → (cond b (empty_row r) r).header ≡ r.header
+header_by true r = refl
+header_by false r = refl
+
+-- a lost frame becomes an empty one
+pub emptied_true : (r : Row) → r.lost ≡ true → emptied_row r ≡ empty_row r
+emptied_true r is = ap (λ b. cond b (empty_row r) r) is
+
+-- any other stays
+pub emptied_false : (r : Row) → r.lost ≡ false → emptied_row r ≡ r
+emptied_false r is = ap (λ b. cond b (empty_row r) r) is
+
+-- the empty side information has no bits of main data
+pub no_bits : payload_bits no_side ≡ 0
+unfolding payload_bits
+no_bits = refl
+
+-- and so it has no bytes
+pub no_bytes : payload_bytes no_side ≡ 0
+unfolding payload_bytes payload_bits
+no_bytes = refl
+
+-- A frame among frames that may be lost. Its header is of the standard and of the class, and its
+-- side fields are within their bits. The main data that are kept before it end before its own
+-- area; those of a frame that isn't lost begin after them and end within that area, and where
+-- those kept then end is no further on than `behind`.
+pub record IsKept (class : ClassFields) (place ended behind : ℕ) (r : Row) : Type 0 where
+  pub known : IsHeader r.header
+  pub class_is : class_of r.header ≡ class
+  pub fits : SideFits class r.side
+  pub before : ended ≤ place
+  pub stands : r.lost ≡ false → Stands place ended r
+  pub goes : cond (r.lost || is_silent r) ended (end_of_data place r) ≤ behind
+
+-- What is so of it as an empty frame if it is lost, where the
+-- main data before it end no further on than those that were kept.
+module _ (class : ClassFields) (at ended behind other : ℕ) (r : Row)
+    (kept : IsKept class at ended behind r) (less : other ≤ ended) where
+  stands_emptied_by : (lost : Bool) → r.lost ≡ lost → Stands at other (emptied_row r)
+  stands_emptied_by true is =
+      subst (Stands at other) (sym (emptied_true r is)) (record {
+        begins = omega arith;
+        apart = omega (arith, less, kept.before);
+        within = omega (arith, no_bytes);
+      })
+  stands_emptied_by false is =
+      let stands = kept.stands is in
+      subst (Stands at other) (sym (emptied_false r is)) (record {
+        begins = stands.begins;
+        apart = omega (arith, less, stands.apart);
+        within = stands.within;
+      })
+
+  stands_emptied : Stands at other (emptied_row r)
+  stands_emptied = stands_emptied_by r.lost refl
+
+  none_lost : lacks_data at other (emptied_row r) ≡ false
+  none_lost = and_right (other == 0) (points_too_far at (emptied_row r))
+      (le-ltb at (emptied_row r).side.main_data_begin stands_emptied.begins)
+
+  kept_by : (lost : Bool) → r.lost ≡ lost → (emptied_row r).lost ≡ false
+  kept_by true is = ap (λ (q : Row). q.lost) (emptied_true r is)
+  kept_by false is = ap (λ (q : Row). q.lost) (emptied_false r is) ∙ is
+
+  unmarked : (emptied_row r).lost ≡ lacks_data at other (emptied_row r)
+  unmarked = kept_by r.lost refl ∙ sym none_lost
+
+  goes_by : (silent lost : Bool) → is_silent r ≡ silent → r.lost ≡ lost
+      → cond (lost || silent) ended (end_of_data at r) ≤ behind
+      → cond (is_silent (emptied_row r) || false) other (end_of_data at (emptied_row r)) ≤ behind
+  goes_by silent true is lost le = rw (emptied_true r lost, no_bits) (omega (arith, less, le))
+  goes_by true false is lost le = rw (emptied_false r lost, is) (omega (arith, less, le))
+  goes_by false false is lost le = rw (emptied_false r lost, is) le
+
+  goes : data_end_after at other (Some (emptied_row r)) ≤ behind
+  goes = subst (λ b. cond (is_silent (emptied_row r) || b) other (end_of_data at (emptied_row r))
+      ≤ behind) (sym none_lost) (goes_by (is_silent r) r.lost refl refl kept.goes)
+
+-- the side information of a frame still fits, whether or not it was emptied
+pub fits_by : (class : ClassFields) (r : Row) (lost : Bool) → r.lost ≡ lost → SideFits class r.side
+    → SideFits class (emptied_row r).side
+fits_by class r true is fits =
+    subst (λ (q : Row). SideFits class q.side) (sym (emptied_true r is)) (SideFits-no_side class)
+fits_by class r false is fits =
+    subst (λ (q : Row). SideFits class q.side) (sym (emptied_false r is)) fits
+
+-- a frame after the change was one before it
+pub some_row : (o : Option Row) (q : Row) → option_map emptied_row o ≡ Some q
+    → (r : Row) × (o ≡ Some r) × (emptied_row r ≡ q)
+some_row None q e = absurd cc
+some_row (Some r) q e = (r, refl, cc)
+
+-- ---- all frames
+
+-- all areas together stay the same
+pub areas_same : (rows : List Row) → sum_by (λ (q : Row). own_area q.header) (map emptied_row rows)
+    ≡ sum_by (λ (q : Row). own_area q.header) rows
+areas_same [] = refl
+areas_same (r ∷ rows) =
+    let area = λ (q : Row). own_area q.header in
+    sum_by-cons area (emptied_row r) (map emptied_row rows) ∙ ap₂ (λ h n. own_area h + n)
+    (header_by r.lost r) (areas_same rows) ∙ sym (sum_by-cons area r rows)
+
+-- the place of each frame's main data is the same with empty frames
+pub place-same : (head : Option Head) (rows : List Row) (i : ℕ)
+    → place head (map emptied_row rows) i ≡ place head rows i
+unfolding place
+place-same head rows i =
+    ap (λ l. head_area head + sum_by (λ (q : Row). own_area q.header) l)
+    (take-map emptied_row i rows) ∙ ap (λ n. head_area head + n) (areas_same (take i rows))
+
+earlier : (rows : List Row) (i : ℕ) (r : Row) → slice_get rows (suc i) ≡ Some r
+    → (q : Row) × (slice_get rows i ≡ Some q)
+earlier [] i r found = absurd cc
+earlier (x ∷ rows) zero r found = (x, refl)
+earlier (x ∷ rows) (suc i) r found = earlier rows i r found
+
+-- Frames of which each is kept, by where the main data that are kept before it end.
+module _ (head : Option Head) (class : ClassFields) (rows : List Row) (ended : ℕ → ℕ)
+    (kept : (i : ℕ) (r : Row) → slice_get rows i ≡ Some r
+    → IsKept class (place head rows i) (ended i) (ended (suc i)) r) where
+  abbrev other : ℕ → ℕ
+  other i = data_end_before head (map emptied_row rows) i
+
+  less_at : (i : ℕ) (r : Row) → slice_get rows i ≡ Some r → other i ≤ ended i
+  unfolding data_end_before
+  less_at zero r found = omega arith
+  less_at (suc i) r found =
+      let own = earlier rows i r found in
+      subst (λ n. data_end_after n (other i) (slice_get (map emptied_row rows) i) ≤ ended (suc i))
+      (sym (place-same head rows i))
+      (subst (λ o. data_end_after (place head rows i) (other i) o ≤ ended (suc i))
+      (sym (slice_get-map emptied_row rows i ∙ ap (option_map emptied_row) own.1))
+      (goes class (place head rows i) (ended i) (ended (suc i)) (other i) own.0
+      (kept i own.0 own.1) (less_at i own.0 own.1)))
+
+  placed_at : (i : ℕ) (r : Row) → slice_get rows i ≡ Some r
+      → IsWellPlaced head class (map emptied_row rows) i (emptied_row r)
+  placed_at i r found =
+      let is = kept i r found in
+      let less = less_at i r found in
+      let at = place head rows i in
+      record {
+        known = subst IsHeader (sym (header_by r.lost r)) is.known;
+        class_is = ap class_of (header_by r.lost r) ∙ is.class_is;
+        fits = fits_by class r r.lost refl is.fits;
+        mark = unmarked class at (ended i) (ended (suc i)) (other i) r is less
+            ∙ ap (λ n. lacks_data n (other i) (emptied_row r)) (sym (place-same head rows i));
+        sound = ap (λ n. data_faults n (other i) (emptied_row r)) (place-same head rows i)
+            ∙ sound-by at (other i) (emptied_row r)
+            (lacks_data at (other i) (emptied_row r)) refl
+            (λ none. stands_emptied class at (ended i) (ended (suc i)) (other i) r is less);
+      }
+
+  -- with lost frames as empty ones they are well placed
+  pub placed-kept : AreWellPlaced head class (map emptied_row rows)
+  placed-kept i q found =
+      let own = some_row (slice_get rows i) q (sym (slice_get-map emptied_row rows i) ∙ found) in
+      subst (IsWellPlaced head class (map emptied_row rows) i) own.2 (placed_at i own.0 own.1)
+
+-- Frames that are well placed without a head.
+module _ (head : Option Head) (class : ClassFields) (rows : List Row)
+    (placed : AreWellPlaced None class rows) where
+  abbrev at : ℕ → ℕ
+  at i = place None rows i
+
+  abbrev ended : ℕ → ℕ
+  ended i = data_end_before None rows i
+
+  abbrev more : ℕ
+  more = head_area head
+
+  stands_at : (i : ℕ) (r : Row) → slice_get rows i ≡ Some r → r.lost ≡ false
+      → Stands (at i) (ended i) r
+  stands_at i r found kept = stands_by (at i) (ended i) r
+      (data-none_well (at i) (ended i) r (placed i r found).sound
+      (sym (placed i r found).mark ∙ kept))
+
+  -- where the main data end after it, with so many bytes before the first area and without them
+  ends_by : (at ended : ℕ) (r : Row) (silent lost : Bool) → ended ≤ at
+      → (lost ≡ false → Stands at ended r)
+      → (cond (lost || silent) (more + ended) (end_of_data (more + at) r)
+      ≤ more + cond (silent || lost) ended (end_of_data at r))
+      × (cond (silent || lost) ended (end_of_data at r) ≤ at + own_area r.header)
+  ends_by at ended r false false before well = let stands = well refl in
+      (omega (arith, stands.begins), stands.within)
+  ends_by at ended r true true before well = (omega arith, omega (arith, before))
+  ends_by at ended r true false before well = (omega arith, omega (arith, before))
+  ends_by at ended r false true before well = (omega arith, omega (arith, before))
+
+  ends_at : (i : ℕ) (r : Row) → slice_get rows i ≡ Some r → ended i ≤ at i
+      → (cond (r.lost || is_silent r) (more + ended i) (end_of_data (more + at i) r)
+      ≤ more + ended (suc i)) × (ended (suc i) ≤ at (suc i))
+  unfolding data_end_before
+  ends_at i r found before =
+      let ends = ends_by (at i) (ended i) r (is_silent r) r.lost before (stands_at i r found) in
+      let same : ended (suc i) ≡ cond (is_silent r || r.lost) (ended i) (end_of_data (at i) r) =
+      ap (data_end_after (at i) (ended i)) found
+      ∙ ap (λ b. cond (is_silent r || b) (ended i) (end_of_data (at i) r))
+      (sym (placed i r found).mark) in
+      (omega (arith, ends.0, same), omega (arith, ends.1, same, area-more rows i r found))
+
+  before_at : (i : ℕ) (r : Row) → slice_get rows i ≡ Some r → ended i ≤ at i
+  unfolding data_end_before
+  before_at zero r found = omega arith
+  before_at (suc i) r found = let own = earlier rows i r found in
+      (ends_at i own.0 own.1 (before_at i own.0 own.1)).1
+
+  kept_at : (i : ℕ) (r : Row) → slice_get rows i ≡ Some r
+      → IsKept class (more + at i) (more + ended i) (more + ended (suc i)) r
+  kept_at i r found =
+      let is = placed i r found in
+      let before = before_at i r found in
+      record {
+        known = is.known;
+        class_is = is.class_is;
+        fits = is.fits;
+        before = omega (arith, before);
+        stands = λ kept. let stands = stands_at i r found kept in record {
+          begins = omega (arith, stands.begins);
+          apart = omega (arith, stands.apart, stands.begins);
+          within = omega (arith, stands.within, stands.begins);
+        };
+        goes = (ends_at i r found before).0;
+      }
+
+  -- with lost frames as empty ones they are well placed with a head too
+  pub placed-emptied : AreWellPlaced head class (map emptied_row rows)
+  placed-emptied = placed-kept head class rows (λ i. more + ended i) (λ i r found.
+      subst (λ n. IsKept class n (more + ended i) (more + ended (suc i)) r)
+      (sym (place-apart head rows i)) (kept_at i r found))
+
+-- ---- the survey
+
+laid_one : (from to : ℕ) (r : Row) (rows : List Row) (b : Bool) → from ≤ r.offset
+    → SideFits (class_of r.header) r.side
+    → FramesAreLaid (r.offset + length_of (class_of r.header) r.header.slot) rows to
+    → FramesAreLaid from (cond b (empty_row r) r ∷ rows) to
+laid_one from to r rows true low fits rest = (low, SideFits-no_side (class_of r.header), rest)
+laid_one from to r rows false low fits rest = (low, fits, rest)
+
+-- so does where the frames are
+pub laid_emptied : (from to : ℕ) (rows : List Row) → FramesAreLaid from rows to
+    → FramesAreLaid from (map emptied_row rows) to
+laid_emptied from to [] laid = laid
+laid_emptied from to (r ∷ rows) laid =
+    laid_one from to r (map emptied_row rows) r.lost laid.0 laid.1
+    (laid_emptied (r.offset + length_of (class_of r.header) r.header.slot) to rows laid.2)
+
+laid_from : (all : List Row) (n from to : ℕ) (rows : List Row) → FramesAreLaid from rows to
+    → FramesAreLaid from (map (λ (p : ℕ × Row). apart_row all p.0 p.1) (enumerate_from n rows)) to
+laid_from all n from to [] laid = laid
+laid_from all n from to (r ∷ rows) laid = (
+  laid.0,
+  laid.1,
+  laid_from all (n + 1) (r.offset + length_of (class_of r.header) r.header.slot) to rows laid.2,
+)
+
+laid_apart : (head : Option Head) (from to : ℕ) (rows : List Row) → FramesAreLaid from rows to
+    → FramesAreLaid from (rows_set_apart head rows) to
+unfolding apart_rows
+laid_apart None from to rows laid = laid
+laid_apart (Some head) from to rows laid = laid_from rows 0 from to rows laid
+
+-- frames that are set apart are as many
+pub length_apart : (head : Option Head) (rows : List Row)
+    → length (rows_set_apart head rows) ≡ length rows
+unfolding apart_rows
+length_apart None rows = refl
+length_apart (Some head) rows =
+    length-map (enumerate_from 0 rows) (λ (p : ℕ × Row). apart_row rows p.0 p.1)
+    ∙ length-enumerate_from 0 rows
+
+-- with the head set apart and lost frames emptied a survey is still laid out
+pub apart-laid : (s : SurveyFields) → IsSurveyLaidOut s
+    → IsSurveyLaidOut (emptied_survey (head_apart s))
+apart-laid s laid = record {
+  junk = laid.junk;
+  first = laid.first;
+  head = laid.head;
+  some = omega (
+    arith,
+    laid.some,
+    length-map (rows_set_apart s.head s.frames) emptied_row,
+    length_apart s.head s.frames,
+  );
+  frames = laid_emptied s.first s.length (rows_set_apart s.head s.frames)
+      (laid_apart s.head s.first s.length s.frames laid.frames);
+  blocks = laid.blocks;
+  few = laid.few;
+  placed = placed-emptied s.head s.class (rows_set_apart s.head s.frames)
+      (placed-apart s.head s.class s.frames laid.placed);
+}

@@ -1,0 +1,338 @@
+-- The first of several faults, and the faults of a frame in their order.
+use Rattle.std.proofs.Common.{ap, ap₂, arith, drop, false, flat_map, get_or, inl, inr, length}
+use Rattle.std.proofs.Common.{length-append, List, map, None, Option, refl, slice_get, slice_set}
+use Rattle.std.proofs.Common.{Some, subst, suc, sum_by, sym, true, zero, ℕ, [], ◌++◌, ◌+◌, ◌<◌, ◌∙◌}
+use Rattle.std.proofs.{Common.{◌∷◌, ◌≡◌, ◌≤◌}, lemmas.Bool.cases_lt}
+use Rattle.std.proofs.lemmas.List.{length-map, map-append, take-append-le, take_all}
+use Rattle.std.proofs.lemmas.List.{Concat.flat_map-append, Sums.sum_by_push}
+use Rattle.std.{proofs.lemmas.Option.slice_get_within, specs.List.enumerate_from}
+use Rattle.std.specs.Option.{option_or}
+use Rattle.frame_header.specs.{Fields.ClassFields, Tables.class_of}
+use Rattle.side_info.specs.Frame.{stored_crc}
+use Rattle.sync_survey.specs.Faults.{all_faults, count_faults, crc_faults, data_faults, faults_at}
+use Rattle.sync_survey.specs.{Faults.{first_of, frame_faults, later_faults}, Items.same_class}
+use Rattle.sync_survey.specs.MainData.{data_end_after, data_end_before, head_area, is_lost}
+use Rattle.sync_survey.specs.MainData.{lacks_data, marked_row, marked_rows, own_area, place}
+use Rattle.sync_survey.specs.{Row.Row, declared.places.Head.Head}
+use Rattle.sync_survey.specs.declared.survey_fault.SurveyFault.{SurveyFault, TheVariants.Mixed}
+
+-- ---- lists of faults
+
+-- the first fault of two lists is that of the one or, if it has none, of the other
+pub first-append : (xs ys : List SurveyFault)
+    → first_of (xs ++ ys) ≡ option_or (first_of xs) (first_of ys)
+first-append [] ys = refl
+first-append (x ∷ xs) ys = refl
+
+-- a list without a first fault is empty
+pub none-of : (xs : List SurveyFault) → first_of xs ≡ None → xs ≡ []
+none-of [] e = refl
+none-of (x ∷ xs) e = absurd cc
+
+-- more faults after it don't change the first
+pub some-append : (xs ys : List SurveyFault) (fault : SurveyFault) → first_of xs ≡ Some fault
+    → first_of (xs ++ ys) ≡ Some fault
+some-append [] ys fault e = absurd cc
+some-append (x ∷ xs) ys fault e = e
+
+-- ---- one frame
+
+module _ (said : ℕ) (class : ClassFields) (allowed place ended count : ℕ) (r : Row) where
+  -- the first fault of a frame of another class is its class
+  pub first-mixed : same_class (class_of r.header) class ≡ false
+      → first_of (faults_at said class allowed place ended count r) ≡ Some (Mixed r.offset)
+  unfolding faults_at
+  first-mixed differ = rw differ refl
+
+  -- of a frame of the class it is the first of all later ones
+  pub first-same : same_class (class_of r.header) class ≡ true
+      → first_of (later_faults said allowed place ended count r)
+      ≡ first_of (faults_at said class allowed place ended count r)
+  unfolding faults_at
+  first-same same = rw same refl
+
+module _ (said allowed place ended count : ℕ) (r : Row) where
+  by_parts : option_or (option_or (first_of (crc_faults said r))
+      (first_of (data_faults place ended r))) (first_of (count_faults count allowed r))
+      ≡ first_of (later_faults said allowed place ended count r)
+  by_parts =
+      ap (λ o. option_or o (first_of (count_faults count allowed r)))
+      (sym (first-append (crc_faults said r) (data_faults place ended r)))
+      ∙ sym (first-append (crc_faults said r ++ data_faults place ended r)
+      (count_faults count allowed r))
+
+  -- the fault of the check word is the first
+  pub first-word : (fault : SurveyFault) → first_of (crc_faults said r) ≡ Some fault
+      → first_of (later_faults said allowed place ended count r) ≡ Some fault
+  first-word fault is = sym by_parts ∙ rw is refl
+
+  -- without one it is that of the main data
+  pub first-data : (fault : SurveyFault) → first_of (crc_faults said r) ≡ None
+      → first_of (data_faults place ended r) ≡ Some fault
+      → first_of (later_faults said allowed place ended count r) ≡ Some fault
+  first-data fault none is = sym by_parts ∙ rw (none, is) refl
+
+  -- without these it is that of the number of frames, if any
+  pub first-count : first_of (crc_faults said r) ≡ None → first_of (data_faults place ended r)
+      ≡ None → first_of (later_faults said allowed place ended count r)
+      ≡ first_of (count_faults count allowed r)
+  first-count none sound = sym by_parts ∙ rw (none, sound) refl
+
+-- ---- one frame more after these
+
+-- more frames after them don't change those that are there
+pub get_more : (rows more : List Row) (i : ℕ) → i < length rows
+    → slice_get (rows ++ more) i ≡ slice_get rows i
+get_more [] more i lt = absurd (omega (arith, lt))
+get_more (r ∷ rows) more zero lt = refl
+get_more (r ∷ rows) more (suc i) lt = get_more rows more i (omega (arith, lt))
+
+-- the frame that was added is behind all others
+pub get_next : (rows : List Row) (r : Row) → slice_get (rows ++ r ∷ []) (length rows) ≡ Some r
+get_next [] r = refl
+get_next (q ∷ rows) r = get_next rows r
+
+-- what holds of each of these, and of one more
+pub each_push : (P : ℕ → Row → Type 0) (rows : List Row) (r : Row)
+    → ((i : ℕ) (q : Row) → i < length rows → slice_get rows i ≡ Some q → P i q) → P (length rows) r
+    → (i : ℕ) (q : Row) → slice_get (rows ++ r ∷ []) i ≡ Some q → P i q
+each_push P rows r each last i q found =
+    elim (cases_lt i (length rows)) as (λ _. P i q) [
+      | inl before ↦ each i q before (sym (get_more rows (r ∷ []) i before) ∙ found)
+      | inr behind ↦
+          let at : i ≡ length rows = omega
+          (arith, behind, slice_get_within (rows ++ r ∷ []) i q found, length-append rows (r ∷ []))
+          in
+          let one : Some r ≡ Some q =
+          sym (get_next rows r) ∙ ap (slice_get (rows ++ r ∷ [])) (sym at) ∙ found in
+          let same : r ≡ q = cc in
+          subst (P i) same (subst (λ n. P n r) (sym at) last)
+    ]
+
+-- so it is what is read at their count
+pub get_last : (rows : List Row) (r other : Row) → get_or (rows ++ r ∷ []) (length rows) other ≡ r
+get_last [] r other = refl
+get_last (q ∷ rows) r other = get_last rows r other
+
+-- and what is set there takes its place
+pub set_last : (rows : List Row) (r q : Row)
+    → slice_set (rows ++ r ∷ []) (length rows) q ≡ rows ++ q ∷ []
+set_last [] r q = refl
+set_last (p ∷ rows) r q = ap (λ l. p ∷ l) (set_last rows r q)
+
+module _ (head : Option Head) (rows : List Row) where
+  -- more frames after it don't change the place of a frame
+  pub place-more : (more : List Row) (i : ℕ) → i ≤ length rows
+      → place head (rows ++ more) i ≡ place head rows i
+  unfolding place
+  place-more more i within = ap (λ l. head_area head + sum_by (λ (r : Row). own_area r.header) l)
+      (take-append-le i rows more within)
+
+  -- the place after one more frame is its own area further on
+  pub place-next : (r : Row) → place head (rows ++ r ∷ []) (length (rows ++ r ∷ []))
+      ≡ place head rows (length rows) + own_area r.header
+  unfolding place
+  place-next r =
+      let area = λ (q : Row). own_area q.header in
+      omega (
+        arith,
+        ap (sum_by area) (take_all (length (rows ++ r ∷ [])) (rows ++ r ∷ []) (omega arith)),
+        ap (sum_by area) (take_all (length rows) rows (omega arith)),
+        sum_by_push area rows r,
+      )
+
+-- where main data end before frame i, by a rule from where the area
+-- of each frame begins, where the data before it end, and the frame
+pub record IsRuled (head : Option Head) (rule : ℕ → ℕ → Option Row → ℕ)
+    (end : List Row → ℕ → ℕ) : Type 0 where
+  pub more : (rows more : List Row) (i : ℕ) → i ≤ length rows → end (rows ++ more) i ≡ end rows i
+  pub next : (rows : List Row) (r : Row) → end (rows ++ r ∷ []) (length (rows ++ r ∷ []))
+      ≡ rule (place head rows (length rows)) (end rows (length rows)) (Some r)
+
+module _ (head : Option Head) (rule : ℕ → ℕ → Option Row → ℕ) (end : List Row → ℕ → ℕ)
+    (none : (rows : List Row) → end rows zero ≡ 0)
+    (one : (rows : List Row) (i : ℕ)
+    → end rows (suc i) ≡ rule (place head rows i) (end rows i) (slice_get rows i)) where
+  ruled-more : (rows more : List Row) (i : ℕ) → i ≤ length rows → end (rows ++ more) i ≡ end rows i
+  ruled-more rows more zero within = none (rows ++ more) ∙ sym (none rows)
+  ruled-more rows more (suc i) within =
+      let before : i ≤ length rows = omega (arith, within) in
+      one (rows ++ more) i
+      ∙ ap (λ n. rule n (end (rows ++ more) i) (slice_get (rows ++ more) i))
+      (place-more head rows more i before)
+      ∙ ap (λ n. rule (place head rows i) n (slice_get (rows ++ more) i))
+      (ruled-more rows more i before)
+      ∙ ap (rule (place head rows i) (end rows i)) (get_more rows more i within)
+      ∙ sym (one rows i)
+
+  ruled-next : (rows : List Row) (r : Row) → end (rows ++ r ∷ []) (length (rows ++ r ∷ []))
+      ≡ rule (place head rows (length rows)) (end rows (length rows)) (Some r)
+  ruled-next rows r =
+      let n = length rows in
+      let long : length (rows ++ r ∷ []) ≡ suc n = omega (arith, length-append rows (r ∷ [])) in
+      ap (end (rows ++ r ∷ [])) long
+      ∙ one (rows ++ r ∷ []) n
+      ∙ ap (λ m. rule m (end (rows ++ r ∷ []) n) (slice_get (rows ++ r ∷ []) n))
+      (place-more head rows (r ∷ []) n (omega arith))
+      ∙ ap (λ m. rule (place head rows n) m (slice_get (rows ++ r ∷ []) n))
+      (ruled-more rows (r ∷ []) n (omega arith))
+      ∙ ap (rule (place head rows n) (end rows n)) (get_next rows r)
+
+  -- by such a rule the end before a frame is that of the frames before it
+  pub ruled : IsRuled head rule end
+  ruled = record { more = ruled-more; next = ruled-next }
+
+module _ (head : Option Head) (rows : List Row) where
+  -- more frames after it don't change where main data end before a frame
+  pub end-more : (more : List Row) (i : ℕ) → i ≤ length rows
+      → data_end_before head (rows ++ more) i ≡ data_end_before head rows i
+  unfolding data_end_before
+  end-more =
+      (ruled head data_end_after (data_end_before head) (λ rows. refl) (λ rows i. refl)).more rows
+
+  -- one frame more moves the end as its own main data do
+  pub end-next : (r : Row) → data_end_before head (rows ++ r ∷ []) (length (rows ++ r ∷ []))
+      ≡ data_end_after (place head rows (length rows)) (data_end_before head rows (length rows))
+      (Some r)
+  unfolding data_end_before
+  end-next =
+      (ruled head data_end_after (data_end_before head) (λ rows. refl) (λ rows i. refl)).next rows
+
+-- ---- all frames in turn
+
+-- two lists are numbered one after the other
+pub enumerate-append : {X : Type 0} (n : ℕ) (xs ys : List X)
+    → enumerate_from n (xs ++ ys) ≡ enumerate_from n xs ++ enumerate_from (n + length xs) ys
+enumerate-append n [] ys = ap (λ m. enumerate_from m ys) (omega arith)
+enumerate-append n (x ∷ xs) ys =
+    ap (λ l. (n, x) ∷ l) (enumerate-append (n + 1) xs ys
+    ∙ ap (λ m. enumerate_from (n + 1) xs ++ enumerate_from m ys) (omega arith))
+
+-- numbered, they are as many as before
+pub enumerate-length : {X : Type 0} (n : ℕ) (xs : List X) → length (enumerate_from n xs) ≡ length xs
+enumerate-length n [] = refl
+enumerate-length n (x ∷ xs) = ap suc (enumerate-length (n + 1) xs)
+
+-- what is made of each is the same, where it is for each number
+pub map-numbers : {X A : Type 0} (f g : ℕ → X → A) (n : ℕ) (xs : List X)
+    → ((i : ℕ) (x : X) → i < n + length xs → f i x ≡ g i x)
+    → map (λ (p : ℕ × X). f p.0 p.1) (enumerate_from n xs)
+    ≡ map (λ (p : ℕ × X). g p.0 p.1) (enumerate_from n xs)
+map-numbers f g n [] same = refl
+map-numbers f g n (x ∷ xs) same = ap₂ (λ a b. a ∷ b) (same n x (omega arith))
+    (map-numbers f g (n + 1) xs (λ i y lt. same i y (omega (arith, lt))))
+
+-- the same where each makes a list
+pub flat_map-numbers : {X A : Type 0} (f g : ℕ → X → List A) (n : ℕ) (xs : List X)
+    → ((i : ℕ) (x : X) → i < n + length xs → f i x ≡ g i x)
+    → flat_map (λ (p : ℕ × X). f p.0 p.1) (enumerate_from n xs)
+    ≡ flat_map (λ (p : ℕ × X). g p.0 p.1) (enumerate_from n xs)
+flat_map-numbers f g n [] same = refl
+flat_map-numbers f g n (x ∷ xs) same =
+    ap₂ (λ a b. a ++ b) (same n x (omega arith))
+    (flat_map-numbers f g (n + 1) xs (λ i y lt. same i y (omega (arith, lt))))
+
+module _ (file : List ℕ) (head : Option Head) (class : ClassFields) (allowed : ℕ) where
+  abbrev pub faults_of : List Row → ℕ → Row → List SurveyFault
+  faults_of rows i r = frame_faults file head class allowed rows i r
+
+  -- more frames after it don't change the faults of a frame
+  pub frame-more : (rows more : List Row) (i : ℕ) (r : Row) → i ≤ length rows
+      → faults_of (rows ++ more) i r ≡ faults_of rows i r
+  frame-more rows more i r within =
+      ap₂ (λ m n. faults_at (stored_crc (drop r.offset file)) class allowed m n i r)
+      (place-more head rows more i within) (end-more head rows more i within)
+
+  -- these frames have the same faults, and then come those after
+  pub faults-more : (rows more : List Row) → all_faults file head class allowed (rows ++ more)
+      ≡ all_faults file head class allowed rows ++ flat_map
+      (λ (p : ℕ × Row). faults_of (rows ++ more) p.0 p.1) (enumerate_from (length rows) more)
+  unfolding all_faults
+  faults-more rows more =
+      let each = λ (p : ℕ × Row). faults_of (rows ++ more) p.0 p.1 in
+      let later = flat_map each (enumerate_from (length rows) more) in
+      ap (flat_map each) (enumerate-append 0 rows more)
+      ∙ flat_map-append each (enumerate_from 0 rows) (enumerate_from (0 + length rows) more)
+      ∙ ap (λ n. flat_map each (enumerate_from 0 rows) ++ flat_map each (enumerate_from n more))
+      (omega arith)
+      ∙ ap (λ l. l ++ later) (flat_map-numbers (faults_of (rows ++ more)) (faults_of rows) 0 rows
+      (λ i r lt. frame-more rows more i r (omega (arith, lt))))
+
+  module _ (rows : List Row) (r : Row) (none : all_faults file head class allowed rows ≡ []) where
+    -- the next frame has no fault
+    pub none_more : first_of (faults_of rows (length rows) r) ≡ None
+        → all_faults file head class allowed (rows ++ r ∷ []) ≡ []
+    none_more sound =
+        faults-more rows (r ∷ [])
+        ∙ ap₂ (λ (xs ys : List SurveyFault). xs ++ (ys ++ [])) none (frame-more rows (r ∷ [])
+        (length rows) r (omega arith) ∙ none-of (faults_of rows (length rows) r) sound)
+
+    -- or the first of its faults is the first of all
+    pub first_more : (later : List Row) (fault : SurveyFault)
+        → first_of (faults_of rows (length rows) r) ≡ Some fault
+        → first_of (all_faults file head class allowed (rows ++ r ∷ later)) ≡ Some fault
+    first_more later fault is =
+        let whole = rows ++ r ∷ later in
+        let behind = flat_map (λ (p : ℕ × Row). faults_of whole p.0 p.1)
+        (enumerate_from (length rows + 1) later) in
+        ap first_of (faults-more rows (r ∷ later)
+        ∙ ap (λ (xs : List SurveyFault). xs ++ (faults_of whole (length rows) r ++ behind)) none)
+        ∙ some-append (faults_of whole (length rows) r) behind fault
+        (ap first_of (frame-more rows (r ∷ later) (length rows) r (omega arith)) ∙ is)
+
+  -- no frames have no faults
+  pub faults-none : all_faults file head class allowed [] ≡ []
+  unfolding all_faults
+  faults-none = refl
+
+-- ---- lost frames are marked
+
+module _ (head : Option Head) where
+  -- marked frames are as many as before
+  pub marked-length : (rows : List Row) → length (marked_rows head rows) ≡ length rows
+  unfolding marked_rows
+  marked-length rows =
+      length-map (enumerate_from 0 rows) (λ (p : ℕ × Row). marked_row head rows p.0 p.1)
+      ∙ enumerate-length 0 rows
+
+  -- of no frames none is marked
+  pub marked-none : marked_rows head [] ≡ []
+  unfolding marked_rows
+  marked-none = refl
+
+  lost-more : (rows more : List Row) (i : ℕ) (r : Row) → i ≤ length rows
+      → is_lost head (rows ++ more) i r ≡ is_lost head rows i r
+  lost-more rows more i r within = ap₂ (λ m n. lacks_data m n r)
+      (place-more head rows more i within) (end-more head rows more i within)
+
+  marked_row-more : (rows more : List Row) (i : ℕ) (r : Row) → i ≤ length rows
+      → marked_row head (rows ++ more) i r ≡ marked_row head rows i r
+  marked_row-more rows more i r within =
+      ap (λ b. record r { lost = b }) (lost-more rows more i r within)
+
+  -- one frame more doesn't change the marks of those before it
+  pub marked-push : (rows : List Row) (r : Row) → marked_rows head (rows ++ r ∷ [])
+      ≡ marked_rows head rows ++ marked_row head rows (length rows) r ∷ []
+  unfolding marked_rows
+  marked-push rows r =
+      let whole = rows ++ r ∷ [] in
+      let each = λ (p : ℕ × Row). marked_row head whole p.0 p.1 in
+      ap (map each) (enumerate-append 0 rows (r ∷ []))
+      ∙ map-append each (enumerate_from 0 rows) (enumerate_from (0 + length rows) (r ∷ []))
+      ∙ ap₂ (λ (a b : List Row). a ++ b)
+      (map-numbers (marked_row head whole) (marked_row head rows) 0 rows
+      (λ i q lt. marked_row-more rows (r ∷ []) i q (omega (arith, lt))))
+      (ap (λ q. q ∷ []) (ap (λ n. marked_row head whole n r) (omega arith)
+      ∙ marked_row-more rows (r ∷ []) (length rows) r (omega arith)))
+
+-- ---- where the first frame begins
+
+-- before the first frame the place is after the head's area
+pub place-none : (head : Option Head) → head_area head ≡ place head [] (length {A = Row} [])
+unfolding place
+place-none head = omega arith
+
+-- before the first frame no main data end after 0
+pub end-none : (head : Option Head) → 0 ≡ data_end_before head [] (length {A = Row} [])
+unfolding data_end_before
+end-none head = refl

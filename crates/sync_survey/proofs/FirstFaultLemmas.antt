@@ -1,0 +1,328 @@
+-- The faults of a file are listed by their offsets, so that the first of them has the smallest.
+use Rattle.std.proofs.Common.{ap, append_assoc, arith, Bool, cond, drop, Err, false, flat_map}
+use Rattle.std.proofs.Common.{IfErr, inl, inr, length, List, ltb, None, not, Ok, Option}
+use Rattle.std.proofs.Common.{option_to_list, refl, Result, Some, subst, sym, true, ℕ, ⊎_elim, []}
+use Rattle.std.{proofs.Common.{◌++◌, ◌+◌, ◌==◌, ◌∙◌, ◌∷◌, ◌≡◌, ◌≤◌, ◌⊎◌}, specs.List.enumerate_from}
+use Rattle.frame_header.specs.{Fields.ClassFields, Tables.class_of}
+use Rattle.outside.specs.{Counts.Counts, Files.{Files, Holds}}
+use Rattle.side_info.specs.{CheckWord.check_word_of, Frame.stored_crc, Side.payload_bits}
+use Rattle.sync_survey.proofs.{BytesFaultLemmas.fault_is, ItemListLemmas.ends-within}
+use Rattle.sync_survey.proofs.{RunsLemmas.{cons_list, run-ends}, StartLemmas.start-first}
+use Rattle.sync_survey.specs.Faults.{all_faults, class_from, data_faults, fault_if_true}
+use Rattle.sync_survey.specs.Faults.{fault_offset, faults_at, faults_from, fields_from, first_of}
+use Rattle.sync_survey.specs.Faults.{frame_faults, has_wrong_crc, longest_file, NoneBefore}
+use Rattle.sync_survey.specs.Faults.{overlaps, overruns, own_faults, points_too_far, room_for_data}
+use Rattle.sync_survey.specs.Faults.{survey_fields, survey_from_start}
+use Rattle.sync_survey.specs.Items.{item_at, same_class, size_of}
+use Rattle.sync_survey.specs.{MainData.{data_end_before, lacks_data, place, rows_of}, Row.Row}
+use Rattle.sync_survey.specs.Runs.{AreEndToEnd, frame_of_item, frames_of, PlacedItem}
+use Rattle.sync_survey.specs.Start.{start_of}
+use Rattle.sync_survey.specs.Survey.{IsSurveyFault, IsSurveyFaultBy, IsSurveyRefusal, RefusesBytes}
+use Rattle.sync_survey.specs.{Survey.survey_of, SurveyFaultKinds.{IsRefused, kind_of}}
+use Rattle.sync_survey.specs.Walk.{end_fault, fault_at, head_of, numbered_frames, stream_run}
+use Rattle.sync_survey.specs.{Walk.walk_from, declared.items.Item.Item}
+use Rattle.sync_survey.specs.declared.items.Item.TheVariants.{Block, End, Frame, Free}
+use Rattle.sync_survey.specs.declared.places.{Head.Head, PlacedFrame.PlacedFrame, Start.Start}
+use Rattle.sync_survey.specs.declared.runs.Region.{Region, TheVariants.Stream}
+use Rattle.sync_survey.specs.declared.survey_fault.SurveyFault.{SurveyFault}
+use Rattle.sync_survey.specs.declared.survey_fault.SurveyFault.TheVariants.{Absent, BackPointer}
+use Rattle.sync_survey.specs.declared.survey_fault.SurveyFault.TheVariants.{CheckWord, FreeFormat}
+use Rattle.sync_survey.specs.declared.survey_fault.SurveyFault.TheVariants.{LostSync, Memory, Mixed}
+use Rattle.sync_survey.specs.declared.survey_fault.SurveyFault.TheVariants.{Overlap, Overrun, Read}
+use Rattle.sync_survey.specs.declared.survey_fault.SurveyFault.TheVariants.{Shrunk, TooLong}
+use Rattle.sync_survey.specs.declared.survey_fault.SurveyFault.TheVariants.{TooManyFrames}
+use Rattle.sync_survey.specs.declared.survey_fault.SurveyFault.TheVariants.{Truncated}
+use Rattle.sync_survey.specs.declared.surveys.Survey.{Survey}
+
+-- ---- lists of faults
+
+none-append : (at : ℕ) (xs ys : List SurveyFault) → NoneBefore at xs → NoneBefore at ys
+    → NoneBefore at (xs ++ ys)
+none-append at [] ys p q = q
+none-append at (x ∷ xs) ys p q = (p.0, none-append at xs ys p.1 q)
+
+none-less : (low high : ℕ) (xs : List SurveyFault) → low ≤ high → NoneBefore high xs
+    → NoneBefore low xs
+none-less low high [] le p = tt
+none-less low high (x ∷ xs) le p = (omega (arith, le, p.0), none-less low high xs le p.1)
+
+-- all of these faults are at one offset
+abbrev AreAt : ℕ → List SurveyFault → Type 0
+AreAt at [] = Unit {0}
+AreAt at (fault ∷ later) = (fault_offset fault ≡ at) × AreAt at later
+
+one_at : (at : ℕ) (b : Bool) (fault : SurveyFault) → fault_offset fault ≡ at
+    → AreAt at (fault_if_true b fault)
+one_at at true fault is = (is, tt)
+one_at at false fault is = tt
+
+all_at : (at : ℕ) (xs ys : List SurveyFault) → AreAt at xs → AreAt at ys → AreAt at (xs ++ ys)
+all_at at [] ys p q = q
+all_at at (x ∷ xs) ys p q = (p.0, all_at at xs ys p.1 q)
+
+at_none : (at : ℕ) (xs : List SurveyFault) → AreAt at xs → NoneBefore at xs
+at_none at [] p = tt
+at_none at (x ∷ xs) p = (omega (arith, p.0), at_none at xs p.1)
+
+-- ---- the faults of a frame are at its offset
+
+own_at : (place ended : ℕ) (r : Row) → AreAt r.offset (own_faults place ended r)
+own_at place ended r =
+    let begins = BackPointer r.offset r.side.main_data_begin place in
+    let ends = Overrun r.offset (payload_bits r.side) (room_for_data r) in
+    let far = fault_if_true (points_too_far place r) begins in
+    let over = fault_if_true (overlaps place ended r) (Overlap r.offset) in
+    all_at r.offset (far ++ over) (fault_if_true (overruns place r) ends)
+    (all_at r.offset far over (one_at r.offset (points_too_far place r) begins refl)
+    (one_at r.offset (overlaps place ended r) (Overlap r.offset) refl))
+    (one_at r.offset (overruns place r) ends refl)
+
+unless_at : (at : ℕ) (b : Bool) (xs : List SurveyFault) → AreAt at xs → AreAt at (cond b [] xs)
+unless_at at true xs p = tt
+unless_at at false xs p = p
+
+data_at : (place ended : ℕ) (r : Row) → AreAt r.offset (data_faults place ended r)
+data_at place ended r =
+    unless_at r.offset (lacks_data place ended r) (own_faults place ended r) (own_at place ended r)
+
+frame_at : (said : ℕ) (class : ClassFields) (allowed place ended count : ℕ) (r : Row)
+    → AreAt r.offset (faults_at said class allowed place ended count r)
+unfolding faults_at
+frame_at said class allowed place ended count r =
+    let other = not (same_class (class_of r.header) class) in
+    let word = CheckWord r.offset said (check_word_of r.header r.side) in
+    let mixed = fault_if_true other (Mixed r.offset) in
+    let wrong = fault_if_true (has_wrong_crc said r) word in
+    all_at r.offset ((mixed ++ wrong) ++ data_faults place ended r)
+    (fault_if_true (count == allowed) (TooManyFrames r.offset))
+    (all_at r.offset (mixed ++ wrong) (data_faults place ended r)
+    (all_at r.offset mixed wrong (one_at r.offset other (Mixed r.offset) refl)
+    (one_at r.offset (has_wrong_crc said r) word refl)) (data_at place ended r))
+    (one_at r.offset (count == allowed) (TooManyFrames r.offset) refl)
+
+-- ---- the faults of frames that follow one after the other
+
+-- the offsets of these frames rise, from one on to another
+abbrev AreRising : ℕ → List Row → ℕ → Type 0
+AreRising at [] to = at ≤ to
+AreRising at (r ∷ rows) to = (at ≤ r.offset) × AreRising r.offset rows to
+
+rising_ends : (at : ℕ) (rows : List Row) (to : ℕ) → AreRising at rows to → at ≤ to
+rising_ends at [] to rise = rise
+rising_ends at (r ∷ rows) to rise = omega (arith, rise.0, rising_ends r.offset rows to rise.1)
+
+-- each frame of these has faults at its offset alone
+abbrev AreOfEach : (ℕ → Row → List SurveyFault) → Type 0
+AreOfEach each = (i : ℕ) (r : Row) → AreAt r.offset (each i r)
+
+abbrev in_turn : (ℕ → Row → List SurveyFault) → ℕ → List Row → List SurveyFault
+in_turn each n rows = flat_map (λ (p : ℕ × Row). each p.0 p.1) (enumerate_from n rows)
+
+rising_none : (each : ℕ → Row → List SurveyFault) (own : AreOfEach each) (at to n : ℕ)
+    (rows : List Row) → AreRising at rows to → NoneBefore at (in_turn each n rows)
+rising_none each own at to n [] rise = tt
+rising_none each own at to n (r ∷ rows) rise =
+    none-append at (each n r) (in_turn each (n + 1) rows)
+    (none-less at r.offset (each n r) rise.0 (at_none r.offset (each n r) (own n r)))
+    (none-less at r.offset (in_turn each (n + 1) rows)
+    rise.0 (rising_none each own r.offset to (n + 1) rows rise.1))
+
+first_at : (at : ℕ) (xs ys : List SurveyFault) (fault : SurveyFault) → AreAt at xs
+    → first_of (xs ++ ys) ≡ Some fault → NoneBefore at ys
+    → (xs ≡ []) ⊎ ((fault_offset fault ≡ at) × NoneBefore (fault_offset fault) (xs ++ ys))
+first_at at [] ys fault all is later = inl refl
+first_at at (x ∷ xs) ys fault all is later =
+    let same : x ≡ fault = cc in
+    let place : fault_offset fault ≡ at = sym (ap fault_offset same) ∙ all.0 in
+    inr (
+      place,
+      subst (λ n. NoneBefore n ((x ∷ xs) ++ ys)) (sym place)
+          (none-append at (x ∷ xs) ys (at_none at (x ∷ xs) all) later),
+    )
+
+-- the first of the faults of frames and of what comes after them
+least_first : (each : ℕ → Row → List SurveyFault) (own : AreOfEach each) (at to n : ℕ)
+    (rows : List Row) (later : List SurveyFault) (fault : SurveyFault) → AreRising at rows to
+    → NoneBefore to later
+    → ((f : SurveyFault) → first_of later ≡ Some f → NoneBefore (fault_offset f) later)
+    → first_of (in_turn each n rows ++ later) ≡ Some fault
+    → NoneBefore (fault_offset fault) (in_turn each n rows ++ later)
+least_first each own at to n [] later fault rise behind last is = last fault is
+least_first each own at to n (r ∷ rows) later fault rise behind last is =
+    let here = each n r in
+    let rest = in_turn each (n + 1) rows in
+    let regrouped : (here ++ rest) ++ later ≡ here ++ (rest ++ later) =
+    append_assoc here rest later in
+    let low : NoneBefore r.offset (rest ++ later) =
+    none-append r.offset rest later (rising_none each own r.offset to (n + 1) rows rise.1)
+    (none-less r.offset to later (rising_ends r.offset rows to rise.1) behind) in
+    ⊎_elim
+    (λ none.
+    let same : (here ++ rest) ++ later ≡ rest ++ later = ap (λ l. (l ++ rest) ++ later) none in
+    subst (NoneBefore (fault_offset fault)) (sym same) (least_first each own r.offset to
+    (n + 1) rows later fault rise.1 behind last (ap first_of (sym same) ∙ is)))
+    (λ found. subst (NoneBefore (fault_offset fault)) (sym regrouped) found.1)
+    (first_at r.offset here (rest ++ later) fault (own n r) (ap first_of (sym regrouped) ∙ is) low)
+
+all_least : (file : List ℕ) (head : Option Head) (class : ClassFields) (allowed at to : ℕ)
+    (rows : List Row) (later : List SurveyFault) (fault : SurveyFault) → AreRising at rows to
+    → NoneBefore to later
+    → ((f : SurveyFault) → first_of later ≡ Some f → NoneBefore (fault_offset f) later)
+    → first_of (all_faults file head class allowed rows ++ later) ≡ Some fault
+    → NoneBefore (fault_offset fault) (all_faults file head class allowed rows ++ later)
+unfolding all_faults
+all_least file head class allowed at to rows later fault rise behind last is =
+    least_first (frame_faults file head class allowed rows)
+    (λ i r. frame_at (stored_crc (drop r.offset file)) class allowed (place head rows i)
+    (data_end_before head rows i) i r) at to 0 rows later fault rise behind last is
+
+-- ---- the frames of a walk follow one after the other
+
+rising_more : (file : List ℕ) (at : ℕ) (item : Item) (rows : List PlacedFrame) (to : ℕ)
+    → AreRising at (rows_of file rows) to
+    → AreRising at (rows_of file (option_to_list (frame_of_item at item) ++ rows)) to
+rising_more file at (Frame h) rows to rise = (omega arith, rise)
+rising_more file at _ rows to rise = rise
+
+rising_less : (low high : ℕ) (rows : List Row) (to : ℕ) → low ≤ high → AreRising high rows to
+    → AreRising low rows to
+rising_less low high [] to le rise = omega (arith, le, rise)
+rising_less low high (r ∷ rows) to le rise = (omega (arith, le, rise.0), rise.1)
+
+items_rise : (file : List ℕ) (part : Region) (from : ℕ) (ps : List PlacedItem) (to : ℕ)
+    → AreEndToEnd part file from ps to → AreRising from (rows_of file (frames_of ps)) to
+items_rise file part from [] to ends = omega (arith, ends)
+items_rise file part from (p ∷ ps) to ends =
+    let later = rising_less p.offset (p.offset + size_of p.item) (rows_of file (frames_of ps)) to
+    (omega arith) (items_rise file part (p.offset + size_of p.item) ps to ends.2) in
+    subst (λ n. AreRising n (rows_of file (frames_of (p ∷ ps))) to) ends.0
+    (subst (λ l. AreRising p.offset (rows_of file l) to)
+    (sym (cons_list (frame_of_item p.offset p.item)
+    (frames_of ps))) (rising_more file p.offset p.item (frames_of ps) to later))
+
+rise_behind : (file : List ℕ) (at : ℕ) (ps : List PlacedFrame) (to : ℕ)
+    → AreRising at (rows_of file ps) to → AreRising at (rows_of file (drop 1 ps)) to
+rise_behind file at [] to rise = rise
+rise_behind file at (p ∷ ps) to rise = rising_less at p.offset (rows_of file ps) to rise.0 rise.1
+
+rise_numbered : (file : List ℕ) (at : ℕ) (head : Option Head) (ps : List PlacedFrame) (to : ℕ)
+    → AreRising at (rows_of file ps) to → AreRising at (rows_of file (numbered_frames head ps)) to
+rise_numbered file at None ps to rise = rise
+rise_numbered file at (Some head) ps to rise = rise_behind file at ps to rise
+
+-- ---- the fault where the walk ends
+
+stop_place : (stop : ℕ) (item : Item) (fault : SurveyFault) → fault_at stop item ≡ Some fault
+    → fault_offset fault ≡ stop
+stop_place stop (Frame h) fault e = let same : Truncated stop ≡ fault = cc in
+    sym (ap fault_offset same)
+stop_place stop Free fault e = let same : FreeFormat stop ≡ fault = cc in sym (ap fault_offset same)
+stop_place stop (Block b) fault e = let same : Truncated stop ≡ fault = cc in
+    sym (ap fault_offset same)
+stop_place stop End fault e = absurd cc
+stop_place stop _ fault e = let same : LostSync stop ≡ fault = cc in sym (ap fault_offset same)
+
+end_place : (file : List ℕ) (frames : List PlacedFrame) (stop : ℕ) (o : Option SurveyFault)
+    → stop ≤ length file → fault_at stop (item_at file stop) ≡ o
+    → NoneBefore stop (option_to_list (end_fault file frames o))
+end_place file frames stop (Some fault) within is =
+    (omega (arith, stop_place stop (item_at file stop) fault is), tt)
+end_place file (p ∷ ps) stop None within is = tt
+end_place file [] stop None within is = (within, tt)
+
+one_only : (o : Option SurveyFault) (fault : SurveyFault) → first_of (option_to_list o) ≡ Some fault
+    → NoneBefore (fault_offset fault) (option_to_list o)
+one_only None fault e = absurd cc
+one_only (Some f) fault e =
+    let same : f ≡ fault = cc in
+    (omega (arith, ap fault_offset same), tt)
+
+-- the first fault of a file with this start has the smallest offset
+pub first_is_least : (file : List ℕ) (allowed : ℕ) (start : Start) (fault : SurveyFault)
+    → start.first.offset ≤ length file → first_of (faults_from file allowed start) ≡ Some fault
+    → NoneBefore (fault_offset fault) (faults_from file allowed start)
+unfolding faults_from walk_from
+first_is_least file allowed start fault within is =
+    let stream = stream_run file start in
+    let ends = run-ends Stream file start.first.offset in
+    let head = head_of file start.first in
+    let frames = numbered_frames head (frames_of stream.items) in
+    let o = end_fault file frames (fault_at stream.stop (item_at file stream.stop)) in
+    all_least file head (class_from start) allowed
+    start.first.offset stream.stop (rows_of file frames) (option_to_list o) fault
+    (rise_numbered file start.first.offset head (frames_of stream.items)
+    stream.stop (items_rise file Stream start.first.offset stream.items stream.stop ends))
+    (end_place file frames stream.stop (fault_at stream.stop (item_at file stream.stop))
+    (ends-within Stream file start.first.offset stream.items stream.stop ends within) refl)
+    (λ f found. one_only o f found) is
+
+-- ---- the refusal of a survey
+
+start_is : (file : List ℕ) (allowed : ℕ) (start : Start) (fault : SurveyFault)
+    (r : Result Start SurveyFault) → start_of file ≡ r → r ≡ Ok start
+    → survey_from_start file allowed r
+    ≡ Err fault → NoneBefore (fault_offset fault) (faults_from file allowed start)
+start_is file allowed start fault (Err f) begun same e = absurd cc
+start_is file allowed start fault (Ok s) begun same e =
+    let one : s ≡ start = cc in
+    subst (λ t. NoneBefore (fault_offset fault) (faults_from file allowed t)) one
+    (first_is_least file allowed s fault (omega (arith, (start-first file s begun).frame.within))
+    (fault_is (first_of (faults_from file allowed s)) (fields_from file s) fault e))
+
+surveyed_first : (file : List ℕ) (allowed : ℕ) (fault : SurveyFault)
+    → survey_fields file allowed ≡ Err fault → (start : Start) → start_of file ≡ Ok start
+    → NoneBefore (fault_offset fault) (faults_from file allowed start)
+unfolding survey_fields
+surveyed_first file allowed fault e start begun =
+    start_is file allowed start fault (start_of file) refl begun e
+
+none_at_all : (xs : List SurveyFault) → NoneBefore 0 xs
+none_at_all [] = tt
+none_at_all (x ∷ xs) = (omega arith, none_at_all xs)
+
+-- a fault that has no offset, or one of the file
+nowhere : (fault : SurveyFault) → (fault_offset fault ≡ 0) ⊎ (kind_of fault ≡ IsRefused)
+nowhere Absent = inl refl
+nowhere (TooLong size) = inl refl
+nowhere (Shrunk first second) = inl refl
+nowhere Read = inl refl
+nowhere Memory = inl refl
+nowhere _ = inr refl
+
+long_by : (file : List ℕ) (allowed : ℕ) (fault : SurveyFault) (start : Start) (b : Bool)
+    → start_of file ≡ Ok start → cond b (Err (TooLong (length file))) (survey_fields file allowed)
+    ≡ Err fault → NoneBefore (fault_offset fault) (faults_from file allowed start)
+long_by file allowed fault start true begun e =
+    let same : TooLong (length file) ≡ fault = cc in
+    subst (λ f. NoneBefore (fault_offset f) (faults_from file allowed start)) same
+    (none_at_all (faults_from file allowed start))
+long_by file allowed fault start false begun e = surveyed_first file allowed fault e start begun
+
+of_file : (file : List ℕ) (allowed : ℕ) (fault : SurveyFault) (start : Start)
+    → start_of file ≡ Ok start → survey_of file allowed ≡ Err fault
+    → NoneBefore (fault_offset fault) (faults_from file allowed start)
+unfolding survey_of
+of_file file allowed fault start begun is =
+    long_by file allowed fault start (ltb longest_file (length file)) begun is
+
+abbrev IsFirstOf : Files → List ℕ → ℕ → SurveyFault → Type 0
+IsFirstOf files name allowed fault = (bytes : List ℕ) → Holds files name bytes → (start : Start)
+    → start_of bytes ≡ Ok start → NoneBefore (fault_offset fault) (faults_from bytes allowed start)
+
+module _ (name : List ℕ) (files : Files) (allowed : ℕ) (before after : Counts) where
+  refusal_first : (fault : SurveyFault) → IsSurveyFault name files allowed before after fault
+      → (fault_offset fault ≡ 0) ⊎ (kind_of fault ≡ IsRefused) → IsFirstOf files name allowed fault
+  refusal_first fault is (inl zero) =
+      λ bytes holds start begun. subst (λ n. NoneBefore n (faults_from bytes allowed start))
+      (sym zero) (none_at_all (faults_from bytes allowed start))
+  refusal_first fault is (inr kind) =
+      let refuses : RefusesBytes name files allowed before after fault =
+      subst (IsSurveyFaultBy name files allowed before after fault) kind is in
+      λ bytes holds start begun. of_file bytes allowed fault start begun (refuses.bytes bytes holds)
+
+  -- a refusal of a file is the one with the smallest offset
+  pub refused_first : (r : Result Survey SurveyFault)
+      → IfErr r (IsSurveyRefusal name files allowed before after)
+      → IfErr r (IsFirstOf files name allowed)
+  refused_first (Ok s) is = tt
+  refused_first (Err fault) is = refusal_first fault is.cause (nowhere fault)

@@ -1,0 +1,206 @@
+-- The refusals of a survey of a file of a folder.
+use Rattle.std.proofs.Common.{ap, arith, Bool, cond, drop, Err, false, IfErr, IfOk, leb, length}
+use Rattle.std.proofs.Common.{length-drop, List, ltb, min, Ok, refl, Result, subst, sym, take, true}
+use Rattle.std.proofs.Common.{ℕ, ◌-◌, ◌<◌, ◌∙◌, ◌≡◌, ◌≤◌}
+use Rattle.std.proofs.lemmas.{Bool.{le-ltb, leb-false, leb-true, lt-ltb}, List.take_all}
+use Rattle.bit_fields.{proofs.BitsLemmas.AreBytes-from_slice, specs.Bits.AreBytes}
+use Rattle.outside.{proofs.CountsLemmas.only_reads_same, specs.Counts.{Counts, OnlyReads}}
+use Rattle.outside.specs.{Feed.{Fed, IsFedFrom}, Files.{AreOctets, Files, Holds, IsFileThere}}
+use Rattle.outside.specs.{ReadCauses.HasReadCause, Seen.seen_folder}
+use Rattle.outside.specs.declared.exact.ReadFault.{ReadFault}
+use Rattle.outside.specs.declared.exact.ReadFault.TheVariants.{Failed, Shrunk as ShrunkRead}
+use Rattle.sync_survey.specs.Faults.{longest_file, survey_fields, survey_from_start}
+use Rattle.sync_survey.specs.{Looks.{look_size, Shows}, Start.start_of}
+use Rattle.sync_survey.specs.Survey.{HasLength, IsSurveyFaultBy, IsSurveyRefusal, ReadsBy}
+use Rattle.sync_survey.specs.Survey.{RefusesBytes, survey_of}
+use Rattle.sync_survey.specs.SurveyFaultKinds.{RefusesRightly, survey_fault_of}
+use Rattle.sync_survey.specs.declared.{places.Start.Start, survey_fault.SurveyFault.SurveyFault}
+use Rattle.sync_survey.specs.declared.survey_fault.SurveyFault.TheVariants.{Memory, TooLong}
+
+-- ---- the survey of a short file, and of one that is too long
+
+too_long : (file : List ℕ) (allowed size : ℕ) → size ≡ length file → longest_file < size
+    → survey_of file allowed ≡ Err (TooLong size)
+unfolding survey_of
+too_long file allowed size is long =
+    let more : ltb longest_file (length file) ≡ true =
+    lt-ltb longest_file (length file) (omega (arith, is, long)) in
+    ap (λ b. cond b (Err (TooLong (length file))) (survey_fields file allowed)) more
+    ∙ ap (λ n. Err (TooLong n)) (sym is)
+
+-- the survey of a file that isn't too long is that of its bytes
+pub survey_of-short : (file : List ℕ) (allowed : ℕ) → length file ≤ longest_file
+    → survey_of file allowed ≡ survey_fields file allowed
+unfolding survey_of
+survey_of-short file allowed few = let short : ltb longest_file (length file) ≡ false =
+    le-ltb longest_file (length file) few in rw short refl
+
+-- octets are bytes, as a list
+pub octets_bytes : (bytes : List ℕ) → AreOctets bytes → AreBytes bytes
+octets_bytes bytes all = AreBytes-from_slice bytes (λ i. record { fits = all i })
+
+-- ---- what a look shows
+
+take_fewer : (m n : ℕ) (xs : List ℕ) → n ≡ min (length xs) m → (short : Bool)
+    → leb (length xs) m ≡ short → take n xs ≡ take m xs
+take_fewer m n xs is true e =
+    let few = leb-true (length xs) m e in
+    take_all n xs (omega (arith, is, few)) ∙ sym (take_all m xs few)
+take_fewer m n xs is false e = let same : n ≡ m = omega (arith, is, leb-false (length xs) m e) in
+    ap (λ k. take k xs) same
+
+-- what was read at an offset shows the file there
+pub shown : (file : List ℕ) (at left wanted size : ℕ) (given : List ℕ) → size ≡ length file
+    → left ≡ size - at → wanted ≡ min left look_size → given ≡ take wanted (drop at file)
+    → Shows file at given left
+shown file at left wanted size given whole is many bytes = record {
+  front_is = bytes ∙ take_fewer look_size wanted (drop at file) (omega
+      (arith, whole, is, many, length-drop at file)) (leb (length (drop at file)) look_size) refl;
+  left_is = omega (arith, whole, is);
+}
+
+-- ---- after calls that left the files and all counts
+
+-- the feed is fed from the name's file, and the files and all counts are as they were
+pub record HasRead (feed : Fed) (name : List ℕ) (before after : Files)
+    (old new : Counts) : Type 0 where
+  pub fed : IsFedFrom feed after name
+  pub files : after ≡ before
+  pub counts : new ≡ old
+
+-- where nothing was read yet, files and counts are what they were
+pub none_read : {feed : Fed} {name : List ℕ} {files : Files} {counts : Counts}
+    → IsFedFrom feed files name → HasRead feed name files files counts counts
+none_read fed = record { fed = fed; files = refl; counts = refl }
+
+-- one more read that succeeded leaves files and feed so
+pub read_more : {T : Type 0} {x : T} {feed next : Fed} {name : List ℕ} {files mid now : Files}
+    {old between new : Counts} → HasRead feed name files mid old between
+    → ReadsBy next name (Ok x) (seen_folder mid between) (seen_folder now new)
+    → HasRead next name files now old new
+read_more before reads = record {
+  fed = reads.fed;
+  files = reads.files ∙ before.files;
+  counts = reads.done ∙ before.counts;
+}
+
+-- the file is what it was
+pub still_held : {feed : Fed} {name : List ℕ} {files now : Files} {old new : Counts}
+    → HasRead feed name files now old new → (bytes : List ℕ) → Holds files name bytes
+    → Holds now name bytes
+still_held {name = name} before bytes holds =
+    subst (λ f. Holds f name bytes) (sym before.files) holds
+
+-- a refusal is one of all these calls
+pub refusal_later : {name : List ℕ} {files mid : Files} {allowed : ℕ}
+    {before between after : Counts} {fault : SurveyFault} → mid ≡ files → between ≡ before
+    → IsSurveyRefusal name mid allowed between after fault
+    → IsSurveyRefusal name files allowed before after fault
+refusal_later {name = name} {mid = mid} {allowed = allowed} {before = before} {after =
+    after} {fault = fault} same_files same_counts is =
+    subst (λ f. IsSurveyRefusal name f allowed before after fault) same_files
+    (subst (λ n. IsSurveyRefusal name mid allowed n after fault) same_counts is)
+
+-- a refusal after reads that succeeded is one of all calls together
+pub refusal_after : {feed : Fed} {name : List ℕ} {files mid : Files} {allowed : ℕ}
+    {before between after : Counts} {fault : SurveyFault}
+    → HasRead feed name files mid before between
+    → IsSurveyRefusal name mid allowed between after fault
+    → IsSurveyRefusal name files allowed before after fault
+refusal_after read is = refusal_later read.files read.counts is
+
+-- where no count changed, only reads were counted
+pub only_reads_equal : {before after : Counts} → after ≡ before → OnlyReads before after
+only_reads_equal {before = before} same =
+    subst (OnlyReads before) (sym same) (only_reads_same before)
+
+-- the stream doesn't begin
+pub surveyed_by : (file : List ℕ) (allowed : ℕ) (fault : SurveyFault) → start_of file ≡ Err fault
+    → survey_fields file allowed ≡ Err fault
+unfolding survey_fields
+surveyed_by file allowed fault is = ap (survey_from_start file allowed) is
+
+-- ---- the refusals
+
+module _ (name : List ℕ) (files : Files) (allowed : ℕ) (before after : Counts) where
+  -- a file that is too long is refused with its length
+  pub long_refusal : (size : ℕ) → IsFileThere files name
+      → ((bytes : List ℕ) → Holds files name bytes → size ≡ length bytes) → longest_file < size
+      → after ≡ before → IsSurveyRefusal name files allowed before after (TooLong size)
+  long_refusal size there is long same =
+      record {
+        cause = record {
+          there = there;
+          bytes = λ bytes holds. too_long bytes allowed size (is bytes holds) long;
+          counts = same;
+        };
+        numbers = long;
+      }
+
+  -- a fault of reading refuses the file, with the cause of the fault
+  pub read_refusal : (size : ℕ) (fault : ReadFault)
+      → HasReadCause name size files before after fault
+      → IsSurveyRefusal name files allowed before after (survey_fault_of fault)
+  read_refusal size Failed cause = record { cause = cause.0; numbers = tt }
+  read_refusal size (ShrunkRead first second) cause = record {
+    cause = record { nothing_told = cause.0; ended = cause.3; counts = cause.4 };
+    numbers = cause.2;
+  }
+
+  -- want of memory may refuse any file
+  pub memory_refusal : (size : ℕ) → HasLength files name size → after ≡ before
+      → IsSurveyRefusal name files allowed before after Memory
+  memory_refusal size known same = record {
+    cause = record {
+      there = known.there;
+      few = λ bytes holds. omega (arith, known.few, known.long bytes holds);
+      counts = same;
+    };
+    numbers = tt;
+  }
+
+  kind_refusal : (fault : SurveyFault) → RefusesRightly fault
+      → RefusesBytes name files allowed before after fault
+      → IsSurveyRefusal name files allowed before after fault
+  kind_refusal fault rightly refuses = record {
+    cause = subst (IsSurveyFaultBy name files allowed before after fault) (sym rightly.0) refuses;
+    numbers = rightly.1;
+  }
+
+  -- a fault of the file's bytes refuses it
+  pub bytes_refusal : (size : ℕ) (fault : SurveyFault) → HasLength files name size → after ≡ before
+      → RefusesRightly fault
+      → ((bytes : List ℕ) → Holds files name bytes → survey_fields bytes allowed ≡ Err fault)
+      → IsSurveyRefusal name files allowed before after fault
+  bytes_refusal size fault known same rightly refused =
+      kind_refusal fault rightly (record {
+        there = known.there;
+        bytes = λ bytes holds. survey_of-short bytes allowed
+            (omega (arith, known.few, known.long bytes holds)) ∙ refused bytes holds;
+        counts = same;
+      })
+
+  -- so does a fault before its first frame
+  pub start_refusal : (size : ℕ) (fault : SurveyFault) → HasLength files name size → after ≡ before
+      → RefusesRightly fault
+      → ((bytes : List ℕ) → Holds files name bytes → start_of bytes ≡ Err fault)
+      → IsSurveyRefusal name files allowed before after fault
+  start_refusal size fault known same rightly none =
+      bytes_refusal size fault known same rightly
+      (λ bytes holds. surveyed_by bytes allowed fault (none bytes holds))
+
+-- the start, or why there is none
+pub start_ok : (r : Result Start SurveyFault) (files : Files) (name : List ℕ)
+    → ((bytes : List ℕ) → Holds files name bytes → start_of bytes ≡ r)
+    → IfOk r (λ s. (bytes : List ℕ) → Holds files name bytes → start_of bytes ≡ Ok s)
+start_ok (Ok s) files name is = is
+start_ok (Err fault) files name is = tt
+
+-- an answer that is an error is such a refusal
+pub start_err : (r : Result Start SurveyFault) (name : List ℕ) (files : Files)
+    (before after : Counts) (size : ℕ) → HasLength files name size → after ≡ before
+    → IfErr r RefusesRightly → ((bytes : List ℕ) → Holds files name bytes → start_of bytes ≡ r)
+    → IfErr r (λ fault. (allowed : ℕ) → IsSurveyRefusal name files allowed before after fault)
+start_err (Ok s) name files before after size known same rightly is = tt
+start_err (Err fault) name files before after size known same rightly is =
+    λ allowed. start_refusal name files allowed before after size fault known same rightly is

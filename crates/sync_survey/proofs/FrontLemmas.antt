@@ -1,0 +1,94 @@
+-- The front of a file, one item after the other.
+use Rattle.std.proofs.Common.{ap, append-nil, append_assoc, arith, length, List, None}
+use Rattle.std.proofs.Common.{option_to_list, refl, subst, sym, ℕ, [], ◌++◌, ◌+◌, ◌∙◌, ◌∷◌, ◌≡◌}
+use Rattle.std.proofs.Common.{◌≤◌}
+use Rattle.sync_survey.{proofs.RunsLemmas.{item_of-past, run-stopped}, specs.Items.size_of}
+use Rattle.sync_survey.specs.Looks.{Passes}
+use Rattle.sync_survey.specs.Runs.{block_of_item, blocks_of, item_run, whole_item_at}
+use Rattle.sync_survey.specs.{Start.front_end_of, Survey.BlocksAreLaid, declared.items.Item.Item}
+use Rattle.sync_survey.specs.declared.{items.Item.TheVariants.Block, places.Piece.Piece}
+use Rattle.sync_survey.specs.declared.runs.Region.TheVariants.{Front}
+
+-- these blocks were passed, and no others
+pub record IsPassedTo (file : List ℕ) (blocks : List Piece) (at : ℕ) : Type 0 where
+  pub pieces : blocks ++ blocks_of (item_run Front file at).items
+      ≡ blocks_of (item_run Front file 0).items
+  pub stop : (item_run Front file at).stop ≡ front_end_of file
+
+-- at the beginning no blocks were passed
+pub passed_none : (file : List ℕ) (blocks : List Piece) → blocks ≡ [] → IsPassedTo file blocks 0
+unfolding front_end_of
+passed_none file blocks none =
+    record { pieces = ap (λ l. l ++ blocks_of (item_run Front file 0).items) none; stop = refl }
+
+-- to pass an item of the front adds it, if it is a block
+pub passed_more : (file : List ℕ) (blocks later : List Piece) (at size : ℕ) (item : Item)
+    → IsPassedTo file blocks at → Passes Front file at item size
+    → later ≡ blocks ++ option_to_list (block_of_item at item) → IsPassedTo file later (at + size)
+passed_more file blocks later at size item so_far passes kept = record {
+  pieces = ap (λ l. l ++ blocks_of (item_run Front file (at + size)).items) kept
+      ∙ append_assoc blocks (option_to_list (block_of_item at item)) _
+      ∙ ap (λ l. blocks ++ l) (sym passes.blocks) ∙ so_far.pieces;
+  stop = sym passes.stop ∙ so_far.stop;
+}
+
+-- the blocks are those of the front, which ends here
+pub record IsFrontPassed (file : List ℕ) (blocks : List Piece) (at : ℕ) : Type 0 where
+  pub pieces : blocks ≡ blocks_of (item_run Front file 0).items
+  pub end : at ≡ front_end_of file
+
+-- where no further item of the front begins, the front was passed
+pub passed_all : (file : List ℕ) (blocks : List Piece) (at : ℕ) → IsPassedTo file blocks at
+    → whole_item_at Front file at ≡ None → IsFrontPassed file blocks at
+passed_all file blocks at so_far none =
+    let stopped = run-stopped Front file at none in
+    record {
+      pieces = sym (append-nil blocks)
+          ∙ ap (λ l. blocks ++ l) (sym (ap (λ r. blocks_of r.items) stopped)) ∙ so_far.pieces;
+      end = sym (ap (λ r. r.stop) stopped) ∙ so_far.stop;
+    }
+
+-- at the end of the file it was passed too
+pub passed_end : (file : List ℕ) (blocks : List Piece) (at size : ℕ) → size ≡ length file
+    → size ≤ at → IsPassedTo file blocks at → IsFrontPassed file blocks at
+passed_end file blocks at size is past so_far =
+    passed_all file blocks at so_far (item_of-past Front file at (omega (arith, is, past)))
+
+-- ---- blocks one after the other
+
+laid_push : (from : ℕ) (blocks : List Piece) (to later : ℕ) (b : Piece)
+    → BlocksAreLaid from blocks to → to ≤ b.offset → b.offset + b.block.length ≤ later
+    → BlocksAreLaid from (blocks ++ b ∷ []) later
+laid_push from [] to later b laid low high = (omega (arith, laid, low), high)
+laid_push from (p ∷ blocks) to later b laid low high =
+    (laid.0, laid_push (p.offset + p.block.length) blocks to later b laid.1 low high)
+
+-- blocks that end before an offset end before any later one
+pub pieces_later : (from : ℕ) (blocks : List Piece) (to later : ℕ) → BlocksAreLaid from blocks to
+    → to ≤ later → BlocksAreLaid from blocks later
+pieces_later from [] to later laid low = omega (arith, laid, low)
+pieces_later from (p ∷ blocks) to later laid low =
+    (laid.0, pieces_later (p.offset + p.block.length) blocks to later laid.1 low)
+
+laid_none : (from : ℕ) (blocks : List Piece) (to later : ℕ) → BlocksAreLaid from blocks to
+    → to ≤ later → BlocksAreLaid from (blocks ++ []) later
+laid_none from blocks to later laid low = subst (λ l. BlocksAreLaid from l later)
+    (sym (append-nil blocks)) (pieces_later from blocks to later laid low)
+
+laid_by : (blocks : List Piece) (at size : ℕ) (item : Item) → BlocksAreLaid 0 blocks at
+    → size_of item ≤ size
+    → BlocksAreLaid 0 (blocks ++ option_to_list (block_of_item at item)) (at + size)
+laid_by blocks at size (Block b) laid least = laid_push 0 blocks at (at + size)
+    (record { offset = at; block = b }) laid (omega arith) (omega (arith, least))
+laid_by blocks at size _ laid least = laid_none 0 blocks at (at + size) laid (omega arith)
+
+-- one block more is behind those before it
+pub blocks_more : (blocks later : List Piece) (at size : ℕ) (item : Item)
+    → BlocksAreLaid 0 blocks at → size_of item ≤ size
+    → later ≡ blocks ++ option_to_list (block_of_item at item) → BlocksAreLaid 0 later (at + size)
+blocks_more blocks later at size item laid least kept =
+    subst (λ l. BlocksAreLaid 0 l (at + size)) (sym kept) (laid_by blocks at size item laid least)
+
+-- no blocks are in place
+pub blocks_none : (blocks : List Piece) → blocks ≡ [] → BlocksAreLaid 0 blocks 0
+blocks_none blocks none = subst (λ l. BlocksAreLaid 0 l 0) (sym none) (omega arith)

@@ -1,0 +1,151 @@
+-- An item is known by its own bytes, whatever bytes are after them.
+use Rattle.std.proofs.Common.{ap, arith, codes, cond, drop, Err, leb, length, List, Ok, refl, Some}
+use Rattle.std.proofs.Common.{sym, take, true, ℕ, ◌++◌, ◌+◌, ◌∙◌, ◌≡◌, ◌≤◌}
+use Rattle.std.proofs.lemmas.Bool.{false≢true}
+use Rattle.std.proofs.lemmas.List.{get_or-take, length-drop, length-take, length-take-le}
+use Rattle.std.proofs.lemmas.List.{take-append-le, take-take, take_at}
+use Rattle.frame_header.proofs.{HeaderLemmas.IsClass-class_of, LengthLemmas.area_some}
+use Rattle.frame_header.specs.{Fields.{HeaderFields, IsHeader}, Reading.header_at}
+use Rattle.frame_header.specs.Tables.{class_of, length_of}
+use Rattle.frame_header.specs.declared.header.NotHeader.TheVariants.{No}
+use Rattle.sync_survey.proofs.ItemsLemmas.{header_front-in_range, stands-at}
+use Rattle.sync_survey.proofs.OneItemLemmas.{stands-only}
+use Rattle.sync_survey.specs.Items.{header_front, IsItemFront, item_at, item_front, size_of}
+use Rattle.sync_survey.specs.{Runs.belongs, declared.items.Item.Item}
+use Rattle.sync_survey.specs.declared.items.Item.TheVariants.{Block, Frame, Zero}
+use Rattle.sync_survey.specs.declared.runs.Region.TheVariants.{Stream}
+use Rattle.tag_blocks.proofs.BlocksLemmas.{block_front-any, block_front-begins, block_front-own}
+use Rattle.tag_blocks.proofs.BlocksLemmas.{long_take, part_take, text_take}
+use Rattle.tag_blocks.specs.Blocks.{ape_length, begins, block_front, block_of_kind, id3v2_length}
+use Rattle.tag_blocks.specs.Blocks.{is_ape, is_id3v1, is_id3v2, length_of_kind}
+use Rattle.tag_blocks.specs.declared.block.{Block.Block as TagBlock, Kind.Kind}
+use Rattle.tag_blocks.specs.declared.block.Kind.TheVariants.{Ape, Id3v1, Id3v2}
+
+-- ---- a block
+
+-- by how many of its first bytes a block of this kind is known
+abbrev pub known_by : Kind → ℕ
+known_by Id3v2 = 10
+known_by Id3v1 = 3
+known_by Ape = 32
+
+begins-take : (kind : Kind) (n : ℕ) (bytes : List ℕ) → known_by kind ≤ n
+    → begins kind (take n bytes) ≡ begins kind bytes
+unfolding is_id3v2 is_id3v1 is_ape
+begins-take Id3v2 n bytes within =
+    rw (
+      long_take 10 n bytes within,
+      text_take (codes "ID3") n bytes (omega arith),
+      get_or-take n bytes 3 0 (omega arith),
+      get_or-take n bytes 4 0 (omega arith),
+      part_take 6 4 n bytes (omega arith),
+    ) refl
+begins-take Id3v1 n bytes within = text_take (codes "TAG") n bytes within
+begins-take Ape n bytes within =
+    rw (
+      long_take 32 n bytes within,
+      text_take (codes "APETAGEX") n bytes (omega arith),
+      part_take 8 4 n bytes (omega arith),
+      part_take 12 4 n bytes (omega arith),
+      part_take 20 4 n bytes (omega arith),
+    ) refl
+
+length_as-take : (kind : Kind) (n : ℕ) (bytes : List ℕ) → known_by kind ≤ n
+    → length_of_kind kind (take n bytes) ≡ length_of_kind kind bytes
+unfolding id3v2_length ape_length
+length_as-take Id3v2 n bytes within =
+    rw (part_take 6 4 n bytes (omega arith), get_or-take n bytes 5 0 (omega arith)) refl
+length_as-take Id3v1 n bytes within = refl
+length_as-take Ape n bytes within = rw (part_take 12 4 n bytes (omega arith)) refl
+
+-- a kind of item is known by as many first bytes as it takes
+pub front_as-take : (kind : Kind) (n : ℕ) (bytes : List ℕ) → known_by kind ≤ n
+    → block_of_kind kind (take n bytes) ≡ block_of_kind kind bytes
+front_as-take kind n bytes within =
+    rw (begins-take kind n bytes within, length_as-take kind n bytes within) refl
+
+-- these bytes are within the block
+known_within : (kind : Kind) (bytes : List ℕ) → known_by kind ≤ length_of_kind kind bytes
+unfolding id3v2_length ape_length
+known_within Id3v2 bytes = omega arith
+known_within _ bytes = omega arith
+
+-- a block is known by its own bytes, whatever is after them
+pub block_front-bytes : (bytes rest : List ℕ) (b : TagBlock) → block_front bytes ≡ Some b
+    → b.length ≤ length bytes → block_front (take b.length bytes ++ rest) ≡ Some b
+block_front-bytes bytes rest b is within =
+    let own = take b.length bytes in
+    let known : known_by b.kind ≤ b.length =
+    omega (arith, known_within b.kind bytes, (block_front-begins bytes b is).1) in
+    let same : take b.length (own ++ rest) ≡ own =
+    take_at own rest b.length (length-take-le b.length bytes within) in
+    block_front-any b.kind (own ++ rest) b
+    (sym (front_as-take b.kind b.length (own ++ rest) known) ∙ ap (block_of_kind b.kind) same
+    ∙ front_as-take b.kind b.length bytes known ∙ block_front-own bytes b is)
+
+-- ---- a header
+
+-- only the first four bytes matter
+pub header_front-four : (xs ys : List ℕ) → take 4 xs ≡ take 4 ys → header_front xs ≡ header_front ys
+unfolding header_front
+header_front-four xs ys same =
+    let long : leb 4 (length xs) ≡ leb 4 (length ys) = sym (long_take 4 4 xs (omega arith))
+    ∙ ap (λ l. leb 4 (length l)) same ∙ long_take 4 4 ys (omega arith) in
+    ap (λ b. cond b (header_at (take 4 xs)) (Err No)) long
+    ∙ ap (λ four. cond (leb 4 (length ys)) (header_at four) (Err No)) same
+
+-- ---- an item
+
+-- These bytes are an item: they are as many as it has,
+-- and whatever bytes are after them, they begin with it.
+pub record IsItem (item : Item) (own : List ℕ) : Type 0 where
+  pub size : length own ≡ size_of item
+  pub known : (rest : List ℕ) → item_front (own ++ rest) ≡ item
+
+known_by_standing : (item : Item) (own : List ℕ)
+    → ((rest : List ℕ) → IsItemFront (own ++ rest) item) → (rest : List ℕ)
+    → item_front (own ++ rest) ≡ item
+known_by_standing item own stands rest = sym (stands-only (own ++ rest) item (stands rest))
+
+-- a frame has its header and its length
+pub frame_item : (h : HeaderFields) (own : List ℕ) → header_front own ≡ Ok h
+    → length own ≡ length_of (class_of h) h.slot → 4 ≤ length own → IsItem (Frame h) own
+frame_item h own header long least = record {
+  size = long;
+  known = known_by_standing (Frame h) own
+      (λ rest. header_front-four (own ++ rest) own (take-append-le 4 own rest least) ∙ header);
+}
+
+-- a frame has more than the four bytes of its header
+pub frame-least : (h : HeaderFields) → IsHeader h → 4 ≤ length_of (class_of h) h.slot
+frame-least h fields =
+    omega (arith, area_some (class_of h) h.slot (IsClass-class_of h fields) fields.slot)
+
+-- a whole item with which bytes begin is known by its own bytes
+stands_kept : (item : Item) (bytes rest : List ℕ) → IsItemFront bytes item → belongs Stream item
+    ≡ true → size_of item ≤ length bytes → IsItemFront (take (size_of item) bytes ++ rest) item
+stands_kept (Frame h) bytes rest here is within =
+    let size = length_of (class_of h) h.slot in
+    let least = frame-least h (header_front-in_range bytes h here) in
+    header_front-four (take size bytes ++ rest) bytes
+    (take-append-le 4 (take size bytes) rest (omega (arith, least, within, length-take size bytes))
+    ∙ take-take 4 size bytes least)
+    ∙ here
+stands_kept (Block b) bytes rest here is within = block_front-bytes bytes rest b here within
+stands_kept Zero bytes rest here is within =
+    take-append-le 1 (take 1 bytes) rest (omega (arith, within, length-take 1 bytes))
+    ∙ take-take 1 1 bytes (omega arith) ∙ here
+stands_kept _ bytes rest here is within = absurd (false≢true is)
+
+-- the bytes of a whole item of a file are that item
+pub kept_item : (file : List ℕ) (at : ℕ) (item : Item) → item_at file at ≡ item
+    → belongs Stream item ≡ true → at + size_of item ≤ length file
+    → IsItem item (take (size_of item) (drop at file))
+kept_item file at item is belongs within =
+    let bytes = drop at file in
+    let size = size_of item in
+    let room : size ≤ length bytes = omega (arith, within, length-drop at file) in record {
+      size = length-take-le size bytes room;
+      known = known_by_standing item (take size bytes)
+          (λ rest. stands_kept item bytes rest (stands-at file at item is) belongs room);
+    }

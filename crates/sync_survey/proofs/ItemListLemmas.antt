@@ -1,0 +1,259 @@
+-- Bytes that are items, one after the other: where they are in a file, the items follow end to end.
+use Rattle.std.proofs.Common.{ap, append_assoc, ap₂, arith, drop, filter_map, length, length-append}
+use Rattle.std.proofs.Common.{length-drop, List, map, None, Option, option_map, refl, Some, sym}
+use Rattle.std.proofs.Common.{true, ℕ, [], ◌++◌, ◌+◌, ◌-◌, ◌<◌, ◌∙◌, ◌∷◌, ◌≡◌, ◌≤◌}
+use Rattle.std.{proofs.lemmas.List.{drop-drop, drop_at}, specs.List.cons_option}
+use Rattle.sync_survey.proofs.ItemBytesLemmas.{IsItem, kept_item}
+use Rattle.sync_survey.proofs.RunsLemmas.{item_of-is, item_of-whole, run-only}
+use Rattle.sync_survey.specs.Items.{item_at, item_front, size_of}
+use Rattle.sync_survey.specs.Runs.{AreEndToEnd, belongs, block_of_item, blocks_of, bytes_of_items}
+use Rattle.sync_survey.specs.Runs.{frame_of_item, frames_of, item_bytes_in, item_run, PlacedItem}
+use Rattle.sync_survey.specs.{Runs.whole_item_at, declared.items.Item.Item}
+use Rattle.sync_survey.specs.declared.items.Item.TheVariants.{Block, End, Frame, Free, Nothing}
+use Rattle.sync_survey.specs.declared.places.{Piece.Piece, PlacedFrame.PlacedFrame}
+use Rattle.sync_survey.specs.declared.runs.Region.{Region, TheVariants.Stream}
+
+-- ---- items before the first frame
+
+-- what may be before the first frame may be after it
+pub stream_belongs : (part : Region) (item : Item) → belongs part item ≡ true
+    → belongs Stream item ≡ true
+stream_belongs part Free is = is
+stream_belongs part End is = is
+stream_belongs part Nothing is = is
+stream_belongs part _ is = refl
+
+-- items end to end in the front are end to end in the stream too
+pub ends-stream : (part : Region) (file : List ℕ) (from : ℕ) (ps : List PlacedItem) (to : ℕ)
+    → AreEndToEnd part file from ps to → AreEndToEnd Stream file from ps to
+ends-stream part file from [] to ends = ends
+ends-stream part file from (p ∷ ps) to ends =
+    let here = item_of-is part file p.offset p.item ends.1 in (
+      ends.0,
+      item_of-whole Stream file p.offset p.item here.is (stream_belongs part p.item here.belongs)
+          here.within,
+      ends-stream part file (p.offset + size_of p.item) ps to ends.2,
+    )
+
+-- ---- from where to where
+
+-- items end to end end no earlier than they begin
+pub ends-rise : (part : Region) (file : List ℕ) (from : ℕ) (ps : List PlacedItem) (to : ℕ)
+    → AreEndToEnd part file from ps to → from ≤ to
+ends-rise part file from [] to ends = omega (arith, ends)
+ends-rise part file from (p ∷ ps) to ends =
+    omega (arith, ends.0, ends-rise part file (p.offset + size_of p.item) ps to ends.2)
+
+-- and within the file, if they begin there
+pub ends-within : (part : Region) (file : List ℕ) (from : ℕ) (ps : List PlacedItem) (to : ℕ)
+    → AreEndToEnd part file from ps to → from ≤ length file → to ≤ length file
+ends-within part file from [] to ends within = omega (arith, ends, within)
+ends-within part file from (p ∷ ps) to ends within = ends-within part file
+    (p.offset + size_of p.item) ps to ends.2 (item_of-is part file p.offset p.item ends.1).within
+
+-- ---- bytes that are items
+
+-- these bytes are these items, one after the other
+abbrev pub AreItems : List PlacedItem → List ℕ → Type 0
+AreItems [] bytes = bytes ≡ []
+AreItems (p ∷ ps) bytes =
+    (own : List ℕ) × (rest : List ℕ) × (bytes ≡ own ++ rest) × IsItem p.item own × AreItems ps rest
+
+-- they are as many as the items have
+pub items-length : (part : Region) (file : List ℕ) (from : ℕ) (ps : List PlacedItem) (to : ℕ)
+    (bytes : List ℕ) → AreEndToEnd part file from ps to → AreItems ps bytes
+    → from + length bytes ≡ to
+items-length part file from [] to bytes ends are = omega (arith, ends, ap length are)
+items-length part file from (p ∷ ps) to bytes ends are =
+    omega (
+      arith,
+      ends.0,
+      ap length are.2,
+      length-append are.0 are.1,
+      are.3.size,
+      items-length part file (p.offset + size_of p.item) ps to are.1 ends.2 are.4,
+    )
+
+-- the bytes of items of a file are these items
+pub kept_items : (file : List ℕ) (from : ℕ) (ps : List PlacedItem) (to : ℕ)
+    → AreEndToEnd Stream file from ps to → AreItems ps (bytes_of_items file ps)
+kept_items file from [] to ends = refl
+kept_items file from (p ∷ ps) to ends =
+    let here = item_of-is Stream file p.offset p.item ends.1 in (
+      item_bytes_in file p,
+      bytes_of_items file ps,
+      refl,
+      kept_item file p.offset p.item here.is here.belongs here.within,
+      kept_items file (p.offset + size_of p.item) ps to ends.2,
+    )
+
+-- ---- where they are
+
+-- an item, a frame and a block elsewhere, by where each offset is then
+abbrev pub placed_by : (ℕ → ℕ) → PlacedItem → PlacedItem
+placed_by to p = record p { offset = to p.offset }
+
+abbrev pub frame_by : (ℕ → ℕ) → PlacedFrame → PlacedFrame
+frame_by to p = record p { offset = to p.offset }
+
+abbrev pub piece_by : (ℕ → ℕ) → Piece → Piece
+piece_by to p = record p { offset = to p.offset }
+
+-- the item, so many bytes nearer to the beginning of the file
+abbrev pub nearer : ℕ → PlacedItem → PlacedItem
+nearer gap p = placed_by (λ at. at - gap) p
+
+-- the item at an offset is the one with which the bytes from there on begin
+pub item_at-known : (file : List ℕ) (place at : ℕ) (bytes : List ℕ) (item : Item) → place ≡ at
+    → drop at file ≡ bytes → item_front bytes ≡ item → item_at file place ≡ item
+unfolding item_at
+item_at-known file place at bytes item same is known =
+    ap (λ n. item_front (drop n file)) same ∙ ap item_front is ∙ known
+
+-- If bytes that are items are in another file, so many
+-- bytes nearer to its beginning, they are there end to end.
+pub items-end : (part : Region) (old file : List ℕ) (gap from at : ℕ) (ps : List PlacedItem)
+    (to : ℕ)
+    (bytes behind : List ℕ) → AreEndToEnd part old from ps to → from ≡ at + gap → AreItems ps bytes
+    → at ≤ length file → drop at file ≡ bytes ++ behind
+    → AreEndToEnd part file at (map (nearer gap) ps) (to - gap)
+items-end part old file gap from at [] to bytes behind ends there are within is =
+    omega (arith, ends, there)
+items-end part old file gap from at (p ∷ ps) to bytes behind ends there are within is =
+    let own = are.0 in
+    let rest = are.1 in
+    let size = size_of p.item in
+    let here = item_of-is part old p.offset p.item ends.1 in
+    let place : p.offset - gap ≡ at = omega (arith, ends.0, there) in
+    let stands : drop at file ≡ own ++ (rest ++ behind) =
+    is ∙ ap (λ l. l ++ behind) are.2 ∙ append_assoc own rest behind in
+    let room : at + size ≤ length file = omega (
+      arith,
+      within,
+      ap length stands,
+      length-drop at file,
+      length-append own (rest ++ behind),
+      are.3.size,
+    ) in
+    let known = item_at-known file (p.offset - gap) at (own ++ (rest ++ behind)) p.item place stands
+    (are.3.known (rest ++ behind)) in
+    let next : drop (p.offset - gap + size) file ≡ rest ++ behind =
+    ap (λ n. drop (n + size) file) place ∙ sym (drop-drop size at file) ∙ ap (drop size) stands
+    ∙ drop_at own (rest ++ behind) size are.3.size in (
+      place,
+      item_of-whole part file
+          (p.offset - gap) p.item known here.belongs (omega (arith, place, room)),
+      items-end part old file gap (p.offset + size) (p.offset - gap + size) ps to rest behind
+          ends.2 (omega (arith, place, ends.0, there)) are.4 (omega (arith, place, room)) next,
+    )
+
+-- items that aren't nearer at all are where they were
+pub nearer-none : (ps : List PlacedItem) → map (nearer 0) ps ≡ ps
+nearer-none [] = refl
+nearer-none (p ∷ ps) =
+    let same : p.offset - 0 ≡ p.offset = omega arith in
+    λ i. record p { offset = same i } ∷ nearer-none ps i
+
+-- they are the run there, if no further item of the part begins after them
+pub items-run : (part : Region) (old file : List ℕ) (gap from at : ℕ) (ps : List PlacedItem)
+    (to : ℕ)
+    (bytes behind : List ℕ) → AreEndToEnd part old from ps to → from ≡ at + gap → AreItems ps bytes
+    → at ≤ length file → drop at file ≡ bytes ++ behind → whole_item_at part file (to - gap) ≡ None
+    → item_run part file at ≡ record { items = map (nearer gap) ps; stop = to - gap }
+items-run part old file gap from at ps to bytes behind ends there are within is none =
+    run-only part file at (map (nearer gap) ps) (to - gap)
+    (items-end part old file gap from at ps to bytes behind ends there are within is) none
+
+-- ---- frames and blocks among them
+
+-- what is taken of the items is moved with them
+module _ {A : Type 0} (part_of : ℕ → Item → Option A) (by : A → A) (to : ℕ → ℕ)
+    (moved : (at : ℕ) (item : Item) → part_of (to at) item ≡ option_map by (part_of at item)) where
+  taken_more : (o : Option A) (xs : List A)
+      → cons_option (option_map by o) (map by xs) ≡ map by (cons_option o xs)
+  taken_more None xs = refl
+  taken_more (Some x) xs = refl
+
+  taken : (ps : List PlacedItem) → filter_map (λ p. part_of p.offset p.item) (map (placed_by to) ps)
+      ≡ map by (filter_map (λ p. part_of p.offset p.item) ps)
+  taken [] = refl
+  taken (p ∷ ps) = ap₂ cons_option (moved p.offset p.item) (taken ps)
+      ∙ taken_more (part_of p.offset p.item) (filter_map (λ p. part_of p.offset p.item) ps)
+
+moved_frame : (to : ℕ → ℕ) (at : ℕ) (item : Item)
+    → frame_of_item (to at) item ≡ option_map (frame_by to) (frame_of_item at item)
+moved_frame to at (Frame h) = refl
+moved_frame to at _ = refl
+
+moved_block : (to : ℕ → ℕ) (at : ℕ) (item : Item)
+    → block_of_item (to at) item ≡ option_map (piece_by to) (block_of_item at item)
+moved_block to at (Block b) = refl
+moved_block to at _ = refl
+
+-- the frames of items that are moved are these frames moved
+pub frames-by : (to : ℕ → ℕ) (ps : List PlacedItem)
+    → frames_of (map (placed_by to) ps) ≡ map (frame_by to) (frames_of ps)
+frames-by to ps = taken frame_of_item (frame_by to) to (moved_frame to) ps
+
+-- so are their blocks
+pub blocks-by : (to : ℕ → ℕ) (ps : List PlacedItem)
+    → blocks_of (map (placed_by to) ps) ≡ map (piece_by to) (blocks_of ps)
+blocks-by to ps = taken block_of_item (piece_by to) to (moved_block to) ps
+
+abbrev pub nearer_frame : ℕ → PlacedFrame → PlacedFrame
+nearer_frame gap p = frame_by (λ at. at - gap) p
+
+abbrev pub nearer_piece : ℕ → Piece → Piece
+nearer_piece gap p = piece_by (λ at. at - gap) p
+
+-- the frames of items that are nearer to the beginning are as much nearer
+pub frames-nearer : (gap : ℕ) (ps : List PlacedItem)
+    → frames_of (map (nearer gap) ps) ≡ map (nearer_frame gap) (frames_of ps)
+frames-nearer gap ps = frames-by (λ at. at - gap) ps
+
+-- so are their blocks
+pub blocks-nearer : (gap : ℕ) (ps : List PlacedItem)
+    → blocks_of (map (nearer gap) ps) ≡ map (nearer_piece gap) (blocks_of ps)
+blocks-nearer gap ps = blocks-by (λ at. at - gap) ps
+
+one_mapped : (f g : Piece → Piece) (at : ℕ) (item : Item) (ys : List Piece)
+    → ((p : Piece) → p.offset ≡ at → f p ≡ g p) → map f ys ≡ map g ys
+    → map f (cons_option (block_of_item at item) ys)
+    ≡ map g (cons_option (block_of_item at item) ys)
+one_mapped f g at (Block b) ys same rest =
+    ap₂ (λ (p : Piece) (l : List Piece). p ∷ l) (same (record { offset = at; block = b }) refl) rest
+one_mapped f g at _ ys same rest = rest
+
+-- two changes that are the same for blocks between two
+-- offsets are the same for the blocks that are there
+pub blocks-between : (part : Region) (f g : Piece → Piece) (file : List ℕ) (low high from : ℕ)
+    (ps : List PlacedItem) (to : ℕ) → ((p : Piece) → low ≤ p.offset → p.offset < high → f p ≡ g p)
+    → AreEndToEnd part file from ps to → low ≤ from → to ≤ high
+    → map f (blocks_of ps) ≡ map g (blocks_of ps)
+blocks-between part f g file low high from [] to same ends begin end = refl
+blocks-between part f g file low high from (p ∷ ps) to same ends begin end =
+    let size = size_of p.item in
+    let some = (item_of-is part file p.offset p.item ends.1).some in
+    let rise : p.offset + size ≤ to = ends-rise part file (p.offset + size) ps to ends.2 in
+    one_mapped f g p.offset p.item (blocks_of ps)
+    (λ q here. same q (omega (arith, here, ends.0, begin)) (omega (arith, here, some, rise, end)))
+    (blocks-between part f g file low high
+    (p.offset + size) ps to same ends.2 (omega (arith, ends.0, begin)) end)
+
+frame_count : (at : ℕ) (item : Item) (xs : List PlacedFrame)
+    → length (cons_option (frame_of_item at item) xs) ≤ 1 + length xs
+frame_count at (Frame h) xs = omega arith
+frame_count at _ xs = omega arith
+
+-- there are no more frames than bytes
+pub frames-few : (part : Region) (file : List ℕ) (from : ℕ) (ps : List PlacedItem) (to : ℕ)
+    → AreEndToEnd part file from ps to → from + length (frames_of ps) ≤ to
+frames-few part file from [] to ends = omega (arith, ends)
+frames-few part file from (p ∷ ps) to ends =
+    omega (
+      arith,
+      ends.0,
+      (item_of-is part file p.offset p.item ends.1).some,
+      frame_count p.offset p.item (frames_of ps),
+      frames-few part file (p.offset + size_of p.item) ps to ends.2,
+    )

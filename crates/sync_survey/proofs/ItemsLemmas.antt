@@ -1,0 +1,95 @@
+-- What bytes begin with: one item, and no other.
+use Rattle.std.proofs.Common.{ap, arith, Bool, cond, drop, Err, false, List, None, Ok, Option, refl}
+use Rattle.std.proofs.Common.{Result, Some, subst, sym, take, true, ℕ, [], ◌<◌, ◌==◌, ◌∙◌, ◌∷◌, ◌≡◌}
+use Rattle.std.proofs.lemmas.Bool.{eqb-true, false≢true}
+use Rattle.frame_header.proofs.HeaderLemmas.{IsClass-class_of, IsHeader-header_at}
+use Rattle.frame_header.{proofs.LengthLemmas.area_some, specs.Fields.{HeaderFields, IsHeader}}
+use Rattle.frame_header.specs.{Reading.header_at, Tables.{class_of, length_of}}
+use Rattle.frame_header.specs.declared.header.NotHeader.{NotHeader, TheVariants.No}
+use Rattle.sync_survey.specs.Items.{block_or_item, byte_item, header_front, header_or_item}
+use Rattle.sync_survey.specs.{Items.{IsItemFront, item_at, item_front, size_of}, Runs.belongs}
+use Rattle.sync_survey.specs.declared.items.Item.{Item, TheVariants.{Block, Frame, Nothing, Zero}}
+use Rattle.sync_survey.specs.declared.runs.Region.{Region}
+use Rattle.tag_blocks.{proofs.BlocksLemmas.block_front-least, specs.Blocks.block_front}
+use Rattle.tag_blocks.specs.declared.block.Block.{Block as TagBlock}
+
+-- ---- the item that is found is there
+
+byte_stands : (b : ℕ) (bs : List ℕ) (zero : Bool) → (b == 0) ≡ zero → header_front (b ∷ bs) ≡ Err No
+    → block_front (b ∷ bs) ≡ None → IsItemFront (b ∷ bs) (cond zero Zero Nothing)
+byte_stands b bs true is no_header no_block = ap (λ x. x ∷ []) (eqb-true b 0 is)
+byte_stands b bs false is no_header no_block = (
+  no_header,
+  no_block,
+  (λ e. absurd cc),
+  (λ e. let first : b ≡ 0 = cc in let zero : (b == 0) ≡ true = ap (λ x. x == 0) first in
+      absurd (false≢true (sym is ∙ zero))),
+)
+
+stands_by : (bytes : List ℕ) (r : Result HeaderFields NotHeader) (o : Option TagBlock)
+    → header_front bytes ≡ r → block_front bytes ≡ o
+    → IsItemFront bytes (header_or_item r (block_or_item o (byte_item bytes)))
+stands_by bytes (Err No) (Some b) header block = block
+stands_by [] (Err No) None header block = refl
+stands_by (b ∷ bs) (Err No) None header block = byte_stands b bs (b == 0) refl header block
+stands_by bytes _ o header block = header
+
+-- bytes begin with the item that is found at their front
+pub stands : (bytes : List ℕ) → IsItemFront bytes (item_front bytes)
+unfolding item_front
+stands bytes = stands_by bytes (header_front bytes) (block_front bytes) refl refl
+
+-- bytes that begin with a header begin with its frame
+pub frame_of_header : (bytes : List ℕ) (h : HeaderFields) → header_front bytes ≡ Ok h
+    → item_front bytes ≡ Frame h
+unfolding item_front
+frame_of_header bytes h e =
+    ap (λ r. header_or_item r (block_or_item (block_front bytes) (byte_item bytes))) e
+
+-- an item that is a frame is one by the header with which the bytes begin
+pub header_stands : (bytes : List ℕ) (item : Item) (h : HeaderFields) → item ≡ item_front bytes
+    → item ≡ Frame h → header_front bytes ≡ Ok h
+header_stands bytes item h front is = subst (IsItemFront bytes) (sym front ∙ is) (stands bytes)
+
+-- so they do at an offset of a file
+pub stands-at : (file : List ℕ) (at : ℕ) (item : Item) → item_at file at ≡ item
+    → IsItemFront (drop at file) item
+unfolding item_at
+stands-at file at item is = subst (IsItemFront (drop at file)) is (stands (drop at file))
+
+-- ---- what belongs to a part of a file has bytes
+
+header_cases : (b : Bool) (r : Result HeaderFields NotHeader) (h : HeaderFields)
+    → cond b r (Err No) ≡ Ok h → r ≡ Ok h
+header_cases true r h e = e
+header_cases false r h e = absurd cc
+
+-- a header with which bytes begin is that of their first four bytes
+pub header_at-front : (bytes : List ℕ) (h : HeaderFields) → header_front bytes ≡ Ok h
+    → header_at (take 4 bytes) ≡ Ok h
+unfolding header_front
+header_at-front bytes h e = header_cases _ _ h e
+
+-- and its fields are in range
+pub header_front-in_range : (bytes : List ℕ) (h : HeaderFields) → header_front bytes ≡ Ok h
+    → IsHeader h
+unfolding header_front
+header_front-in_range bytes h e = IsHeader-header_at (take 4 bytes) h (header_cases _ _ h e)
+
+frame_some : (h : HeaderFields) → IsHeader h → 0 < length_of (class_of h) h.slot
+frame_some h fields =
+    omega (arith, area_some (class_of h) h.slot (IsClass-class_of h fields) fields.slot)
+
+-- an item with which bytes begin, and that belongs to a part, has at least a byte
+pub some_by : (bytes : List ℕ) (part : Region) (item : Item) → IsItemFront bytes item
+    → belongs part item ≡ true → 0 < size_of item
+some_by bytes part (Frame h) here is = frame_some h (header_front-in_range bytes h here)
+some_by bytes part (Block b) here is = omega (arith, block_front-least bytes b here)
+some_by bytes part Zero here is = omega arith
+some_by bytes part _ here is = absurd (false≢true is)
+
+-- so has one at an offset of a file
+pub size-some : (part : Region) (file : List ℕ) (at : ℕ) (item : Item) → item_at file at ≡ item
+    → belongs part item ≡ true → 0 < size_of item
+size-some part file at item is belongs =
+    some_by (drop at file) part item (stands-at file at item is) belongs

@@ -1,0 +1,214 @@
+-- What a look at a file shows of it.
+use Rattle.std.proofs.Common.{ap, arith, Bool, cond, drop, false, leb, length, length-drop, List}
+use Rattle.std.proofs.Common.{None, refl, Some, subst, suc, sym, take, true, zero, ℕ, [], ◌++◌, ◌+◌}
+use Rattle.std.proofs.Common.{◌-◌, ◌<◌, ◌==◌, ◌∙◌, ◌∷◌, ◌≡◌, ◌≤◌}
+use Rattle.std.proofs.lemmas.Bool.{eqb-true, false≢true, lt-leb}
+use Rattle.std.proofs.lemmas.List.{drop-drop, drop-take, take-append-drop, take-take}
+use Rattle.std.{proofs.lemmas.List.Sums.prefix_len-le-length, specs.List.prefix_len}
+use Rattle.sync_survey.proofs.{ItemBytesLemmas.header_front-four, ItemsLemmas.{some_by, stands}}
+use Rattle.sync_survey.proofs.OneItemLemmas.{stands-only_at}
+use Rattle.sync_survey.proofs.RunsLemmas.{blocks-next, frames-next, item_of-whole, run-next}
+use Rattle.sync_survey.specs.Items.{block_or_item, byte_item, header_or_item, IsItemFront, item_at}
+use Rattle.sync_survey.specs.Items.{item_fits, item_front, size_of}
+use Rattle.sync_survey.specs.Looks.{look_size, Passes, Shows}
+use Rattle.sync_survey.specs.Runs.{belongs, blocks_of, frames_of, item_if_whole, item_run}
+use Rattle.sync_survey.specs.{Runs.whole_item_at, declared.items.Item.Item}
+use Rattle.sync_survey.specs.declared.items.Item.TheVariants.{Block, Frame, Zero}
+use Rattle.sync_survey.specs.declared.runs.Region.{Region}
+use Rattle.tag_blocks.proofs.BlocksLemmas.{block_front-take}
+
+-- ---- 32 bytes and the length decide what is at an offset
+
+by_byte-take : (n : ℕ) (bytes : List ℕ) → 1 ≤ n → byte_item (take n bytes) ≡ byte_item bytes
+by_byte-take zero bytes some = absurd (omega (arith, some))
+by_byte-take (suc n) [] some = refl
+by_byte-take (suc n) (b ∷ bs) some = refl
+
+-- the first 32 bytes decide which item bytes begin with
+pub item_front-take : (n : ℕ) (bytes : List ℕ) → 32 ≤ n
+    → item_front (take n bytes) ≡ item_front bytes
+unfolding item_front
+item_front-take n bytes many =
+    let header =
+    header_front-four (take n bytes) bytes (take-take 4 n bytes (omega (arith, many))) in
+    let block = block_front-take n bytes many in
+    let byte = by_byte-take n bytes (omega (arith, many)) in
+    λ i. header_or_item (header i) (block_or_item (block i) (byte i))
+
+-- ---- zero bytes
+
+-- a zero byte is an item, in the front as in the stream
+pub zero_at : (part : Region) (file bytes : List ℕ) (at : ℕ) → drop at file ≡ 0 ∷ bytes
+    → whole_item_at part file at ≡ Some Zero
+zero_at part file bytes at is =
+    item_of-whole part file at Zero (sym (stands-only_at file at Zero (ap (take 1) is))) refl
+    (omega (arith, ap length is, length-drop at file))
+
+abbrev pub zero_test : ℕ → Bool
+zero_test b = b == 0
+
+-- what a zero byte doesn't change is the same after all zero bytes with which these bytes begin
+module _ {X : Type 0} (file : List ℕ) (f : ℕ → X)
+    (one : (bytes : List ℕ) (at : ℕ) → drop at file ≡ 0 ∷ bytes → f at ≡ f (at + 1)) where
+  zeros_more : (rest : List ℕ) (at n b : ℕ) → drop at file ≡ b ∷ rest
+      → (drop (at + 1) file ≡ rest → f (at + 1) ≡ f (at + 1 + n)) → (zero : Bool)
+      → zero_test b ≡ zero → f at ≡ f (at + cond zero (1 + n) 0)
+  zeros_more rest at n b is later false e = let end : at ≡ at + 0 = omega arith in ap f end
+  zeros_more rest at n b is later true e =
+      let end : at + 1 + n ≡ at + (1 + n) = omega arith in
+      one rest at (is ∙ ap (λ x. x ∷ rest) (eqb-true b 0 e))
+      ∙ later (sym (drop-drop 1 at file) ∙ ap (drop 1) is) ∙ ap f end
+
+  zeros_same : (front rest : List ℕ) (at : ℕ) → drop at file ≡ front ++ rest
+      → f at ≡ f (at + prefix_len zero_test front)
+  zeros_same [] rest at is = let end : at ≡ at + 0 = omega arith in ap f end
+  zeros_same (b ∷ bs) rest at is = zeros_more (bs ++ rest) at (prefix_len zero_test bs) b is
+      (zeros_same bs rest (at + 1)) (zero_test b) refl
+
+-- ---- how many bytes are passed
+
+-- so many bytes are passed with an item where so many are left
+pub record IsSized (item : Item) (left size : ℕ) : Type 0 where
+  pub least : size_of item ≤ size
+  pub some : 0 < size
+  pub within : size ≤ left
+
+zero_counted : (front : List ℕ) → take 1 front ≡ 0 ∷ [] → 1 ≤ prefix_len zero_test front
+zero_counted [] first = absurd cc
+zero_counted (b ∷ bs) first =
+    let zero : b ≡ 0 = cc in
+    let counts : (t : Bool) → t ≡ true → 1 ≤ cond t (1 + prefix_len zero_test bs) 0 =
+    λ t is. subst (λ t. 1 ≤ cond t (1 + prefix_len zero_test bs) 0) (sym is) (omega arith) in
+    counts (zero_test b) (ap zero_test zero)
+
+abbrev Counts : Item → List ℕ → ℕ → Type 0
+Counts item front size =
+    (item ≡ Zero → size ≡ prefix_len zero_test front) × ((item ≡ Zero → ⊥) → size ≡ size_of item)
+
+own_size : (item : Item) (left size : ℕ) → 0 < size_of item → size_of item ≤ left
+    → size ≡ size_of item → IsSized item left size
+own_size item left size some within is = record {
+  least = omega (arith, is);
+  some = omega (arith, is, some);
+  within = omega (arith, is, within);
+}
+
+sized_by : (part : Region) (front : List ℕ) (left size : ℕ) (item : Item) → IsItemFront front item
+    → belongs part item ≡ true → size_of item ≤ left → length front ≤ left → Counts item front size
+    → IsSized item left size
+sized_by part front left size (Frame h) here is within all counts =
+    own_size (Frame h) left size (some_by front part (Frame h) here is) within (counts.1 (λ e. cc))
+sized_by part front left size (Block b) here is within all counts =
+    own_size (Block b) left size (some_by front part (Block b) here is) within (counts.1 (λ e. cc))
+sized_by part front left size Zero here is within all counts =
+    let many = zero_counted front here in
+    let size_is = counts.0 refl in
+    record {
+      least = omega (arith, many, size_is);
+      some = omega (arith, many, size_is);
+      within =
+          omega (arith, all, size_is, prefix_len-le-length zero_test front);
+    }
+sized_by part front left size _ here is within all counts = absurd (false≢true is)
+
+-- the item at the front of what is left is passed with its own bytes, zeros all at once
+pub sized : (part : Region) (front : List ℕ) (left size : ℕ) (item : Item) → item ≡ item_front front
+    → belongs part item ≡ true → size_of item ≤ left → length front ≤ left
+    → (item ≡ Zero → size ≡ prefix_len zero_test front) → ((item ≡ Zero → ⊥) → size ≡ size_of item)
+    → IsSized item left size
+sized part front left size item is here within all zeros other = sized_by part front left size item
+    (subst (IsItemFront front) (sym is) (stands front)) here within all (zeros, other)
+
+module _ (file : List ℕ) (at : ℕ) (front : List ℕ) (left : ℕ)
+    (shows : Shows file at front left) where
+  -- the item at the front is that of the file there
+  pub item_at-shown : item_front front ≡ item_at file at
+  unfolding item_at
+  item_at-shown =
+      ap item_front shows.front_is ∙ item_front-take look_size (drop at file) (omega arith)
+
+  -- what is there so many bytes after, where 32 bytes are shown from there on
+  pub item_at-behind : (size : ℕ) → size ≤ 4064
+      → item_front (drop size front) ≡ item_at file (at + size)
+  unfolding item_at
+  item_at-behind size few =
+      let split : look_size ≡ size + (look_size - size) = omega (arith, few) in
+      ap (λ l. item_front (drop size l)) shows.front_is
+      ∙ ap (λ n. item_front (drop size (take n (drop at file)))) split
+      ∙ ap item_front (drop-take size (look_size - size) (drop at file))
+      ∙ item_front-take (look_size - size) (drop size (drop at file)) (omega (arith, few))
+      ∙ ap item_front (drop-drop size at file)
+
+  -- whether an item fits in what is left is whether it fits in the file
+  pub fits-left : (item : Item) → leb (size_of item) left ≡ item_fits file at item
+  fits-left item = ap (leb (size_of item)) shows.left_is
+
+  -- ---- a step
+
+  none_by : (part : Region) (item : Item) → item_at file at ≡ item → (b : Bool)
+      → belongs part item ≡ b → (b ≡ true → left < size_of item) → whole_item_at part file at ≡ None
+  unfolding whole_item_at
+  none_by part item is true here past =
+      let over : item_fits file at item ≡ false =
+      sym (fits-left item) ∙ lt-leb (size_of item) left (past refl) in
+      ap (item_if_whole part file at) is ∙ rw (here, over) refl
+  none_by part item is false here past = ap (item_if_whole part file at) is ∙ rw here refl
+
+  -- an item of the part that is longer than what is left isn't whole there
+  pub not_here : (part : Region) (item : Item) → item ≡ item_front front
+      → (belongs part item ≡ true → left < size_of item) → whole_item_at part file at ≡ None
+  not_here part item is past =
+      none_by part item (sym item_at-shown ∙ sym is) (belongs part item) refl past
+
+  whole_here : (part : Region) (item : Item) → item ≡ item_front front → belongs part item ≡ true
+      → 0 < size_of item → size_of item ≤ left → whole_item_at part file at ≡ Some item
+  whole_here part item is here some within = item_of-whole part file at item
+      (sym item_at-shown ∙ sym is) here (omega (arith, some, within, shows.left_is))
+
+  -- after all zero bytes that are shown too
+  pub zeros_shown : {X : Type 0} (f : ℕ → X) (size : ℕ) → size ≡ prefix_len zero_test front
+      → ((bytes : List ℕ) (place : ℕ) → drop place file ≡ 0 ∷ bytes → f place ≡ f (place + 1))
+      → f at ≡ f (at + size)
+  zeros_shown f size many one =
+      let rest : List ℕ = drop look_size (drop at file) in
+      let split : drop at file ≡ front ++ rest =
+      sym (take-append-drop look_size (drop at file)) ∙ ap (λ l. l ++ rest) (sym shows.front_is) in
+      zeros_same file f one front rest at split ∙ ap (λ n. f (at + n)) (sym many)
+
+  -- a whole item and all zero bytes that are shown after a zero byte are passed
+  pub passes_zeros : (part : Region) (size : ℕ) → size ≡ prefix_len zero_test front
+      → Passes part file at Zero size
+  passes_zeros part size many = record {
+    frames = zeros_shown (λ n. frames_of (item_run part file n).items) size many
+        (λ bytes place zero. frames-next part file place Zero (zero_at part file bytes place zero));
+    blocks = zeros_shown (λ n. blocks_of (item_run part file n).items) size many
+        (λ bytes place zero. blocks-next part file place Zero (zero_at part file bytes place zero));
+    stop = zeros_shown (λ n. (item_run part file n).stop) size many
+        (λ bytes place zero. ap (λ r. r.stop)
+        (run-next part file place Zero (zero_at part file bytes place zero)));
+  }
+
+  -- to pass all of an item's bytes is to pass it
+  pub passes_whole : (part : Region) (item : Item) (size : ℕ)
+      → whole_item_at part file at ≡ Some item → size ≡ size_of item → Passes part file at item size
+  passes_whole part item size here is =
+      subst (Passes part file at item) (sym is)
+      (record {
+        frames = frames-next part file at item here;
+        blocks = blocks-next part file at item here;
+        stop = ap (λ r. r.stop) (run-next part file at item here);
+      })
+
+  step_by : (part : Region) (item : Item) (size : ℕ) → whole_item_at part file at ≡ Some item
+      → Counts item front size → Passes part file at item size
+  step_by part Zero size here counts = passes_zeros part size (counts.0 refl)
+  step_by part item size here counts = passes_whole part item size here (counts.1 (λ e. cc))
+
+  -- an item of the part that fits is passed, and zeros all at once
+  pub step_passes : (part : Region) (size : ℕ) (item : Item) → item ≡ item_front front
+      → belongs part item ≡ true → size_of item ≤ left
+      → (item ≡ Zero → size ≡ prefix_len zero_test front)
+      → ((item ≡ Zero → ⊥) → size ≡ size_of item) → Passes part file at item size
+  step_passes part size item is here within zeros other =
+      step_by part item size (whole_here part item is here (some_by front part item
+      (subst (IsItemFront front) (sym is) (stands front)) here) within) (zeros, other)

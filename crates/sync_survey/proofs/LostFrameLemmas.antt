@@ -1,0 +1,112 @@
+-- Lost frames have only silent and lost frames before them,
+-- since the main data of any other frame end after 0.
+use Rattle.std.proofs.Common.{ap, arith, Bool, cond, false, inl, inr, List, None, Option, refl}
+use Rattle.std.proofs.Common.{slice_get, Some, subst, suc, sym, true, zero, ℕ, ⊎_elim, ◌<◌, ◌==◌}
+use Rattle.std.proofs.Common.{◌||◌, ◌∙◌, ◌≡◌, ◌≤◌, ◌⊎◌}
+use Rattle.std.proofs.lemmas.Bool.{and_from, and_parts, eq-eqb, eqb-true}
+use Rattle.side_info.specs.Side.{payload_bits, payload_bytes}
+use Rattle.sync_survey.specs.Laws.{AreSilentOrLost}
+use Rattle.sync_survey.specs.MainData.{data_end_after, data_end_before, end_of_data, is_lost}
+use Rattle.sync_survey.specs.{MainData.{is_silent, lacks_data, place, points_too_far}, Row.Row}
+use Rattle.sync_survey.specs.declared.places.Head.{Head}
+
+-- ---- after one frame
+
+some_bits : (n : ℕ) → (n == 0) ≡ false → 1 ≤ n
+some_bits zero e = absurd cc
+some_bits (suc n) e = omega arith
+
+-- the main data of a frame that isn't silent end after 0
+pub loud-end : (place : ℕ) (r : Row) → is_silent r ≡ false → 1 ≤ end_of_data place r
+unfolding payload_bytes
+loud-end place r loud = omega (arith, some_bits (payload_bits r.side) loud)
+
+abbrev IsEmpty : ℕ → ℕ → Row → Type 0
+IsEmpty place ended r = (is_silent r ≡ true) ⊎ (lacks_data place ended r ≡ true)
+
+zero_cases : (place ended : ℕ) (r : Row) (silent lost : Bool) → is_silent r ≡ silent
+    → lacks_data place ended r ≡ lost → cond (silent || lost) ended (end_of_data place r) ≡ 0
+    → (ended ≡ 0) × IsEmpty place ended r
+zero_cases place ended r true lost is other e = (e, inl is)
+zero_cases place ended r false true is other e = (e, inr other)
+zero_cases place ended r false false is other e = absurd (omega (arith, e, loud-end place r is))
+
+zero_behind : (place ended : ℕ) (r : Row) → data_end_after place ended (Some r) ≡ 0
+    → (ended ≡ 0) × IsEmpty place ended r
+zero_behind place ended r e =
+    zero_cases place ended r (is_silent r) (lacks_data place ended r) refl refl e
+
+empty_cases : (silent lost : Bool) (ended other : ℕ) → (silent ≡ true) ⊎ (lost ≡ true) → ended ≡ 0
+    → cond (silent || lost) ended other ≡ 0
+empty_cases false false ended other (inl e) none = absurd cc
+empty_cases false false ended other (inr e) none = absurd cc
+empty_cases _ _ ended other empty none = none
+
+-- ---- after several
+
+at_or_before : (j i : ℕ) → j < suc i → (j < i) ⊎ (j ≡ i)
+at_or_before zero zero lt = inr refl
+at_or_before zero (suc i) lt = inl (omega arith)
+at_or_before (suc j) zero lt = absurd (omega (arith, lt))
+at_or_before (suc j) (suc i) lt = ⊎_elim (λ before. inl (omega (arith, before)))
+    (λ same. inr (ap suc same)) (at_or_before j i (omega (arith, lt)))
+
+module _ (head : Option Head) (rows : List Row) where
+  abbrev IsEmptyAt : ℕ → Row → Type 0
+  IsEmptyAt j q = (is_silent q ≡ true) ⊎ (is_lost head rows j q ≡ true)
+
+  here_by : (i j : ℕ) (q : Row) (o : Option Row) → slice_get rows i ≡ o
+      → ((r : Row) → o ≡ Some r → IsEmptyAt i r) → j ≡ i → slice_get rows j ≡ Some q → IsEmptyAt j q
+  here_by i j q o is each same found = subst (λ n. IsEmptyAt n q) (sym same)
+      (each q (sym is ∙ ap (slice_get rows) (sym same) ∙ found))
+
+  step : (i : ℕ) (o : Option Row) → slice_get rows i ≡ o
+      → (data_end_before head rows i ≡ 0 → AreSilentOrLost head rows i)
+      → data_end_after (place head rows i) (data_end_before head rows i) o ≡ 0
+      → AreSilentOrLost head rows (suc i)
+  step i None is before e = λ j q lt found.
+      ⊎_elim (λ earlier. before e j q earlier found)
+      (λ same. here_by i j q None is (λ r some. absurd cc) same found) (at_or_before j i lt)
+  step i (Some r) is before e = λ j q lt found.
+      let parts = zero_behind (place head rows i) (data_end_before head rows i) r e in
+      ⊎_elim (λ earlier. before parts.0 j q earlier found)
+      (λ same. here_by i j q (Some r) is (λ p some. let one : r ≡ p = cc in
+      subst (IsEmptyAt i) one parts.1) same found) (at_or_before j i lt)
+
+  -- if no main data end after 0 before a frame, those before it are silent or lost
+  pub none-empty : (i : ℕ) → data_end_before head rows i ≡ 0 → AreSilentOrLost head rows i
+  unfolding data_end_before
+  none-empty zero e = λ j q lt found. absurd (omega (arith, lt))
+  none-empty (suc i) e = step i (slice_get rows i) refl (none-empty i) e
+
+  behind_empty : (i : ℕ) (o : Option Row) → slice_get rows i ≡ o → data_end_before head rows i ≡ 0
+      → ((r : Row) → slice_get rows i ≡ Some r → IsEmptyAt i r)
+      → data_end_after (place head rows i) (data_end_before head rows i) o ≡ 0
+  behind_empty i None is none each = none
+  behind_empty i (Some r) is none each = empty_cases (is_silent r) (is_lost head rows i r)
+      (data_end_before head rows i) (end_of_data (place head rows i) r) (each r is) none
+
+  -- and if they are, none end after 0
+  pub empty-none : (i : ℕ) → AreSilentOrLost head rows i → data_end_before head rows i ≡ 0
+  unfolding data_end_before
+  empty-none zero all = refl
+  empty-none (suc i) all =
+      behind_empty i (slice_get rows i) refl (empty-none i
+      (λ j q lt found. all j q (omega (arith, lt)) found)) (λ r found. all i r (omega arith) found)
+
+  -- ---- one frame
+
+  -- a lost frame points too far back, and those before it are silent or lost
+  pub lost-leads : (i : ℕ) (r : Row) → is_lost head rows i r ≡ true
+      → (points_too_far (place head rows i) r ≡ true) × AreSilentOrLost head rows i
+  lost-leads i r lost =
+      let parts =
+      and_parts (data_end_before head rows i == 0) (points_too_far (place head rows i) r) lost in
+      (parts.1, none-empty i (eqb-true (data_end_before head rows i) 0 parts.0))
+
+  -- and such a frame is lost
+  pub leads-lost : (i : ℕ) (r : Row) → (points_too_far (place head rows i) r ≡ true)
+      × AreSilentOrLost head rows i → is_lost head rows i r ≡ true
+  leads-lost i r leads =
+      and_from (data_end_before head rows i == 0) (points_too_far (place head rows i) r)
+      (eq-eqb (data_end_before head rows i) 0 (empty-none i leads.1)) leads.0

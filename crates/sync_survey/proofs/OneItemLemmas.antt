@@ -1,0 +1,136 @@
+-- Bytes begin with one item at most.
+use Rattle.std.proofs.Common.{ap, arith, Bool, cond, drop, Err, false, get_or, length, List, None}
+use Rattle.std.proofs.Common.{Option, refl, Result, Some, subst, sym, take, true, ℕ, [], ◌*◌, ◌++◌}
+use Rattle.std.proofs.Common.{◌+◌, ◌<◌, ◌==◌, ◌^◌, ◌∙◌, ◌∷◌, ◌≡◌, ◌≢◌, ◌≤◌}
+use Rattle.std.proofs.{Math.Seq.take-append-add, lemmas.Bool.{and_parts, eqb-true, leb-true}}
+use Rattle.std.proofs.lemmas.List.{length-take}
+use Rattle.bit_fields.proofs.BitsLemmas.{AreBelow-take, AreBits-bits, bits-cons, length-bits}
+use Rattle.bit_fields.proofs.BitsLemmas.{length-bits_of, number-append, number-below}
+use Rattle.bit_fields.{proofs.BitsLemmas.number-bits_of-below, specs.Bits.{bits, bits_of, number}}
+use Rattle.bit_fields.specs.Groups.{group}
+use Rattle.frame_header.{proofs.HeaderLemmas.header_in-no, specs.Fields.HeaderFields}
+use Rattle.frame_header.specs.Reading.{header_at, header_in, is_readable}
+use Rattle.frame_header.specs.declared.header.NotHeader.{NotHeader, TheVariants.No}
+use Rattle.sync_survey.specs.Items.{block_or_item, byte_item, header_front, header_or_item}
+use Rattle.sync_survey.specs.{Items.{IsItemFront, item_at, item_front}, declared.items.Item.Item}
+use Rattle.sync_survey.specs.declared.items.Item.TheVariants.{Block, End, Nothing, Zero}
+use Rattle.tag_blocks.proofs.BlocksLemmas.{block_front-first, block_front-not_zero, first_byte}
+use Rattle.tag_blocks.specs.{Blocks.block_front, declared.block.Block.Block as TagBlock}
+use Rattle.tag_blocks.specs.declared.block.Kind.{Kind, TheVariants.Id3v2}
+
+-- ---- the first byte of a header
+
+-- eleven ones begin with a byte of ones
+sync_byte : (byte next : ℕ) (rest : List ℕ) → byte < 256
+    → group 0 11 (bits (byte ∷ next ∷ rest)) ≡ 2047 → byte ≡ 255
+unfolding group
+sync_byte byte next rest below sync =
+    let eight : length (bits_of 8 byte) ≡ 8 = length-bits_of 8 byte in
+    let behind = bits (next ∷ rest) in
+    let front : take 11 (bits (byte ∷ next ∷ rest)) ≡ bits_of 8 byte ++ take 3 behind =
+    ap (take 11) (bits-cons byte (next ∷ rest)) ∙ ap (λ n. take (n + 3) (bits_of 8 byte ++ behind))
+    (sym eight) ∙ take-append-add (bits_of 8 byte) behind 3 in
+    let three : length (take 3 behind) ≡ 3 =
+    omega (arith, length-take 3 behind, length-bits (next ∷ rest)) in
+    let whole : number (take 11 (bits (byte ∷ next ∷ rest))) ≡ byte * 8 + number (take 3 behind) =
+    ap number front ∙ number-append (bits_of 8 byte) (take 3 behind)
+    ∙ (λ i. number-bits_of-below 8 byte below i * 2 ^ three i + number (take 3 behind)) in
+    let few : number (take 3 behind) < 8 = subst (λ n. number (take 3 behind) < 2 ^ n) three
+    (number-below (take 3 behind) (AreBelow-take 2 3 behind (AreBits-bits (next ∷ rest)))) in
+    omega (arith, few, sym whole ∙ sync)
+
+readable_sync : (h : List ℕ) → is_readable h ≡ true → group 0 11 h ≡ 2047
+unfolding is_readable
+readable_sync h is =
+    eqb-true _ _ (and_parts _ _ (and_parts _ _ (and_parts _ _ (and_parts _ _ is).0).0).0).0
+
+readable_cases : (h : List ℕ) (b : Bool) → is_readable h ≡ b → header_in h ≢ Err No
+    → is_readable h ≡ true
+readable_cases h true is header = is
+readable_cases h false is header = absurd (header (header_in-no h is))
+
+-- bytes that don't begin with ff are no header
+no_header_by : (b : Bool) (r : Result HeaderFields NotHeader) → (b ≡ true → r ≡ Err No)
+    → cond b r (Err No) ≡ Err No
+no_header_by true r none = none refl
+no_header_by false r none = refl
+
+result_cases : (r : Result HeaderFields NotHeader) → (r ≢ Err No → ⊥) → r ≡ Err No
+result_cases (Err No) not = refl
+result_cases _ not = absurd (not (λ e. cc))
+
+four_bytes : (bytes : List ℕ) → get_or bytes 0 0 < 255 → 4 ≤ length bytes
+    → header_at (take 4 bytes) ≡ Err No
+unfolding header_at
+four_bytes (a ∷ b ∷ rest) below long =
+    result_cases _ (λ header. let ones = sync_byte a b (take 2 rest) (omega (arith, below))
+    (readable_sync _ (readable_cases _ _ refl header)) in omega (arith, ones, below))
+four_bytes _ below long = absurd (omega (arith, long))
+
+-- bytes that don't begin with ff begin with no header
+pub no_header : (bytes : List ℕ) → get_or bytes 0 0 < 255 → header_front bytes ≡ Err No
+unfolding header_front
+no_header bytes below =
+    no_header_by _ _ (λ long. four_bytes bytes below (leb-true 4 (length bytes) long))
+
+-- ---- the first byte of a block
+
+below_ones : (kind : Kind) → first_byte kind < 255
+below_ones Id3v2 = omega arith
+below_ones _ = omega arith
+
+block_front-below : (bytes : List ℕ) (b : TagBlock) → block_front bytes ≡ Some b
+    → get_or bytes 0 0 < 255
+block_front-below bytes b is = omega (arith, block_front-first bytes b is, below_ones b.kind)
+
+option_cases : (o : Option TagBlock) → ((b : TagBlock) → o ≡ Some b → ⊥) → o ≡ None
+option_cases None not = refl
+option_cases (Some b) not = absurd (not b refl)
+
+no_block : (bytes : List ℕ) → get_or bytes 0 0 ≡ 0 → block_front bytes ≡ None
+no_block bytes first =
+    option_cases (block_front bytes) (λ b is. block_front-not_zero bytes b is first)
+
+-- ---- one item
+
+byte_cases : (b : ℕ) (zero : Bool) → (b == 0) ≡ zero → (b ∷ [] ≢ 0 ∷ [])
+    → cond zero Zero Nothing ≡ Nothing
+byte_cases b true is other = absurd (other (ap (λ x. x ∷ []) (eqb-true b 0 is)))
+byte_cases b false is other = refl
+
+by_byte-nothing : (bytes : List ℕ) → bytes ≢ [] → take 1 bytes ≢ 0 ∷ [] → byte_item bytes ≡ Nothing
+by_byte-nothing [] some other = absurd (some refl)
+by_byte-nothing (b ∷ bs) some other = byte_cases b (b == 0) refl other
+
+by_byte-zero : (bytes : List ℕ) → take 1 bytes ≡ 0 ∷ []
+    → (get_or bytes 0 0 ≡ 0) × (byte_item bytes ≡ Zero)
+by_byte-zero [] first = absurd cc
+by_byte-zero (b ∷ bs) first = let same : b ≡ 0 = cc in (same, ap (λ x. byte_item (x ∷ bs)) same)
+
+-- an item with which bytes begin is the one that the definition finds
+pub stands-only : (bytes : List ℕ) (item : Item) → IsItemFront bytes item → item ≡ item_front bytes
+unfolding item_front
+stands-only bytes (Block b) here =
+    let header = no_header bytes (block_front-below bytes b here) in
+    sym (λ i. header_or_item (header i) (block_or_item (here i) (byte_item bytes)))
+stands-only bytes Zero here =
+    let first = by_byte-zero bytes here in
+    let header = no_header bytes (omega (arith, first.0)) in
+    let block = no_block bytes first.0 in
+    sym ((λ i. header_or_item (header i) (block_or_item (block i) (byte_item bytes))) ∙ first.1)
+stands-only bytes End here =
+    let first : get_or bytes 0 0 ≡ 0 = ap (λ xs. get_or xs 0 0) here in
+    let header = no_header bytes (omega (arith, first)) in
+    let block = no_block bytes first in
+    sym (λ i. header_or_item (header i) (block_or_item (block i) (byte_item (here i))))
+stands-only bytes Nothing here =
+    sym ((λ i. header_or_item (here.0 i) (block_or_item (here.1 i) (byte_item bytes)))
+    ∙ by_byte-nothing bytes here.2 here.3)
+stands-only bytes _ here =
+    ap (λ r. header_or_item r (block_or_item (block_front bytes) (byte_item bytes))) (sym here)
+
+-- so it is at an offset of a file
+pub stands-only_at : (file : List ℕ) (at : ℕ) (item : Item) → IsItemFront (drop at file) item
+    → item ≡ item_at file at
+unfolding item_at
+stands-only_at file at item here = stands-only (drop at file) item here

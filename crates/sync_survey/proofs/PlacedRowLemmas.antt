@@ -1,0 +1,280 @@
+-- The main data of the frames so far are where they may be, whatever is told of the file.
+use Rattle.std.proofs.Common.{ap, ap₂, arith, false, length, List, map, None, not, Ok, Option}
+use Rattle.std.proofs.Common.{option_map, refl, slice_get, Some, subst, suc, sum_by, sym, take}
+use Rattle.std.proofs.{Common.{zero, ℕ, [], ◌++◌, ◌+◌, ◌<◌, ◌∙◌, ◌∷◌, ◌≡◌}, lemmas.Bool.not-false}
+use Rattle.std.{proofs.lemmas.List.Sums.sum_by-cons, specs.List.{cons_option, enumerate_from}}
+use Rattle.frame_header.proofs.{ClassLemmas.same_class-is, HeaderLemmas.IsClass-class_of}
+use Rattle.frame_header.specs.{Fields.{ClassFields, IsClass, IsHeader, same_class}, Tables.class_of}
+use Rattle.side_info.{proofs.FrameLemmas.fits-side_in, specs.Side.SideFits}
+use Rattle.sync_survey.proofs.FaultsLemmas.{each_push, end-more, end-next, none-of, place-more}
+use Rattle.sync_survey.proofs.FaultsLemmas.{place-next, place-none}
+use Rattle.sync_survey.proofs.ItemsLemmas.{header_front-in_range, stands-at}
+use Rattle.sync_survey.proofs.{RunsLemmas.{item_of-is, run-ends}, StartLemmas.start-first}
+use Rattle.sync_survey.proofs.SurveyPartsLemmas.{all_faults-none_sound, AreSound, faults-none_sound}
+use Rattle.sync_survey.proofs.SurveyPartsLemmas.{frames_from, IsSound, sound-no_data}
+use Rattle.sync_survey.proofs.SurveyPartsLemmas.{surveyed-parts}
+use Rattle.sync_survey.specs.Faults.{class_from, data_faults, faults_at, first_of, survey_fields}
+use Rattle.sync_survey.specs.{Faults.SurveyFields, Items.{item_at, size_of}, Looks.KeepsFrame}
+use Rattle.sync_survey.specs.MainData.{data_end_after, data_end_before, head_area, lacks_data}
+use Rattle.sync_survey.specs.MainData.{marked_row, marked_rows, own_area, place, row_of, rows_of}
+use Rattle.sync_survey.specs.{Row.Row, Runs.{AreEndToEnd, frame_of_item, frames_of, PlacedItem}}
+use Rattle.sync_survey.specs.{Start.start_of, Survey.{AreWellPlaced, IsWellPlaced}}
+use Rattle.sync_survey.specs.Walk.{head_of, numbered_frames, stream_run}
+use Rattle.sync_survey.specs.declared.{found.SurveySoFar.SurveySoFar, items.Item.Item}
+use Rattle.sync_survey.specs.declared.{items.Item.TheVariants.Frame, places.Head.Head}
+use Rattle.sync_survey.specs.declared.places.{PlacedFrame.PlacedFrame, Start.Start}
+use Rattle.sync_survey.specs.declared.{rows.ReservoirState.ReservoirState, runs.Region.Region}
+use Rattle.sync_survey.specs.declared.runs.Region.TheVariants.{Stream}
+
+-- ---- the same class
+
+class-sound : (c d : ClassFields) → not (same_class c d) ≡ false → c ≡ d
+class-sound c d e = same_class-is c d (not-false (same_class c d) e)
+
+-- ---- one frame more
+
+-- the frames so far are well placed, and the two numbers are place and end after them
+pub record ArePlacedTo (head : Option Head) (class : ClassFields) (rows : List Row)
+    (place_now ended : ℕ) : Type 0 where
+  pub frames : AreWellPlaced head class rows
+  pub place_is : place_now ≡ place head rows (length rows)
+  pub ended_is : ended ≡ data_end_before head rows (length rows)
+
+-- before the first frame the place is after the head's area
+pub placed_none : (head : Option Head) (class : ClassFields) (place_now : ℕ)
+    → place_now ≡ head_area head → ArePlacedTo head class [] place_now 0
+unfolding data_end_before
+placed_none head class place_now is =
+    record { frames = λ i r found. absurd cc; place_is = is ∙ place-none head; ended_is = refl }
+
+-- the same frames have the same place and end
+pub placed_same : (head : Option Head) (class : ClassFields) (old new : List Row)
+    (before behind : ReservoirState) → new ≡ old → behind ≡ before
+    → ArePlacedTo head class old before.place before.ended
+    → ArePlacedTo head class new behind.place behind.ended
+placed_same head class old new before behind same stays placed =
+    subst (λ (b : ReservoirState). ArePlacedTo head class new b.place b.ended) (sym stays)
+    (subst (λ rows. ArePlacedTo head class rows before.place before.ended) (sym same) placed)
+
+-- by place and end
+pub placed_by : (head : Option Head) (class : ClassFields) (rows : List Row) (i : ℕ) (r : Row)
+    (place_now ended : ℕ) → place_now ≡ place head rows i → ended ≡ data_end_before head rows i
+    → IsHeader r.header → class_of r.header ≡ class → SideFits class r.side
+    → r.lost ≡ lacks_data place_now ended r → data_faults place_now ended r ≡ []
+    → IsWellPlaced head class rows i r
+placed_by head class rows i r place_now ended at ends known same fits mark none = record {
+  known = known;
+  class_is = same;
+  fits = fits;
+  mark = mark ∙ ap₂ (λ m n. lacks_data m n r) at ends;
+  sound = sym (ap₂ (λ m n. data_faults m n r) at ends) ∙ none;
+}
+
+-- those before stay
+placed_before : (head : Option Head) (class : ClassFields) (rows more : List Row) (i : ℕ) (r : Row)
+    → i < length rows → IsWellPlaced head class rows i r
+    → IsWellPlaced head class (rows ++ more) i r
+placed_before head class rows more i r lt is =
+    placed_by head class (rows ++ more) i r (place head rows i) (data_end_before head rows i)
+    (sym (place-more head rows more i (omega (arith, lt))))
+    (sym (end-more head rows more i (omega (arith, lt))))
+    is.known is.class_is is.fits is.mark is.sound
+
+module _ (head : Option Head) (class : ClassFields) (said allowed : ℕ) (r : Row) (rows : List Row)
+    (place_now ended count : ℕ) (placed : ArePlacedTo head class rows place_now ended)
+    (known : IsHeader r.header)
+    (none : first_of (faults_at said class allowed place_now ended count r) ≡ None)
+    (fits : SideFits (class_of r.header) r.side) where
+  -- the frame with its mark
+  abbrev frame : Row
+  frame = record r { lost = lacks_data place_now ended r }
+
+  sound : IsSound said class allowed place_now ended count r
+  sound = faults-none_sound said class allowed place_now ended count r (none-of _ none)
+
+  class_is : class_of r.header ≡ class
+  class_is = class-sound (class_of r.header) class sound.same
+
+  last : IsWellPlaced head class (rows ++ frame ∷ []) (length rows) frame
+  last = placed_by head class (rows ++ frame ∷ []) (length rows) frame place_now ended
+      (placed.place_is ∙ sym (place-more head rows (frame ∷ []) (length rows) (omega arith)))
+      (placed.ended_is ∙ sym (end-more head rows (frame ∷ []) (length rows) (omega arith)))
+      known class_is (subst (λ c. SideFits c r.side) class_is fits) refl
+      (sound-no_data said class allowed place_now ended count r sound)
+
+  each : (i : ℕ) (q : Row) → slice_get (rows ++ frame ∷ []) i ≡ Some q
+      → IsWellPlaced head class (rows ++ frame ∷ []) i q
+  each = each_push (IsWellPlaced head class (rows ++ frame ∷ [])) rows frame (λ i q before found.
+      placed_before head class rows (frame ∷ []) i q before (placed.frames i q found)) last
+
+  one_more : ArePlacedTo head class (rows ++ frame ∷ []) (place_now + own_area r.header)
+      (data_end_after place_now ended (Some r))
+  one_more = record {
+    frames = each;
+    place_is = omega (arith, placed.place_is, place-next head rows frame);
+    ended_is = ap₂ (λ m n. data_end_after m n (Some frame)) placed.place_is placed.ended_is
+        ∙ sym (end-next head rows frame);
+  }
+
+-- a frame that was kept is well placed after those before it
+pub placed_next : (head : Option Head) (class : ClassFields) (said allowed : ℕ) (r : Row)
+    (old new : SurveySoFar) → IsHeader r.header → KeepsFrame said class allowed r old new
+    → ArePlacedTo head class old.rows.items old.before.place old.before.ended
+    → ArePlacedTo head class new.rows.items new.before.place new.before.ended
+placed_next head class said allowed r old new known keeps placed =
+    let more = one_more head class said allowed r old.rows.items old.before.place old.before.ended
+    (length old.rows.items) placed known keeps.sound keeps.fits in
+    subst (λ n. ArePlacedTo head class new.rows.items new.before.place n) (sym keeps.ended)
+    (subst (λ n. ArePlacedTo head class new.rows.items n
+    (data_end_after old.before.place old.before.ended (Some r))) (sym keeps.place)
+    (subst (λ l. ArePlacedTo head class l (old.before.place + own_area r.header)
+    (data_end_after old.before.place old.before.ended (Some r))) (sym keeps.rows) more))
+
+-- ---- the frames of a file without fault
+
+-- marks change no place and no end
+module _ (head : Option Head) (rows : List Row) where
+  abbrev marks_from : ℕ → List Row → List Row
+  marks_from n xs = map (λ (p : ℕ × Row). marked_row head rows p.0 p.1) (enumerate_from n xs)
+
+  abbrev areas_in : List Row → ℕ
+  areas_in l = sum_by (λ (r : Row). own_area r.header) l
+
+  areas-marked : (i n : ℕ) (xs : List Row)
+      → areas_in (take i (marks_from n xs)) ≡ areas_in (take i xs)
+  areas-marked (suc i) n (x ∷ xs) =
+      sum_by-cons (λ (r : Row). own_area r.header) (marked_row head rows n x)
+      (take i (marks_from (n + 1) xs))
+      ∙ ap (λ m. own_area x.header + m) (areas-marked i (n + 1) xs)
+      ∙ sym (sum_by-cons (λ (r : Row). own_area r.header) x (take i xs))
+  areas-marked _ n _ = refl
+
+  get-marked : (i n : ℕ) (xs : List Row)
+      → slice_get (marks_from n xs) i ≡ option_map (marked_row head rows (n + i)) (slice_get xs i)
+  get-marked i n [] = refl
+  get-marked zero n (x ∷ xs) = ap (λ m. Some (marked_row head rows m x)) (omega arith)
+  get-marked (suc i) n (x ∷ xs) = get-marked i (n + 1) xs
+      ∙ ap (λ m. option_map (marked_row head rows m) (slice_get xs i)) (omega arith)
+
+  -- the place of a frame is the same
+  pub place-marked : (i : ℕ) → place head (marked_rows head rows) i ≡ place head rows i
+  unfolding place marked_rows
+  place-marked i = ap (λ m. head_area head + m) (areas-marked i 0 rows)
+
+  -- the frame at an index is the one there, marked
+  pub found-marked : (i : ℕ)
+      → slice_get (marked_rows head rows) i ≡ option_map (marked_row head rows i) (slice_get rows i)
+  unfolding marked_rows
+  found-marked i = get-marked i 0 rows
+      ∙ ap (λ m. option_map (marked_row head rows m) (slice_get rows i)) (omega arith)
+
+  behind-marked : (i m n : ℕ) (o : Option Row)
+      → data_end_after m n (option_map (marked_row head rows i) o) ≡ data_end_after m n o
+  behind-marked i m n None = refl
+  behind-marked i m n (Some r) = refl
+
+  -- the end before a frame is the same
+  pub end-marked : (i : ℕ)
+      → data_end_before head (marked_rows head rows) i ≡ data_end_before head rows i
+  unfolding data_end_before
+  end-marked zero = refl
+  end-marked (suc i) =
+      ap (λ o. data_end_after (place head (marked_rows head rows) i)
+      (data_end_before head (marked_rows head rows) i) o) (found-marked i)
+      ∙ behind-marked i (place head (marked_rows head rows) i)
+      (data_end_before head (marked_rows head rows) i)
+      (slice_get rows i)
+      ∙ ap₂ (λ m n. data_end_after m n (slice_get rows i)) (place-marked i) (end-marked i)
+
+  -- what is made of a frame that may be there was made of one that is
+  pub from_some : (f : Row → Row) (o : Option Row) (q : Row) → option_map f o ≡ Some q
+      → (r : Row) × (o ≡ Some r) × (f r ≡ q)
+  from_some f None q e = absurd cc
+  from_some f (Some r) q e = (r, refl, cc)
+
+row_fits : (file : List ℕ) (ps : List PlacedFrame) (i : ℕ) (r : Row) → IsClass (class_of r.header)
+    → slice_get (rows_of file ps) i ≡ Some r → SideFits (class_of r.header) r.side
+row_fits file [] i r class is = absurd cc
+row_fits file (p ∷ ps) zero r class is =
+    let same : row_of file p ≡ r = cc in
+    subst (λ (q : Row). SideFits (class_of q.header) q.side) same
+    (fits-side_in p.header _ (subst (λ (q : Row). IsClass (class_of q.header)) (sym same) class))
+row_fits file (p ∷ ps) (suc i) r class is = row_fits file ps i r class is
+
+class-start : (file : List ℕ) (start : Start) → start_of file ≡ Ok start
+    → IsClass (class_from start)
+class-start file start is =
+    let h = start.first.header in
+    IsClass-class_of h (header_front-in_range _ h
+    (stands-at file start.first.offset (Frame h) (start-first file start is).frame.is))
+
+-- the headers of items that follow end to end
+AllKnown : List PlacedFrame → Type 0
+AllKnown [] = Unit {0}
+AllKnown (p ∷ ps) = IsHeader p.header × AllKnown ps
+
+known_cons : (file : List ℕ) (at : ℕ) (item : Item) (ps : List PlacedFrame) → item_at file at ≡ item
+    → AllKnown ps → AllKnown (cons_option (frame_of_item at item) ps)
+unfolding AllKnown
+known_cons file at (Frame h) ps is behind =
+    (header_front-in_range _ h (stands-at file at (Frame h) is), behind)
+known_cons file at _ ps is behind = behind
+
+known_items : (part : Region) (file : List ℕ) (from : ℕ) (ps : List PlacedItem) (to : ℕ)
+    → AreEndToEnd part file from ps to → AllKnown (frames_of ps)
+unfolding AllKnown
+known_items part file from [] to ends = tt
+known_items part file from (p ∷ ps) to ends =
+    known_cons file p.offset p.item (frames_of ps) (item_of-is part file p.offset p.item ends.1).is
+    (known_items part file (p.offset + size_of p.item) ps to ends.2)
+
+known_numbered : (head : Option Head) (ps : List PlacedFrame) → AllKnown ps
+    → AllKnown (numbered_frames head ps)
+unfolding AllKnown
+known_numbered (Some head) (p ∷ ps) all = all.1
+known_numbered _ _ all = all
+
+row_known : (file : List ℕ) (ps : List PlacedFrame) (i : ℕ) (r : Row) → AllKnown ps
+    → slice_get (rows_of file ps) i ≡ Some r → IsHeader r.header
+unfolding AllKnown
+row_known file [] i r all is = absurd cc
+row_known file (p ∷ ps) zero r all is =
+    let same : row_of file p ≡ r = cc in
+    subst (λ (q : Row). IsHeader q.header) same all.0
+row_known file (p ∷ ps) (suc i) r all is = row_known file ps i r all.1 is
+
+well_placed : (file : List ℕ) (allowed : ℕ) (start : Start) (head : Option Head)
+    (ps : List PlacedFrame) → start_of file ≡ Ok start → AllKnown ps
+    → AreSound file head (class_from start) allowed (rows_of file ps)
+    → AreWellPlaced head (class_from start) (marked_rows head (rows_of file ps))
+well_placed file allowed start head ps begins all sound = λ i q found.
+    let rows : List Row = rows_of file ps in
+    let parts = from_some head rows (marked_row head rows i) (slice_get rows i) q
+    (sym (found-marked head rows i) ∙ found) in
+    let r : Row = parts.0 in
+    let here = sound i r parts.1 in
+    let same = class-sound (class_of r.header) (class_from start) here.same in
+    let fits =
+    row_fits file ps i r (subst IsClass (sym same) (class-start file start begins)) parts.1 in
+    subst (IsWellPlaced head (class_from start) (marked_rows head rows) i) parts.2
+    (placed_by head (class_from start) (marked_rows head rows) i (marked_row head rows i r)
+    (place head
+    rows i) (data_end_before head rows i) (sym (place-marked head rows i))
+    (sym (end-marked head rows i))
+    (row_known file ps i r all parts.1) same (subst (λ c. SideFits c r.side) same fits) refl
+    (sound-no_data _ (class_from start) allowed (place head rows i)
+    (data_end_before head rows i) i r here))
+
+-- the frames of a file without fault are well placed
+pub surveyed-placed : (file : List ℕ) (allowed : ℕ) (s : SurveyFields)
+    → survey_fields file allowed ≡ Ok s → AreWellPlaced s.head s.class s.frames
+surveyed-placed file allowed s e =
+    let parts = surveyed-parts file allowed s e in
+    let start = parts.0 in
+    let head = head_of file start.first in
+    let stream = stream_run file start in
+    let all = known_numbered head (frames_of stream.items) (known_items Stream file
+    start.first.offset stream.items stream.stop (run-ends Stream file start.first.offset)) in
+    let sound = all_faults-none_sound file head (class_from start) allowed _ parts.1.frames in
+    subst (λ (t : SurveyFields). AreWellPlaced t.head t.class t.frames) parts.2
+    (well_placed file allowed start head (frames_from file start) parts.1.start_is all sound)

@@ -1,0 +1,270 @@
+-- Items that follow end to end: one item more, and what they are together.
+use Rattle.std.proofs.Common.{ap, append-nil, append_assoc, arith, Bool, cond, drop, false, length}
+use Rattle.std.proofs.Common.{List, None, Option, option_to_list, refl, Some, subst, suc, sym, true}
+use Rattle.std.proofs.Common.{zero, ℕ, [], ◌++◌, ◌+◌, ◌-◌, ◌<◌, ◌∙◌, ◌∷◌, ◌≡◌, ◌≤◌}
+use Rattle.std.proofs.lemmas.Bool.{and_parts, false≢true, le-leb, leb-true}
+use Rattle.std.proofs.lemmas.List.{drop-drop, take-append-drop, Elements.filter_map-append}
+use Rattle.std.specs.List.{cons_option}
+use Rattle.sync_survey.{proofs.ItemsLemmas.size-some, specs.Items.{item_at, item_fits, size_of}}
+use Rattle.sync_survey.specs.Runs.{AreEndToEnd, belongs, block_of_item, blocks_of, bytes_of_items}
+use Rattle.sync_survey.specs.Runs.{frame_of_item, frames_of, item_bytes_in, item_if_whole, item_run}
+use Rattle.sync_survey.specs.Runs.{ItemRun, PlacedItem, run_onward, run_up_to, run_with_item}
+use Rattle.sync_survey.specs.{Runs.{stopped_run, whole_item_at}, declared.items.Item.Item}
+use Rattle.sync_survey.specs.declared.{items.Item.TheVariants.Frame, runs.Region.Region}
+use Rattle.sync_survey.specs.declared.runs.Region.TheVariants.{Front}
+
+-- ---- one item
+
+-- a whole item of the part is at the offset
+pub record IsItemOf (part : Region) (file : List ℕ) (at : ℕ) (item : Item) : Type 0 where
+  pub is : item_at file at ≡ item
+  pub belongs : belongs part item ≡ true
+  pub within : at + size_of item ≤ length file
+  pub some : 0 < size_of item
+
+-- what is given only where it is whole is whole and the item
+pub whole_cases : (b : Bool) (i j : Item) → cond b (Some i) None ≡ Some j → (b ≡ true) × (i ≡ j)
+whole_cases true i j e = (refl, cc)
+whole_cases false i j e = absurd cc
+
+-- an item that fits is within the file
+pub within_file : (part : Region) (file : List ℕ) (at : ℕ) (item : Item) → item_at file at ≡ item
+    → belongs part item ≡ true → item_fits file at item ≡ true → IsItemOf part file at item
+within_file part file at item is belongs item_fits =
+    let some : 0 < size_of item = size-some part file at item is belongs in
+    record {
+      is = is;
+      belongs = belongs;
+      within = omega (arith, some, leb-true (size_of item) (length file - at) item_fits);
+      some = some;
+    }
+
+-- an item of a part at an offset is a whole one
+pub item_of-is : (part : Region) (file : List ℕ) (at : ℕ) (item : Item)
+    → whole_item_at part file at ≡ Some item → IsItemOf part file at item
+unfolding whole_item_at
+item_of-is part file at item e =
+    let cases = whole_cases _ _ item e in
+    let tests = and_parts _ _ cases.0 in
+    subst (IsItemOf part file at)
+    cases.1 (within_file part file at (item_at file at) refl tests.0 tests.1)
+
+whole_item : (part : Region) (file : List ℕ) (at : ℕ) (item found : Item) → found ≡ item
+    → belongs part item ≡ true → item_fits file at item ≡ true
+    → item_if_whole part file at found ≡ Some item
+whole_item part file at item found is belongs item_fits =
+    ap (item_if_whole part file at) is ∙ rw (belongs, item_fits) refl
+
+-- and a whole one at an offset is that item
+pub item_of-whole : (part : Region) (file : List ℕ) (at : ℕ) (item : Item) → item_at file at ≡ item
+    → belongs part item ≡ true → at + size_of item ≤ length file
+    → whole_item_at part file at ≡ Some item
+unfolding whole_item_at
+item_of-whole part file at item is belongs within =
+    whole_item part file at item (item_at file at) is belongs (le-leb _ _ (omega (arith, within)))
+
+none_behind : (part : Region) (file : List ℕ) (at : ℕ) (o : Option Item)
+    → whole_item_at part file at ≡ o → length file ≤ at → o ≡ None
+none_behind part file at None is past = refl
+none_behind part file at (Some item) is past = let here = item_of-is part file at item is in
+    absurd (omega (arith, here.within, here.some))
+
+-- at the end of the file and past it no item begins
+pub item_of-past : (part : Region) (file : List ℕ) (at : ℕ) → length file ≤ at
+    → whole_item_at part file at ≡ None
+item_of-past part file at past = none_behind part file at (whole_item_at part file at) refl past
+
+-- ---- a run
+
+onward-same : (at : ℕ) (next later : ℕ → ItemRun) (o : Option Item)
+    → ((item : Item) → o ≡ Some item → next (at + size_of item) ≡ later (at + size_of item))
+    → run_onward at next o ≡ run_onward at later o
+onward-same at next later None same = refl
+onward-same at next later (Some item) same = ap (run_with_item at item) (same item refl)
+
+one_more : (n : ℕ) (part : Region) (file : List ℕ) (at : ℕ) → run_up_to (suc n) part file at
+    ≡ run_onward at (λ later. run_up_to n part file later) (whole_item_at part file at)
+unfolding run_up_to
+one_more n part file at = refl
+
+none_more : (part : Region) (file : List ℕ) (at : ℕ) → run_up_to zero part file at ≡ stopped_run at
+unfolding run_up_to
+none_more part file at = refl
+
+-- past the end any bound gives the same
+past : (n : ℕ) (part : Region) (file : List ℕ) (at : ℕ) → length file ≤ at
+    → run_up_to n part file at ≡ stopped_run at
+past zero part file at le = none_more part file at
+past (suc n) part file at le = one_more n part file at
+    ∙ ap (run_onward at (λ later. run_up_to n part file later)) (item_of-past part file at le)
+
+-- any bound that is at least the number of bytes left gives the same run
+enough : (m n : ℕ) (part : Region) (file : List ℕ) (at : ℕ) → length file ≤ m + at
+    → length file ≤ n + at → run_up_to m part file at ≡ run_up_to n part file at
+enough zero n part file at le le' =
+    past zero part file at (omega (arith, le)) ∙ sym (past n part file at (omega (arith, le)))
+enough (suc m) zero part file at le le' = past (suc m) part file at (omega (arith, le'))
+    ∙ sym (past zero part file at (omega (arith, le')))
+enough (suc m) (suc n) part file at le le' =
+    one_more m part file at
+    ∙ onward-same at (λ later. run_up_to m part file later) (λ later. run_up_to n part file later)
+    (whole_item_at part file at) (λ item is.
+    let here = item_of-is part file at item is in
+    enough m n part file (at + size_of item) (omega (arith, le, here.some))
+    (omega (arith, le', here.some)))
+    ∙ sym (one_more n part file at)
+
+-- a run takes the item at its offset, and goes on behind it
+pub run-step : (part : Region) (file : List ℕ) (at : ℕ)
+    → item_run part file at ≡ run_onward at (item_run part file) (whole_item_at part file at)
+unfolding item_run
+run-step part file at =
+    enough (length file) (suc (length file)) part file at (omega arith) (omega arith)
+    ∙ one_more (length file) part file at
+
+-- an item is at the offset
+pub run-next : (part : Region) (file : List ℕ) (at : ℕ) (item : Item) → whole_item_at part file at
+    ≡ Some item
+    → item_run part file at ≡ run_with_item at item (item_run part file (at + size_of item))
+run-next part file at item is = run-step part file at ∙ ap (run_onward at (item_run part file)) is
+
+-- none is there
+pub run-stopped : (part : Region) (file : List ℕ) (at : ℕ) → whole_item_at part file at ≡ None
+    → item_run part file at ≡ stopped_run at
+run-stopped part file at is = run-step part file at ∙ ap (run_onward at (item_run part file)) is
+
+-- ---- what the items of a run are together
+
+onward_ends : (part : Region) (file : List ℕ) (at : ℕ) (next : ℕ → ItemRun) (o : Option Item)
+    → whole_item_at part file at ≡ o
+    → ((later : ℕ) → AreEndToEnd part file later (next later).items (next later).stop) →
+    AreEndToEnd part file at (run_onward at next o).items (run_onward at next o).stop
+onward_ends part file at next None is ends = refl
+onward_ends part file at next (Some item) is ends = (refl, is, ends (at + size_of item))
+
+ends_up_to : (n : ℕ) (part : Region) (file : List ℕ) (at : ℕ)
+    → AreEndToEnd part file at (run_up_to n part file at).items (run_up_to n part file at).stop
+unfolding run_up_to
+ends_up_to zero part file at = refl
+ends_up_to (suc n) part file at = onward_ends part file at (λ later. run_up_to n part file later)
+    (whole_item_at part file at) refl (λ later. ends_up_to n part file later)
+
+-- the items of a run follow end to end from its beginning to its stop
+pub run-ends : (part : Region) (file : List ℕ) (from : ℕ)
+    → AreEndToEnd part file from (item_run part file from).items (item_run part file from).stop
+unfolding item_run
+run-ends part file from = ends_up_to (length file) part file from
+
+-- none is after them: there are no more items than bytes
+last_onward : (part : Region) (file : List ℕ) (at : ℕ) (next : ℕ → ItemRun) (o : Option Item)
+    → whole_item_at part file at ≡ o → ((item : Item) → o ≡ Some item
+    → whole_item_at part file (next (at + size_of item)).stop ≡ None)
+    → whole_item_at part file (run_onward at next o).stop ≡ None
+last_onward part file at next None is last = is
+last_onward part file at next (Some item) is last = last item refl
+
+last_up_to : (n : ℕ) (part : Region) (file : List ℕ) (at : ℕ) → length file ≤ n + at
+    → whole_item_at part file (run_up_to n part file at).stop ≡ None
+unfolding run_up_to
+last_up_to zero part file at le = item_of-past part file at (omega (arith, le))
+last_up_to (suc n) part file at le =
+    last_onward part file at (λ later. run_up_to n part file later)
+    (whole_item_at part file at) refl
+    (λ item is. last_up_to n part file (at + size_of item)
+    (omega (arith, le, (item_of-is part file at item is).some)))
+
+-- where a run stops no further item begins
+pub run-last : (part : Region) (file : List ℕ) (from : ℕ)
+    → whole_item_at part file (item_run part file from).stop ≡ None
+unfolding item_run
+run-last part file from = last_up_to (length file) part file from (omega arith)
+
+-- items that follow end to end, with no further one after them, are the run
+pub run-only : (part : Region) (file : List ℕ) (from : ℕ) (ps : List PlacedItem) (to : ℕ)
+    → AreEndToEnd part file from ps to → whole_item_at part file to ≡ None
+    → item_run part file from ≡ record { items = ps; stop = to }
+run-only part file from [] to ends none =
+    run-stopped part file from (ap (whole_item_at part file) ends ∙ none) ∙ ap stopped_run ends
+run-only part file from (p ∷ ps) to ends none =
+    ap (item_run part file) (sym ends.0) ∙ run-next part file p.offset p.item ends.1
+    ∙ ap (run_with_item p.offset p.item)
+    (run-only part file (p.offset + size_of p.item) ps to ends.2 none)
+
+-- items that follow end to end are, with the bytes
+-- after them, the file's bytes from their beginning on
+pub bytes-ends : (part : Region) (file : List ℕ) (from : ℕ) (ps : List PlacedItem) (to : ℕ)
+    → AreEndToEnd part file from ps to → bytes_of_items file ps ++ drop to file ≡ drop from file
+bytes-ends part file from [] to ends = ap (λ at. drop at file) (sym ends)
+bytes-ends part file from (p ∷ ps) to ends =
+    let size = size_of p.item in
+    append_assoc (item_bytes_in file p) (bytes_of_items file ps) (drop to file)
+    ∙ ap (λ rest. item_bytes_in file p ++ rest)
+    (bytes-ends part file (p.offset + size) ps to ends.2 ∙ sym (drop-drop size p.offset file))
+    ∙ take-append-drop size (drop p.offset file)
+    ∙ ap (λ at. drop at file) ends.0
+
+-- ---- frames and blocks among the items of a run
+
+-- an item that may be there comes in front of the others
+pub cons_list : {X : Type 0} (o : Option X) (xs : List X)
+    → cons_option o xs ≡ option_to_list o ++ xs
+cons_list None xs = refl
+cons_list (Some x) xs = refl
+
+no_frame : (at : ℕ) (item : Item) → belongs Front item ≡ true → frame_of_item at item ≡ None
+no_frame at (Frame h) is = absurd (false≢true is)
+no_frame at _ is = refl
+
+front_onward : (file : List ℕ) (at : ℕ) (next : ℕ → ItemRun) (o : Option Item)
+    → whole_item_at Front file at ≡ o → ((later : ℕ) → frames_of (next later).items ≡ [])
+    → frames_of (run_onward at next o).items ≡ []
+front_onward file at next None is none = refl
+front_onward file at next (Some item) is none =
+    let here = item_of-is Front file at item is in
+    ap (λ o. cons_option o (frames_of (next (at + size_of item)).items))
+    (no_frame at item here.belongs) ∙ none (at + size_of item)
+
+front_up_to : (n : ℕ) (file : List ℕ) (at : ℕ) → frames_of (run_up_to n Front file at).items ≡ []
+unfolding run_up_to
+front_up_to zero file at = refl
+front_up_to (suc n) file at = front_onward file at (λ later. run_up_to n Front file later)
+    (whole_item_at Front file at) refl (λ later. front_up_to n file later)
+
+-- before the first frame there are none
+pub front-frames : (file : List ℕ) (from : ℕ) → frames_of (item_run Front file from).items ≡ []
+unfolding item_run
+front-frames file from = front_up_to (length file) file from
+
+-- what a frame, or a block, adds
+pub frames-next : (part : Region) (file : List ℕ) (at : ℕ) (item : Item)
+    → whole_item_at part file at ≡ Some item →
+    frames_of (item_run part file at).items
+    ≡ option_to_list (frame_of_item at item)
+    ++ frames_of (item_run part file (at + size_of item)).items
+frames-next part file at item is = ap (λ r. frames_of r.items) (run-next part file at item is)
+    ∙ cons_list (frame_of_item at item) (frames_of (item_run part file (at + size_of item)).items)
+
+-- a block that is at the offset comes first of the blocks
+pub blocks-next : (part : Region) (file : List ℕ) (at : ℕ) (item : Item)
+    → whole_item_at part file at ≡ Some item →
+    blocks_of (item_run part file at).items
+    ≡ option_to_list (block_of_item at item)
+    ++ blocks_of (item_run part file (at + size_of item)).items
+blocks-next part file at item is = ap (λ r. blocks_of r.items) (run-next part file at item is)
+    ∙ cons_list (block_of_item at item) (blocks_of (item_run part file (at + size_of item)).items)
+
+-- one item more was kept
+pub kept_more : {X : Type 0} (old here kept rest later item_if_whole : List X) → kept ≡ old ++ here
+    → rest ≡ here ++ later → old ++ rest ≡ item_if_whole → kept ++ later ≡ item_if_whole
+kept_more old here kept rest later item_if_whole e e' e'' =
+    ap (λ k. k ++ later) e ∙ append_assoc old here later ∙ ap (λ r. old ++ r) (sym e') ∙ e''
+
+-- nothing more was left to keep
+pub kept_whole : {X : Type 0} (kept rest item_if_whole : List X) → rest ≡ []
+    → kept ++ rest ≡ item_if_whole → kept ≡ item_if_whole
+kept_whole kept rest item_if_whole nothing e =
+    sym (append-nil kept) ∙ ap (λ r. kept ++ r) (sym nothing) ∙ e
+
+-- the frames of items and more items are those of the one and then of the other
+pub frames-append : (ps qs : List PlacedItem) → frames_of (ps ++ qs) ≡ frames_of ps ++ frames_of qs
+frames-append ps qs = filter_map-append (λ (p : PlacedItem). frame_of_item p.offset p.item) ps qs

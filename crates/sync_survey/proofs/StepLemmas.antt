@@ -1,0 +1,347 @@
+-- One item more is judged and kept.
+use Rattle.std.proofs.Common.{ap, append-nil, ap₂, arith, drop, Err, false, inl, inr, length}
+use Rattle.std.proofs.Common.{length-append, List, min, None, Option, option_to_list, refl, Some}
+use Rattle.std.proofs.Common.{subst, sym, ℕ, [], ◌++◌, ◌+◌, ◌<◌, ◌==◌, ◌∙◌, ◌∷◌, ◌≡◌, ◌≤◌}
+use Rattle.std.proofs.lemmas.Bool.{cases_lt, eq-eqb, true≢false}
+use Rattle.frame_header.specs.Fields.{ClassFields, HeaderFields, IsHeader}
+use Rattle.frame_header.specs.Tables.{area_of, class_of, length_of, overhead_of}
+use Rattle.outside.specs.{Counts.Counts, Files.{Files, Holds}}
+use Rattle.side_info.proofs.FrameLemmas.{side_in-take, word_said-take}
+use Rattle.side_info.specs.{Frame.{side_in, stored_crc}, Side.SideFits}
+use Rattle.sync_survey.proofs.BytesFaultLemmas.{frame_rightly}
+use Rattle.sync_survey.proofs.FaultsLemmas.{marked-length, marked-push, none-of}
+use Rattle.sync_survey.proofs.FoldersLemmas.{bytes_refusal, memory_refusal}
+use Rattle.sync_survey.proofs.{FrontLemmas.blocks_more, ItemsLemmas.{header_front-in_range, stands}}
+use Rattle.sync_survey.proofs.PlacedRowLemmas.{ArePlacedTo, placed_next, placed_same}
+use Rattle.sync_survey.proofs.ProgressLemmas.{first_fault, IsBegun, IsMarkedTo, IsSurveyedTo}
+use Rattle.sync_survey.proofs.ProgressLemmas.{passed_block, passed_frame, passed_zeros}
+use Rattle.sync_survey.proofs.{SurveyLemmas.overhead-within, SurveyPartsLemmas.faults-none_sound}
+use Rattle.sync_survey.specs.Faults.{class_from, faults_at, first_of, survey_fields}
+use Rattle.sync_survey.specs.Items.{IsItemFront, item_front, size_of}
+use Rattle.sync_survey.specs.Looks.{IsFrameFault, IsNotPassed, KeepsBlocks, KeepsFrame, KeepsItem}
+use Rattle.sync_survey.specs.Looks.{look_size, Passes, PassesFault, Shows, StopsThere}
+use Rattle.sync_survey.specs.MainData.{data_end_after, lacks_data, marked_row, marked_rows}
+use Rattle.sync_survey.specs.{MainData.{own_area, row_in, row_of}, Row.Row}
+use Rattle.sync_survey.specs.Runs.{block_of_item, blocks_of, frame_of_item, frames_of, item_run}
+use Rattle.sync_survey.specs.Survey.{BlocksAreLaid, FramesAreLaid, HasLength, IsSurveyRefusal}
+use Rattle.sync_survey.specs.SurveyFaultKinds.{RefusesRightly}
+use Rattle.sync_survey.specs.declared.{found.SurveySoFar.SurveySoFar, items.Item.Item}
+use Rattle.sync_survey.specs.declared.items.Item.TheVariants.{Block, End, Frame, Free, Nothing}
+use Rattle.sync_survey.specs.declared.{items.Item.TheVariants.Zero, places.{Head.Head, Piece.Piece}}
+use Rattle.sync_survey.specs.declared.{places.Start.Start, runs.Region.TheVariants.Stream}
+use Rattle.sync_survey.specs.declared.survey_fault.SurveyFault.{SurveyFault}
+
+-- ---- a whole frame is shown up to its area
+
+-- the header of a frame that was met has its fields in range
+pub item_header : (front : List ℕ) (item : Item) → item ≡ item_front front → (h : HeaderFields)
+    → item ≡ Frame h → IsHeader h
+item_header front item is h frame =
+    header_front-in_range front h (subst (IsItemFront front) (sym is ∙ frame) (stands front))
+
+-- what is before its area is within the frame
+pub overhead_few : (front : List ℕ) (item : Item) (h : HeaderFields) → item ≡ item_front front
+    → item ≡ Frame h → overhead_of (class_of h) h.protected ≤ length_of (class_of h) h.slot
+overhead_few front item h is frame = overhead-within h (item_header front item is h frame)
+
+-- a look at the file shows all that is before the area
+pub shown_room : (front : List ℕ) (item : Item) (h : HeaderFields) (size left : ℕ) → item
+    ≡ item_front front → item ≡ Frame h → size_of item ≤ 1441 → size_of item ≤ size → size ≤ left
+    → length front ≡ min look_size left → overhead_of (class_of h) h.protected ≤ length front
+shown_room front item h size left is frame few least within many =
+    omega (arith, overhead_few front item h is frame, ap size_of frame, few, least, within, many)
+
+-- ---- the side information and the check word that a look shows
+
+module _ (file : List ℕ) (at : ℕ) (front : List ℕ) (left : ℕ) (shows : Shows file at front left)
+    (h : HeaderFields) (few : overhead_of (class_of h) h.protected ≤ look_size) where
+  -- the row of a frame that is read from a look is that of the file
+  pub row_shown : row_in at h front ≡ row_of file (record { offset = at; header = h })
+  row_shown = ap (λ s. record { offset = at; header = h; side = s; lost = false })
+      (ap (side_in h) shows.front_is ∙ side_in-take h look_size (drop at file) few)
+
+  word_shown : stored_crc front ≡ stored_crc (drop at file)
+  word_shown = ap stored_crc shows.front_is ∙ word_said-take look_size (drop at file) (omega arith)
+
+  faults_shown : (class : ClassFields) (allowed place ended count : ℕ)
+      → first_of (faults_at (stored_crc front) class allowed place ended count (row_in at h front))
+      ≡ first_of (faults_at (stored_crc (drop at file)) class allowed place ended count
+      (row_of file (record { offset = at; header = h })))
+  faults_shown class allowed place ended count = ap₂
+      (λ said r. first_of (faults_at said class allowed place ended count r)) word_shown row_shown
+
+-- ---- one item more
+
+abbrev few_before : Item → Type 0
+few_before (Frame h) = overhead_of (class_of h) h.protected ≤ look_size
+few_before _ = Unit {0}
+
+-- a frame of at most 1,441 bytes has few bytes before its area
+pub few_by : (front : List ℕ) (item : Item) → item ≡ item_front front
+    → ((h : HeaderFields) → item ≡ Frame h → size_of item ≤ 1441) → few_before item
+few_by front (Frame h) is few = omega (arith, overhead_few front (Frame h) h is refl, few h refl)
+few_by front _ is few = tt
+
+module _ (file : List ℕ) (start : Start) (head : Option Head) (allowed : ℕ) (old : SurveySoFar)
+    (at : ℕ)
+    (so_far : IsMarkedTo file start head allowed old.rows.items old.pieces.items old.before.place
+    old.before.ended at) (front : List ℕ) (left : ℕ) (shows : Shows file at front left) where
+  abbrev IsOn : SurveySoFar → ℕ → Type 0
+  IsOn new size = IsMarkedTo file start head allowed
+      new.rows.items new.pieces.items new.before.place new.before.ended (at + size)
+
+  abbrev frames : List Row
+  frames = so_far.frames
+
+  count : length old.rows.items ≡ length frames
+  count = ap length so_far.marks ∙ marked-length head frames
+
+  same : (rows : List Row) (pieces : List Piece) (place ended : ℕ) (new : SurveySoFar) (size : ℕ)
+      → new.rows.items ≡ marked_rows head rows → new.pieces.items ≡ pieces
+      → new.before.place ≡ place → new.before.ended ≡ ended
+      → IsSurveyedTo file start head allowed rows pieces place ended (at + size) → IsOn new size
+  same rows pieces place ended new size rows_are pieces_are place_is ended_is there = record {
+    frames = rows;
+    marks = rows_are;
+    surveyed =
+        subst (λ n. IsSurveyedTo file start head allowed rows new.pieces.items new.before.place n
+        (at + size)) (sym ended_is)
+        (subst (λ n. IsSurveyedTo file start head allowed rows new.pieces.items n ended (at + size))
+        (sym place_is)
+        (subst (λ l. IsSurveyedTo file start head allowed rows l place ended (at + size))
+        (sym pieces_are) there));
+  }
+
+  blocks_kept : (blocks : List Piece) (new : SurveySoFar) (size : ℕ) → KeepsBlocks blocks old new
+      → IsSurveyedTo file start head allowed frames
+      (old.pieces.items ++ blocks) old.before.place old.before.ended (at + size) → IsOn new size
+  blocks_kept blocks new size keeps there =
+      same frames (old.pieces.items ++ blocks) old.before.place old.before.ended new size
+      (keeps.rows ∙ so_far.marks) keeps.pieces (ap (λ b. b.place) keeps.before)
+      (ap (λ b. b.ended) keeps.before) there
+
+  none_kept : (item : Item) (new : SurveySoFar) (size : ℕ) → Passes Stream file at Zero size
+      → KeepsBlocks [] old new → IsOn new size
+  none_kept item new size passes keeps =
+      blocks_kept [] new size keeps
+      (subst (λ l. IsSurveyedTo file start head allowed frames l
+      old.before.place old.before.ended (at + size)) (sym (append-nil old.pieces.items))
+      (passed_zeros file start head allowed frames
+      old.pieces.items old.before.place old.before.ended at so_far.surveyed size passes))
+
+  -- the frame is kept with the mark of its number
+  mark_is : (r : Row) → record r { lost = lacks_data old.before.place old.before.ended r }
+      ≡ marked_row head frames (length frames) r
+  mark_is r = ap₂ (λ m n. record r { lost = lacks_data m n r })
+      so_far.surveyed.place_is so_far.surveyed.ended_is
+
+  frame_kept : (h : HeaderFields) (new : SurveySoFar) (size : ℕ)
+      → overhead_of (class_of h) h.protected ≤ look_size → Passes Stream file at (Frame h) size
+      → KeepsFrame (stored_crc front) (class_from start) allowed (row_in at h front) old new
+      → IsOn new size
+  frame_kept h new size few passes keeps =
+      let row = row_shown file at front left shows h few in
+      let r = row_of file (record { offset = at; header = h }) in
+      same (frames ++ r ∷ []) old.pieces.items new.before.place new.before.ended new size
+      (keeps.rows
+      ∙ ap₂ (λ (l : List Row) (q : Row). l ++ q ∷ []) so_far.marks (ap (λ (q : Row). record q {
+        lost = lacks_data old.before.place old.before.ended q;
+      }) row ∙ mark_is r)
+      ∙ sym (marked-push head frames r))
+      keeps.pieces refl refl
+      (passed_frame file start head allowed frames old.pieces.items old.before.place
+      old.before.ended at so_far.surveyed h size new.before.place new.before.ended passes
+      (ap (λ n. first_of (faults_at (stored_crc (drop at file))
+      (class_from start) allowed old.before.place old.before.ended n r)) (sym count)
+      ∙ sym (faults_shown file at front left shows h few
+      (class_from start) allowed old.before.place old.before.ended (length old.rows.items))
+      ∙ keeps.sound)
+      keeps.place
+      (keeps.ended ∙ ap (λ r. data_end_after old.before.place old.before.ended (Some r)) row))
+
+  -- what is neither a frame nor a block is passed as a zero byte is
+  as_zero : (item : Item) (size : ℕ) → Passes Stream file at item size → frame_of_item at item
+      ≡ None → block_of_item at item ≡ None → Passes Stream file at Zero size
+  as_zero item size passes no_frame no_block = record {
+    frames = passes.frames
+        ∙ ap (λ o. option_to_list o ++ frames_of (item_run Stream file (at + size)).items) no_frame;
+    blocks = passes.blocks
+        ∙ ap (λ o. option_to_list o ++ blocks_of (item_run Stream file (at + size)).items) no_block;
+    stop = passes.stop;
+  }
+
+  -- an item that is passed and kept takes the survey past it
+  pub kept : (item : Item) (new : SurveySoFar) (size : ℕ) → few_before item
+      → Passes Stream file at item size → KeepsItem (class_from start) allowed at item front old new
+      → IsOn new size
+  kept (Frame h) new size few passes keeps = frame_kept h new size few passes keeps
+  kept Free new size few passes keeps =
+      none_kept Free new size (as_zero Free size passes refl refl) keeps
+  kept (Block b) new size few passes keeps =
+      blocks_kept (record { offset = at; block = b } ∷ []) new size keeps
+      (passed_block file start head allowed frames old.pieces.items old.before.place
+      old.before.ended at so_far.surveyed (record { offset = at; block = b }) size refl passes)
+  kept Zero new size few passes keeps = none_kept Zero new size passes keeps
+  kept End new size few passes keeps =
+      none_kept End new size (as_zero End size passes refl refl) keeps
+  kept Nothing new size few passes keeps =
+      none_kept Nothing new size (as_zero Nothing size passes refl refl) keeps
+
+  -- the first fault of a frame is the fault of the file
+  pub refused : (begun : IsBegun file start head) (item : Item) (size : ℕ) (fault : SurveyFault)
+      → few_before item → Passes Stream file at item size
+      → IsFrameFault (class_from start) allowed at item front old fault
+      → survey_fields file allowed ≡ Err fault
+  refused begun (Frame h) size fault few passes is =
+      first_fault file start head allowed frames old.pieces.items old.before.place old.before.ended
+      at so_far.surveyed begun h size fault passes
+      (ap (λ n. first_of (faults_at (stored_crc (drop at file)) (class_from start) allowed
+      old.before.place old.before.ended n (row_of file (record { offset = at; header = h }))))
+      (sym count)
+      ∙ sym (faults_shown file at front left shows h few
+      (class_from start) allowed old.before.place old.before.ended (length old.rows.items))
+      ∙ is)
+  refused begun Free size fault few passes is = absurd is
+  refused begun _ size fault few passes is = absurd is
+
+-- the fault of a frame refuses the file, with the right numbers
+pub fault_rightly : (class : ClassFields) (allowed at : ℕ) (item : Item) (front : List ℕ)
+    (old : SurveySoFar) (fault : SurveyFault) → IsFrameFault class allowed at item front old fault
+    → RefusesRightly fault
+fault_rightly class allowed at (Frame h) front old fault is =
+    frame_rightly (stored_crc front) class allowed
+    old.before.place old.before.ended (length old.rows.items) (row_in at h front) fault is
+fault_rightly class allowed at Free front old fault is = absurd is
+fault_rightly class allowed at _ front old fault is = absurd is
+
+-- ---- where frames and blocks are
+
+-- one frame more is behind those before it
+pub laid_push : (from : ℕ) (rows : List Row) (to later : ℕ) (r : Row) → FramesAreLaid from rows to
+    → SideFits (class_of r.header) r.side → to ≤ r.offset
+    → r.offset + length_of (class_of r.header) r.header.slot ≤ later
+    → FramesAreLaid from (rows ++ r ∷ []) later
+laid_push from [] to later r laid fits low high = (omega (arith, laid, low), fits, high)
+laid_push from (q ∷ rows) to later r laid fits low high = (
+  laid.0,
+  laid.1,
+  laid_push (q.offset + length_of (class_of q.header) q.header.slot) rows to later r laid.2 fits low
+      high,
+)
+
+-- frames that end before an offset end before any later one
+pub laid_later : (from : ℕ) (rows : List Row) (to later : ℕ) → FramesAreLaid from rows to
+    → to ≤ later → FramesAreLaid from rows later
+laid_later from [] to later laid low = omega (arith, laid, low)
+laid_later from (q ∷ rows) to later laid low = (
+  laid.0,
+  laid.1,
+  laid_later (q.offset + length_of (class_of q.header) q.header.slot) rows to later laid.2 low,
+)
+
+-- the area is within the frame
+pub area_within : (h : HeaderFields) → own_area h ≤ length_of (class_of h) h.slot
+unfolding area_of
+area_within h = omega arith
+
+-- what is known of the frames and blocks, whatever is told of the file
+pub record IsLaidTo (head : Option Head) (class : ClassFields) (first : ℕ) (found : SurveySoFar)
+    (at : ℕ) : Type 0 where
+  pub rows : FramesAreLaid first found.rows.items at
+  pub pieces : BlocksAreLaid 0 found.pieces.items at
+  pub low : found.before.place ≤ 1441 + at
+  pub placed : ArePlacedTo head class found.rows.items found.before.place found.before.ended
+
+module _ (head : Option Head) (first : ℕ) (class : ClassFields) (allowed at : ℕ) (front : List ℕ)
+    (old new : SurveySoFar) (size : ℕ) (laid : IsLaidTo head class first old at) where
+  laid_blocks : (item : Item) (blocks : List Piece)
+      → option_to_list (block_of_item at item) ≡ blocks → size_of item ≤ size
+      → KeepsBlocks blocks old new → IsLaidTo head class first new (at + size)
+  laid_blocks item blocks are least keeps = record {
+    rows = subst (λ l. FramesAreLaid first l (at + size)) (sym keeps.rows)
+        (laid_later first old.rows.items at (at + size) laid.rows (omega arith));
+    pieces = blocks_more old.pieces.items new.pieces.items at size item laid.pieces least
+        (keeps.pieces ∙ ap (λ l. old.pieces.items ++ l) (sym are));
+    low = omega (arith, ap (λ b. b.place) keeps.before, laid.low);
+    placed = placed_same head class
+        old.rows.items new.rows.items old.before new.before keeps.rows keeps.before laid.placed;
+  }
+
+  -- and what is kept is behind what was there before
+  pub laid_more : (item : Item) → ((h : HeaderFields) → item ≡ Frame h → IsHeader h) → size_of item
+      ≤ size → KeepsItem class allowed at item front old new
+      → IsLaidTo head class first new (at + size)
+  laid_more (Frame h) known least keeps = record {
+    rows = subst (λ l. FramesAreLaid first l (at + size)) (sym keeps.rows)
+        (laid_push first old.rows.items at (at + size) (record (row_in at h front) {
+          lost = lacks_data old.before.place old.before.ended (row_in at h front);
+        }) laid.rows keeps.fits (omega arith) (omega (arith, least)));
+    pieces = blocks_more old.pieces.items new.pieces.items at size (Frame h) laid.pieces least
+        (keeps.pieces ∙ sym (append-nil old.pieces.items));
+    low = omega (arith, keeps.place, area_within h, laid.low, least);
+    placed = placed_next head class (stored_crc front) allowed (row_in at h front) old new
+        (known h refl) keeps laid.placed;
+  }
+  laid_more (Block b) known least keeps =
+      laid_blocks (Block b) (record { offset = at; block = b } ∷ []) refl least keeps
+  laid_more item known least keeps = laid_blocks item [] refl least keeps
+
+-- ---- how many frames there are
+
+-- a frame without fault is not the first past the number that is allowed
+fewer : (n allowed : ℕ) → (n == allowed) ≡ false → n ≤ allowed → n < allowed
+fewer n allowed differ few = elim (cases_lt n allowed) as (λ _. n < allowed) [
+  | inl below ↦ below
+  | inr above ↦ absurd (true≢false (sym (eq-eqb n allowed (omega (arith, few, above))) ∙ differ))
+]
+
+-- a frame that was kept leaves no more frames than are allowed
+pub few_more : (class : ClassFields) (allowed at : ℕ) (front : List ℕ) (old new : SurveySoFar)
+    (item : Item) → KeepsItem class allowed at item front old new → length old.rows.items ≤ allowed
+    → length new.rows.items ≤ allowed
+few_more class allowed at front old new (Frame h) keeps few =
+    let r = row_in at h front in
+    let sound = faults-none_sound (stored_crc front) class allowed
+    old.before.place old.before.ended (length old.rows.items) r (none-of _ keeps.sound) in
+    let kept = record r { lost = lacks_data old.before.place old.before.ended r } in
+    omega (
+      arith,
+      fewer (length old.rows.items) allowed sound.few few,
+      ap length keeps.rows,
+      length-append old.rows.items (kept ∷ []),
+    )
+few_more class allowed at front old new Free keeps few = omega (arith, ap length keeps.rows, few)
+few_more class allowed at front old new _ keeps few = omega (arith, ap length keeps.rows, few)
+
+-- ---- the refusal of one item
+
+-- an item that wasn't passed refuses the file, with its cause
+pub pass_refusal : (name : List ℕ) (files : Files) (allowed : ℕ) (before after : Counts) (size : ℕ)
+    (fault : SurveyFault) (class : ClassFields) (at : ℕ) (bytes : List ℕ) (left : ℕ)
+    (old : SurveySoFar) → HasLength files name size → after ≡ before
+    → ((file : List ℕ) → Holds files name file → PassesFault class allowed at bytes left old fault
+    → survey_fields file allowed ≡ Err fault) → ((file : List ℕ) → Holds files name file
+    → StopsThere at bytes left fault → survey_fields file allowed ≡ Err fault)
+    → IsNotPassed class allowed at bytes left old fault
+    → IsSurveyRefusal name files allowed before after fault
+pass_refusal name files allowed before after size fault class at bytes left old known same faulty
+    stops (inl memory) =
+    subst (IsSurveyRefusal name files allowed before after) (sym memory)
+    (memory_refusal name files allowed before after size known same)
+pass_refusal name files allowed before after size fault class at bytes left old known same faulty
+    stops (inr (inl is)) =
+    bytes_refusal name files allowed before after size fault known same (fault_rightly class allowed
+    at (item_front bytes) bytes old fault is.faulty) (λ file holds. faulty file holds is)
+pass_refusal name files allowed before after size fault class at bytes left old known same faulty
+    stops (inr (inr is)) =
+    bytes_refusal name files allowed before after size fault known same
+    is.rightly (λ file holds. stops file holds is)
+
+-- rows that follow each other end after they begin
+pub laid_end : (from : ℕ) (rows : List Row) (to : ℕ) → FramesAreLaid from rows to → from ≤ to
+laid_end from [] to laid = laid
+laid_end from (r ∷ rows) to laid = omega (
+  arith,
+  laid.0,
+  laid_end (r.offset + length_of (class_of r.header) r.header.slot) rows to laid.2,
+)

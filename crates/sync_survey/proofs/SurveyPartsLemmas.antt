@@ -1,0 +1,317 @@
+-- What a survey without fault says of a file: where its
+-- stream starts, and that nothing is at fault from there on.
+use Rattle.std.proofs.Common.{ap, ap₂, arith, Bool, cond, drop, false, flat_map, length, List, None}
+use Rattle.std.proofs.Common.{not, Ok, Option, option_to_list, refl, slice_get, Some, suc, sym}
+use Rattle.std.proofs.Common.{true, zero, zero-add, ℕ, [], ◌++◌, ◌+◌, ◌<◌, ◌==◌, ◌∙◌, ◌∷◌, ◌≡◌, ◌≤◌}
+use Rattle.std.proofs.lemmas.{Bool.ne_eqb, List.{length-map, FromFn.length-enumerate_from}}
+use Rattle.std.{proofs.lemmas.Option.slice_get_within, specs.List.enumerate_from}
+use Rattle.frame_header.specs.{Fields.ClassFields, Tables.class_of}
+use Rattle.side_info.specs.Frame.{stored_crc}
+use Rattle.sync_survey.proofs.{FaultsLemmas.none-of, ItemListLemmas.{ends-within, frames-few}}
+use Rattle.sync_survey.proofs.{RunsLemmas.run-ends, StartLemmas.start-first}
+use Rattle.sync_survey.proofs.SurveyLemmas.{survey-whole, surveyed-is, told_by}
+use Rattle.sync_survey.specs.Faults.{all_faults, class_from, data_faults, fault_if_true, faults_at}
+use Rattle.sync_survey.specs.Faults.{faults_from, fields_from, first_of, frame_faults}
+use Rattle.sync_survey.specs.Faults.{has_wrong_crc, HoldsStream, overlaps, overruns, own_faults}
+use Rattle.sync_survey.specs.Faults.{points_too_far, stream_of, stream_of_survey, survey_fields}
+use Rattle.sync_survey.specs.Faults.{surveyed_stream, SurveyFields, unbounded_survey}
+use Rattle.sync_survey.specs.Items.{item_at, same_class}
+use Rattle.sync_survey.specs.MainData.{data_end_before, lacks_data, main_bytes, place, row_of}
+use Rattle.sync_survey.specs.{MainData.{rows_of, stream_frame, stream_frames}, Row.Row}
+use Rattle.sync_survey.specs.{Runs.frames_of, Start.start_of}
+use Rattle.sync_survey.specs.Walk.{all_blocks, end_fault, fault_at, head_of, numbered_frames}
+use Rattle.sync_survey.specs.{Walk.{stream_run, walk_from}, declared.places.Head.Head}
+use Rattle.sync_survey.specs.declared.places.{PlacedFrame.PlacedFrame, Start.Start}
+use Rattle.sync_survey.specs.declared.runs.Region.TheVariants.{Stream}
+use Rattle.sync_survey.specs.declared.survey_fault.SurveyFault.{SurveyFault}
+
+-- ---- a survey by its start
+
+-- the frames that are numbered in a file with this start
+abbrev pub frames_from : List ℕ → Start → List PlacedFrame
+frames_from file start =
+    numbered_frames (head_of file start.first) (frames_of (stream_run file start).items)
+
+-- the survey of a file with this start that has no fault
+abbrev pub told_from : List ℕ → Start → SurveyFields
+told_from file start = told_by file start (head_of file start.first)
+    (rows_of file (frames_from file start)) (all_blocks file start)
+
+-- the stream of the file starts so, and nothing is at fault in it
+pub record IsRead (file : List ℕ) (allowed : ℕ) (start : Start) : Type 0 where
+  pub start_is : start_of file ≡ Ok start
+  pub frames : all_faults file (head_of file start.first) (class_from start) allowed
+      (rows_of file (frames_from file start)) ≡ []
+  pub end : end_fault file (frames_from file start)
+      (fault_at (stream_run file start).stop (item_at file (stream_run file start).stop)) ≡ None
+
+-- a file without fault has the survey that its start tells
+pub surveyed-told : (file : List ℕ) (allowed : ℕ) (start : Start) → IsRead file allowed start
+    → survey_fields file allowed ≡ Ok (told_from file start)
+surveyed-told file allowed start read =
+    survey-whole file allowed start (head_of file start.first) (frames_from file start)
+    (all_blocks file start) (stream_run file start).stop
+    (record {
+      start_is = read.start_is;
+      head_is = refl;
+      frames_are = refl;
+      blocks_are = refl;
+      stop_is =
+          refl;
+    }) (ap first_of read.frames) read.end
+
+empty_parts : (xs ys : List SurveyFault) → xs ++ ys ≡ [] → (xs ≡ []) × (ys ≡ [])
+empty_parts [] ys e = (refl, e)
+empty_parts (x ∷ xs) ys e = absurd cc
+
+no_last : (o : Option SurveyFault) → option_to_list o ≡ [] → o ≡ None
+no_last (Some fault) e = absurd cc
+no_last None e = refl
+
+fields_from-told : (file : List ℕ) (start : Start) → fields_from file start ≡ told_from file start
+unfolding fields_from walk_from
+fields_from-told file start = refl
+
+is_read : (file : List ℕ) (allowed : ℕ) (start : Start) → start_of file ≡ Ok start
+    → faults_from file allowed start ≡ [] → IsRead file allowed start
+unfolding faults_from walk_from
+is_read file allowed start is none =
+    let parts = empty_parts _ _ none in
+    record { start_is = is; frames = parts.0; end = no_last _ parts.1 }
+
+-- what a survey says
+pub surveyed-parts : (file : List ℕ) (allowed : ℕ) (s : SurveyFields)
+    → survey_fields file allowed ≡ Ok s
+    → (start : Start) × IsRead file allowed start × (told_from file start ≡ s)
+surveyed-parts file allowed s e =
+    let is = surveyed-is file allowed s e in (
+      is.start,
+      is_read file allowed is.start is.begins (none-of _ is.none),
+      sym (fields_from-told file is.start) ∙ is.fields_are,
+    )
+
+-- ---- a frame without fault
+
+nothing_true : (b : Bool) (fault : SurveyFault) → fault_if_true b fault ≡ [] → b ≡ false
+nothing_true true fault e = absurd cc
+nothing_true false fault e = refl
+
+nothing_false : (b : Bool) (fault : SurveyFault) → b ≡ false → fault_if_true b fault ≡ []
+nothing_false b fault e = ap (λ x. fault_if_true x fault) e
+
+empty_both : (xs ys : List SurveyFault) → xs ≡ [] → ys ≡ [] → xs ++ ys ≡ []
+empty_both xs ys e f = ap₂ (λ (us vs : List SurveyFault). us ++ vs) e f
+
+-- main data are where they may be
+pub record StandWell (place ended : ℕ) (r : Row) : Type 0 where
+  pub begins : points_too_far place r ≡ false
+  pub apart : overlaps place ended r ≡ false
+  pub within : overruns place r ≡ false
+
+-- it is of the class, its check word is right, its main data
+-- are where they may or it is lost, and it isn't one too many
+pub record IsSound (said : ℕ) (class : ClassFields) (allowed place ended count : ℕ)
+    (r : Row) : Type 0 where
+  pub same : not (same_class (class_of r.header) class) ≡ false
+  pub word : has_wrong_crc said r ≡ false
+  pub main : lacks_data place ended r ≡ false → StandWell place ended r
+  pub few : (count == allowed) ≡ false
+
+own-none_well : (place ended : ℕ) (r : Row) → own_faults place ended r ≡ []
+    → StandWell place ended r
+own-none_well place ended r none =
+    let main = empty_parts _ _ none in
+    let begin = empty_parts _ _ main.0 in
+    record {
+      begins = nothing_true _ _ begin.0;
+      apart = nothing_true _ _ begin.1;
+      within =
+          nothing_true _ _ main.1;
+    }
+
+well-no_own : (place ended : ℕ) (r : Row) → StandWell place ended r → own_faults place ended r ≡ []
+well-no_own place ended r well =
+    empty_both _ _ (empty_both _ _ (nothing_false _ _ well.begins) (nothing_false _ _ well.apart))
+    (nothing_false _ _ well.within)
+
+unless-none : (b : Bool) (xs : List SurveyFault) → cond b [] xs ≡ [] → b ≡ false → xs ≡ []
+unless-none true xs none is = absurd cc
+unless-none false xs none is = none
+
+none-unless : (b : Bool) (xs : List SurveyFault) → (b ≡ false → xs ≡ []) → cond b [] xs ≡ []
+none-unless true xs none = refl
+none-unless false xs none = none refl
+
+module _ (said : ℕ) (class : ClassFields) (allowed place ended count : ℕ) (r : Row) where
+  -- a frame without fault is sound
+  pub faults-none_sound : faults_at said class allowed place ended count r ≡ []
+      → IsSound said class allowed place ended count r
+  unfolding faults_at
+  faults-none_sound none =
+      let all = empty_parts _ _ none in
+      let front = empty_parts _ _ all.0 in
+      let word = empty_parts _ _ front.0 in
+      record {
+        same = nothing_true _ _ word.0;
+        word = nothing_true _ _ word.1;
+        main = λ is. own-none_well place ended r
+            (unless-none (lacks_data place ended r) (own_faults place ended r) front.1 is);
+        few = nothing_true _ _ all.1;
+      }
+
+  -- a sound frame has no fault
+  pub sound-no_faults : IsSound said class allowed place ended count r
+      → faults_at said class allowed place ended count r ≡ []
+  unfolding faults_at
+  sound-no_faults sound =
+      empty_both _ _
+      (empty_both _ _ (empty_both _ _ (nothing_false _ _ sound.same) (nothing_false _ _ sound.word))
+      (none-unless (lacks_data place ended r) (own_faults place ended r)
+      (λ is. well-no_own place ended r (sound.main is))))
+      (nothing_false _ _ sound.few)
+
+  -- nor is its main data at fault
+  pub sound-no_data : IsSound said class allowed place ended count r
+      → data_faults place ended r ≡ []
+  sound-no_data sound =
+      none-unless (lacks_data place ended r) (own_faults place ended r)
+      (λ is. well-no_own place ended r (sound.main is))
+
+-- main data without a fault are where they may be, unless the frame is lost
+pub data-none_well : (place ended : ℕ) (r : Row) → data_faults place ended r ≡ []
+    → lacks_data place ended r ≡ false → StandWell place ended r
+data-none_well place ended r none is = own-none_well place ended r
+    (unless-none (lacks_data place ended r) (own_faults place ended r) none is)
+
+-- ---- all frames
+
+-- frame i of these is without fault
+abbrev pub IsSoundAt : List ℕ → Option Head → ClassFields → ℕ → List Row → ℕ → Row → Type 0
+IsSoundAt file head class allowed rows i r = IsSound (stored_crc (drop r.offset file)) class allowed
+    (place head rows i) (data_end_before head rows i) i r
+
+-- so is each
+abbrev pub AreSound : List ℕ → Option Head → ClassFields → ℕ → List Row → Type 0
+AreSound file head class allowed rows =
+    (i : ℕ) (r : Row) → slice_get rows i ≡ Some r → IsSoundAt file head class allowed rows i r
+
+-- what is made of each in turn is nothing
+none_each : (each : ℕ → Row → List SurveyFault) (n : ℕ) (rows : List Row)
+    → flat_map (λ (p : ℕ × Row). each p.0 p.1) (enumerate_from n rows) ≡ [] → (i : ℕ) (r : Row)
+    → slice_get rows i ≡ Some r → each (n + i) r ≡ []
+none_each each n [] none i r is = absurd cc
+none_each each n (q ∷ rows) none zero r is =
+    let same : q ≡ r = cc in
+    ap₂ each (omega arith) (sym same) ∙ (empty_parts (each n q) _ none).0
+none_each each n (q ∷ rows) none (suc i) r is = ap (λ m. each m r) (omega arith)
+    ∙ none_each each (n + 1) rows (empty_parts (each n q) _ none).1 i r is
+
+each_none : (each : ℕ → Row → List SurveyFault) (n : ℕ) (rows : List Row)
+    → ((i : ℕ) (r : Row) → slice_get rows i ≡ Some r → each (n + i) r ≡ [])
+    → flat_map (λ (p : ℕ × Row). each p.0 p.1) (enumerate_from n rows) ≡ []
+each_none each n [] none = refl
+each_none each n (q ∷ rows) none =
+    empty_both (each n q) _ (ap (λ m. each m q) (omega arith) ∙ none zero q refl)
+    (each_none each (n + 1) rows (λ i r is. ap (λ m. each m r) (omega arith) ∙ none (suc i) r is))
+
+module _ (file : List ℕ) (head : Option Head) (class : ClassFields) (allowed : ℕ)
+    (rows : List Row) where
+  -- frames without any fault are all sound
+  pub all_faults-none_sound : all_faults file head class allowed rows ≡ []
+      → AreSound file head class allowed rows
+  unfolding all_faults
+  all_faults-none_sound none = λ i r is.
+      faults-none_sound (stored_crc (drop r.offset file)) class allowed (place head rows i)
+      (data_end_before head rows i) i r
+      (ap (λ m. frame_faults file head class allowed rows m r) (sym (zero-add i))
+      ∙ none_each (frame_faults file head class allowed rows) 0 rows none i r is)
+
+  -- sound frames have no fault
+  pub sound-no_all_faults : AreSound file head class allowed rows
+      → all_faults file head class allowed rows ≡ []
+  unfolding all_faults
+  sound-no_all_faults sound =
+      each_none (frame_faults file head class allowed rows) 0 rows (λ i r is.
+      ap (λ m. frame_faults file head class allowed rows m r) (zero-add i)
+      ∙ sound-no_faults (stored_crc (drop r.offset file)) class allowed (place head rows i)
+      (data_end_before head rows i) i r (sound i r is))
+
+-- ---- however many frames are allowed
+
+-- sound frames are so with any allowed number that isn't below their own
+pub sound_allowed : (file : List ℕ) (head : Option Head) (class : ClassFields) (allowed other : ℕ)
+    (rows : List Row) → length rows ≤ other → AreSound file head class allowed rows
+    → AreSound file head class other rows
+sound_allowed file head class allowed other rows few sound = λ i r is.
+    let here = sound i r is in
+    record {
+      same = here.same;
+      word = here.word;
+      main = here.main;
+      few = ne_eqb i other (λ e. omega (arith, few, e, slice_get_within rows i r is));
+    }
+
+numbered_few : (head : Option Head) (frames : List PlacedFrame)
+    → length (numbered_frames head frames) ≤ length frames
+numbered_few (Some head) (p ∷ ps) = omega arith
+numbered_few _ _ = omega arith
+
+-- there are no more frames than bytes
+pub numbered-few : (file : List ℕ) (start : Start) → start_of file ≡ Ok start
+    → length (rows_of file (frames_from file start)) ≤ length file
+numbered-few file start is =
+    let stream = stream_run file start in
+    let first = start.first.offset in
+    let frame = (start-first file start is).frame in
+    let ends = run-ends Stream file first in
+    omega (
+      arith,
+      length-map (frames_from file start) (row_of file),
+      numbered_few (head_of file start.first) (frames_of stream.items),
+      frames-few Stream file first stream.items stream.stop ends,
+      ends-within Stream file first stream.items stream.stop ends (omega (arith, frame.within)),
+    )
+
+-- a file without fault has none whatever number of
+-- frames, greater than that of its bytes, is allowed
+pub surveyed-allowed : (file : List ℕ) (allowed other : ℕ) (s : SurveyFields) → length file < other
+    → survey_fields file allowed ≡ Ok s → survey_fields file other ≡ Ok s
+surveyed-allowed file allowed other s many e =
+    let parts = surveyed-parts file allowed s e in
+    let start = parts.0 in
+    let read = parts.1 in
+    let rows = rows_of file (frames_from file start) in
+    let sound = all_faults-none_sound file (head_of file start.first)
+    (class_from start) allowed rows read.frames in
+    surveyed-told file other start (record {
+      start_is = read.start_is;
+      frames = sound-no_all_faults file (head_of file start.first) (class_from start) other rows
+          (sound_allowed file (head_of file start.first) (class_from start) allowed other rows
+          (omega (arith, many, numbered-few file start read.start_is)) sound);
+      end = read.end;
+    })
+    ∙ ap Ok parts.2
+
+-- a file without fault is well-formed, and holds the stream that its survey tells
+pub surveyed-stream : (file : List ℕ) (allowed : ℕ) (s : SurveyFields)
+    → survey_fields file allowed ≡ Ok s → HoldsStream file (stream_of_survey file s)
+unfolding stream_of
+surveyed-stream file allowed s e =
+    let freely : unbounded_survey file ≡ Ok s =
+    surveyed-allowed file allowed (length file + 1) s (omega arith) e in
+    record { well_formed = (s, freely); stream_is = ap (surveyed_stream file) freely }
+
+-- a file whose end has no fault has a frame
+pub some_frames : (file : List ℕ) (frames : List PlacedFrame) (o : Option SurveyFault)
+    → end_fault file frames o ≡ None → 0 < length frames
+some_frames file (p ∷ ps) o e = omega arith
+some_frames file [] None e = absurd cc
+some_frames file [] (Some fault) e = absurd cc
+
+-- its stream has as many frames as its survey
+pub stream-length : (file : List ℕ) (s : SurveyFields)
+    → length (stream_of_survey file s) ≡ length s.frames
+unfolding stream_of_survey stream_frames
+stream-length file s = length-map (enumerate_from 0 s.frames)
+    (λ (p : ℕ × Row). stream_frame (main_bytes file s.head s.frames) s.head s.frames p.0 p.1)
+    ∙ length-enumerate_from 0 s.frames

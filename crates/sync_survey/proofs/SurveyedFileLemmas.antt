@@ -1,0 +1,29 @@
+-- What the survey of a file that isn't too long says.
+use Rattle.std.proofs.Common.{arith, Bool, cond, Err, false, length, List, ltb, Ok, refl, Result}
+use Rattle.std.proofs.{Common.{true, ℕ, ◌+◌, ◌≡◌, ◌≤◌}, lemmas.Bool.ltb-false}
+use Rattle.sync_survey.proofs.SurveyPartsLemmas.{surveyed-allowed}
+use Rattle.sync_survey.specs.Faults.{IsWellFormed, longest_file, survey_fields, SurveyFields}
+use Rattle.sync_survey.specs.{Survey.survey_of, declared.survey_fault.SurveyFault.SurveyFault}
+
+long_cases : (long : Bool) (file : List ℕ) (r : Result SurveyFields SurveyFault)
+    (fault : SurveyFault) (s : SurveyFields) → ltb longest_file (length file) ≡ long
+    → cond long (Err fault) r ≡ Ok s → (length file ≤ longest_file) × (r ≡ Ok s)
+long_cases true file r fault s is e = absurd cc
+long_cases false file r fault s is e = (ltb-false longest_file (length file) is, e)
+
+-- a surveyed file isn't too long, and its bytes have this survey
+pub survey_of-parts : (file : List ℕ) (allowed : ℕ) (s : SurveyFields)
+    → survey_of file allowed ≡ Ok s
+    → (length file ≤ longest_file) × (survey_fields file allowed ≡ Ok s)
+unfolding survey_of
+survey_of-parts file allowed s e =
+    long_cases (ltb longest_file (length file)) file (survey_fields file allowed) _ s refl e
+
+-- so it is well-formed
+pub survey_of-sound : (file : List ℕ) (allowed : ℕ) (s : SurveyFields)
+    → survey_of file allowed ≡ Ok s → IsWellFormed file
+survey_of-sound file allowed s e = (
+  s,
+  surveyed-allowed file allowed (length file + 1) s (omega arith)
+      (survey_of-parts file allowed s e).1,
+)

@@ -1,7 +1,0 @@
--- A frame is one by its header.
-use Rattle.sync_survey.proofs.ItemsLaws.{header_stands}
-use Rattle.sync_survey.proofs.found.Found.keep.Goals as goal
-
-pub judge-requires-clause-heads : goal.judge-requires-clause-heads
-judge-requires-clause-heads c =
-    header_stands c.args.bytes.now c.args.item.now c.in-Frame.header c.requires.heads c.in-Frame.is

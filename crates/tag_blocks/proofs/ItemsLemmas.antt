@@ -1,0 +1,663 @@
+-- Items and their bytes give each other back: one item with
+-- which bytes begin, and items one right after the other.
+use Rattle.std.proofs.Common.{ap, append-nil, append_assoc, arith, Bool, cond, drop, false, get_or}
+use Rattle.std.proofs.Common.{length, length-append, length-drop, length-take, List, None, Option}
+use Rattle.std.proofs.Common.{refl, Some, subst, suc, sym, take, take-append-drop, true, zero, ℕ}
+use Rattle.std.proofs.Common.{[], ◌&&◌, ◌++◌, ◌+◌, ◌-◌, ◌<◌, ◌^◌, ◌||◌, ◌∙◌, ◌∷◌, ◌≡◌, ◌≤◌}
+use Rattle.std.proofs.lemmas.Bool.{and_from, and_parts, eq-eqb, eqb-true, false_from_ne_true}
+use Rattle.std.proofs.lemmas.Bool.{le-leb, leb-true, lt-ltb, ltb-true, true≢false}
+use Rattle.std.proofs.lemmas.List.{drop-drop, drop_at, drop_more, flat_map_more, get_or-drop}
+use Rattle.std.proofs.lemmas.List.{get_or-take, get_or_at, length-take-le, take_at, take_more}
+use Rattle.std.proofs.lemmas.List.Folds.{length-prefix_len}
+use Rattle.std.proofs.lemmas.List.Sums.{list_all-from_AllPass, prefix_len_passes, sum_by-cons}
+use Rattle.std.{proofs.lemmas.Option.cond_some, specs.List.{list_all, list_any, prefix_len}}
+use Rattle.std.specs.Prelude.{filter}
+use Rattle.byteorder.specs.Endian.{little_bytes, little_number}
+use Rattle.byteorder.specs.Numbers.{little_from-lt, little_number-reads_back}
+use Rattle.tag_blocks.{proofs.NumbersLemmas.little_bytes-little_number, specs.Blocks.ape_number}
+use Rattle.tag_blocks.specs.Items.{has_whole_item, is_item, is_key_char, is_undo, item_and_more}
+use Rattle.tag_blocks.specs.Items.{item_bytes, item_length, items_bytes, items_length, key_length}
+use Rattle.tag_blocks.specs.Items.{next_if_admitted, next_item, tag_item_front, tag_item_of}
+use Rattle.tag_blocks.specs.{Items.{tag_items_from, TagItem, value_place}, Laws.AreByteValues}
+
+-- ---- lengths
+
+-- an item has as many bytes as its length says
+pub length-item_bytes : (item : TagItem) → length (item_bytes item) ≡ item_length item
+unfolding item_bytes
+length-item_bytes item = omega (arith, length-append item.key (0 ∷ item.value))
+
+-- items are as long as the first and the rest
+pub items_length-cons : (item : TagItem) (items : List TagItem)
+    → items_length (item ∷ items) ≡ item_length item + items_length items
+items_length-cons item items = sum_by-cons item_length item items
+
+-- one item more adds its bytes
+pub items_more : (items : List TagItem) (i : ℕ) (d item : TagItem) (old before new : List ℕ)
+    → item ≡ get_or items i d → i < length items → before ≡ old ++ items_bytes (take i items)
+    → new ≡ before ++ item_bytes item → new ≡ old ++ items_bytes (take (i + 1) items)
+items_more items i d item old before new is less so_far added =
+    added
+    ∙ ap (λ bs. bs ++ item_bytes item) so_far
+    ∙ flat_map_more item_bytes old (take i items) item
+    ∙ ap (λ xs. old ++ items_bytes xs)
+    (ap (λ x. take i items ++ x ∷ []) is ∙ sym (take_more items i d less))
+
+-- items have as many bytes as their lengths say together
+pub length-items_bytes : (items : List TagItem) → length (items_bytes items) ≡ items_length items
+length-items_bytes [] = refl
+length-items_bytes (item ∷ items) =
+    omega (
+      arith,
+      length-append (item_bytes item) (items_bytes items),
+      length-item_bytes item,
+      length-items_bytes items,
+      items_length-cons item items,
+    )
+
+-- ---- numbers of 32 bits
+
+-- what is left of bytes are bytes
+pub octets-drop : (n : ℕ) (bytes : List ℕ) → AreByteValues bytes → AreByteValues (drop n bytes)
+octets-drop n bytes octets =
+    λ i. subst (λ b. b < 256) (sym (get_or-drop n bytes i 0)) (octets (n + i))
+
+-- the first of some bytes are bytes
+pub octets-take : (n : ℕ) (bytes : List ℕ) → AreByteValues bytes → (i : ℕ)
+    → get_or (take n bytes) i 0 < 256
+octets-take (suc n) (b ∷ bytes) octets zero = octets 0
+octets-take (suc n) (b ∷ bytes) octets (suc i) = octets-take n bytes (λ k. octets (suc k)) i
+octets-take _ _ octets i = omega arith
+
+-- the number of four bytes of a tag is written as these bytes
+pub little_bytes-ape_number : (at : ℕ) (bytes : List ℕ) → AreByteValues bytes
+    → at + 4 ≤ length bytes → little_bytes 4 (ape_number at bytes) ≡ take 4 (drop at bytes)
+little_bytes-ape_number at bytes octets within =
+    little_bytes-little_number (take 4 (drop at bytes))
+    (length-take-le 4 (drop at bytes) (omega (arith, length-drop at bytes)))
+    (octets-take 4 (drop at bytes) (octets-drop at bytes octets))
+
+-- a number of 32 bits is read from the bytes that it is written as
+pub little_number-little_bytes : (n : ℕ) → n < 2 ^ 32 → little_number 4 (little_bytes 4 n) ≡ n
+little_number-little_bytes n below = ap (little_number 4) (sym (append-nil (little_bytes 4 n)))
+    ∙ little_number-reads_back 4 n [] below
+
+-- ---- an item with which bytes begin
+
+-- what is there, part by part
+pub record Stands (bytes : List ℕ) : Type 0 where
+  pub least : 2 ≤ key_length bytes
+  pub most : key_length bytes ≤ 255
+  pub within : value_place bytes + ape_number 0 bytes ≤ length bytes
+  pub zero_behind : get_or bytes (8 + key_length bytes) 0 ≡ 0
+
+-- where an item is whole, all its parts are
+pub stands-parts : (bytes : List ℕ) → has_whole_item bytes ≡ true → Stands bytes
+unfolding has_whole_item
+stands-parts bytes is =
+    let three = and_parts _ _ is in
+    let two = and_parts _ _ three.0 in
+    let one = and_parts _ _ two.0 in
+    record {
+      least = leb-true _ _ one.0;
+      most = leb-true _ _ one.1;
+      within = leb-true _ _ two.1;
+      zero_behind = eqb-true _ _ three.1;
+    }
+
+-- where all its parts are, an item is whole
+pub stands-from : (bytes : List ℕ) → Stands bytes → true ≡ has_whole_item bytes
+unfolding has_whole_item
+stands-from bytes s = sym (and_from _ _ (and_from _ _ (and_from _ _ (le-leb _ _ s.least)
+    (le-leb _ _ s.most)) (le-leb _ _ s.within)) (eq-eqb _ _ s.zero_behind))
+
+-- where not all its parts are, no item is whole
+pub stands_not : (bytes : List ℕ) → (Stands bytes → ⊥) → false ≡ has_whole_item bytes
+stands_not bytes none =
+    sym (false_from_ne_true (has_whole_item bytes) (λ is. none (stands-parts bytes is)))
+
+-- an item is as long as what is before its value, and its value
+pub length-front : (bytes : List ℕ) → has_whole_item bytes ≡ true
+    → item_length (tag_item_front bytes) ≡ value_place bytes + ape_number 0 bytes
+unfolding tag_item_front
+length-front bytes is =
+    let parts = stands-parts bytes is in
+    omega (
+      arith,
+      parts.within,
+      length-prefix_len is_key_char (drop 8 bytes),
+      length-take-le (ape_number 0 bytes) (drop (value_place bytes) bytes)
+          (omega (arith, parts.within, length-drop (value_place bytes) bytes)),
+    )
+
+-- an item that is whole is within the bytes
+pub within-front : (bytes : List ℕ) → has_whole_item bytes ≡ true
+    → item_length (tag_item_front bytes) ≤ length bytes
+within-front bytes is = omega (arith, length-front bytes is, (stands-parts bytes is).within)
+
+joined : (a b key value rest : List ℕ)
+    → (a ++ (b ++ (key ++ (0 ∷ value)))) ++ rest ≡ a ++ (b ++ (key ++ (0 ∷ (value ++ rest))))
+joined a b key value rest =
+    append_assoc a (b ++ (key ++ (0 ∷ value))) rest ∙ ap (λ l. a ++ l) (append_assoc b
+    (key ++ (0 ∷ value)) rest ∙ ap (λ l. b ++ l) (append_assoc key (0 ∷ value) rest))
+
+split : (n : ℕ) (bytes : List ℕ) → bytes ≡ take n bytes ++ drop n bytes
+split n bytes = sym (take-append-drop n bytes)
+
+-- the parts of an item and what is after it, from the first byte on
+parts_of : (bytes : List ℕ) → has_whole_item bytes ≡ true
+    → bytes ≡ take 4 bytes ++ (take 4 (drop 4 bytes)
+    ++ (take (key_length bytes) (drop 8 bytes) ++ (0 ∷ (take (ape_number 0 bytes)
+    (drop (value_place bytes) bytes) ++ drop (value_place bytes + ape_number 0 bytes) bytes))))
+parts_of bytes is =
+    let k : ℕ = key_length bytes in
+    let parts = stands-parts bytes is in
+    let value : drop (9 + k) bytes
+    ≡ take (ape_number 0 bytes) (drop (9 + k) bytes) ++ drop (9 + k + ape_number 0 bytes) bytes =
+    split (ape_number 0 bytes) (drop (9 + k) bytes)
+    ∙ ap (λ l. take (ape_number 0 bytes) (drop (9 + k) bytes) ++ l)
+    (drop-drop (ape_number 0 bytes) (9 + k) bytes) in
+    let next : 8 + k + 1 ≡ 9 + k = omega arith in
+    let zeroed : drop (8 + k) bytes ≡ 0 ∷ drop (9 + k) bytes =
+    drop_more bytes (8 + k) 0 (omega (arith, parts.within))
+    ∙ ap (λ b. b ∷ drop (8 + k + 1) bytes) parts.zero_behind ∙ ap (λ n. 0 ∷ drop n bytes) next in
+    let key : drop 8 bytes ≡ take k (drop 8 bytes) ++ drop (8 + k) bytes =
+    split k (drop 8 bytes) ∙ ap (λ l. take k (drop 8 bytes) ++ l) (drop-drop k 8 bytes) in
+    let flags : drop 4 bytes ≡ take 4 (drop 4 bytes) ++ drop 8 bytes =
+    split 4 (drop 4 bytes) ∙ ap (λ l. take 4 (drop 4 bytes) ++ l) (drop-drop 4 4 bytes) in
+    split 4 bytes ∙ ap (λ l. take 4 bytes ++ l) (flags ∙ ap (λ l. take 4 (drop 4 bytes) ++ l)
+    (key ∙ ap (λ l. take k (drop 8 bytes) ++ l) (zeroed ∙ ap (λ l. 0 ∷ l) value)))
+
+-- the bytes begin with those of the item that is read from them
+pub bytes-front : (bytes : List ℕ) → AreByteValues bytes → has_whole_item bytes ≡ true
+    → bytes ≡ item_bytes (tag_item_front bytes) ++ drop (item_length (tag_item_front bytes)) bytes
+unfolding item_bytes tag_item_front
+bytes-front bytes octets is =
+    let parts = stands-parts bytes is in
+    let size : little_bytes 4 (length (take (ape_number 0 bytes) (drop (value_place bytes) bytes)))
+    ≡ take 4 bytes =
+    ap (little_bytes 4) (length-take-le (ape_number 0 bytes) (drop (value_place bytes) bytes)
+    (omega (arith, parts.within, length-drop (value_place bytes) bytes)))
+    ∙ little_bytes-ape_number 0 bytes octets (omega (arith, parts.within)) in
+    let flags : little_bytes 4 (ape_number 4 bytes) ≡ take 4 (drop 4 bytes) =
+    little_bytes-ape_number 4 bytes octets (omega (arith, parts.within, parts.least)) in
+    let key : List ℕ = take (key_length bytes) (drop 8 bytes) in
+    let value : List ℕ = take (ape_number 0 bytes) (drop (value_place bytes) bytes) in
+    let rest : drop (value_place bytes + ape_number 0 bytes) bytes
+    ≡ drop (item_length (tag_item_front bytes)) bytes =
+    ap (λ n. drop n bytes) (sym (length-front bytes is)) in
+    parts_of bytes is
+    ∙ ap (λ l. take 4 bytes ++ (take 4 (drop 4 bytes) ++ (key ++ (0 ∷ (value ++ l))))) rest
+    ∙ sym (joined (take 4 bytes) (take 4 (drop 4 bytes)) key value
+    (drop (item_length (tag_item_front bytes)) bytes))
+    ∙ ap (λ l. (l ++ (take 4 (drop 4 bytes) ++ (key ++ (0 ∷ value))))
+    ++ drop (item_length (tag_item_front bytes)) bytes) (sym size)
+    ∙ ap (λ l. (little_bytes 4 (length value) ++ (l ++ (key ++ (0 ∷ value))))
+    ++ drop (item_length (tag_item_front bytes)) bytes) (sym flags)
+
+key_passes : (bytes : List ℕ)
+    → list_all is_key_char (take (prefix_len is_key_char bytes) bytes) ≡ true
+key_passes bytes =
+    list_all-from_AllPass is_key_char (take (prefix_len is_key_char bytes) bytes) (λ k d before.
+    let within : k < prefix_len is_key_char bytes =
+    omega (arith, before, length-prefix_len is_key_char bytes) in
+    subst (λ c. is_key_char c ≡ true)
+    (sym (get_or-take (prefix_len is_key_char bytes) bytes k d within))
+    (prefix_len_passes is_key_char bytes k d within))
+
+-- a number of a tag is below 2 ^ 32
+pub ape_number-below : (at : ℕ) (bytes : List ℕ) → AreByteValues bytes
+    → ape_number at bytes < 2 ^ 32
+ape_number-below at bytes octets = little_from-lt 0 4 (take 4 (drop at bytes))
+    (octets-take 4 (drop at bytes) (octets-drop at bytes octets))
+
+-- what is read is an item
+pub is_item-front : (bytes : List ℕ) → AreByteValues bytes → has_whole_item bytes ≡ true
+    → is_item (tag_item_front bytes) ≡ true
+unfolding is_item tag_item_front
+is_item-front bytes octets is =
+    let parts = stands-parts bytes is in
+    let long : length (take (key_length bytes) (drop 8 bytes)) ≡ key_length bytes =
+    length-prefix_len is_key_char (drop 8 bytes) in
+    let few : length (take (ape_number 0 bytes) (drop (value_place bytes) bytes)) ≤ ape_number 0
+    bytes = omega (arith, length-take (ape_number 0 bytes) (drop (value_place bytes) bytes)) in
+    and_from _ _ (and_from _ _
+    (and_from _ _ (and_from _ _ (le-leb 2 (length (take (key_length bytes) (drop 8 bytes)))
+    (omega (arith, long, parts.least))) (le-leb (length (take (key_length bytes) (drop 8 bytes)))
+    255 (omega (arith, long, parts.most)))) (key_passes (drop 8 bytes)))
+    (lt-ltb (length (take (ape_number 0 bytes) (drop (value_place bytes) bytes))) (2 ^ 32)
+    (omega (arith, few, ape_number-below 0 bytes octets))))
+    (lt-ltb (ape_number 4 bytes) (2 ^ 32) (ape_number-below 4 bytes octets))
+
+-- ---- an item read from its bytes
+
+-- an item has a legal key of 2 to 255 characters, and a value length and flags of 32 bits
+pub record IsItem (item : TagItem) : Type 0 where
+  pub least : 2 ≤ length item.key
+  pub most : length item.key ≤ 255
+  pub chars : list_all is_key_char item.key ≡ true
+  pub value : length item.value < 2 ^ 32
+  pub flags : item.flags < 2 ^ 32
+
+-- what passes the test of items is one
+pub is_item-parts : (item : TagItem) → is_item item ≡ true → IsItem item
+unfolding is_item
+is_item-parts item is =
+    let two = and_parts _ _ is in
+    let one = and_parts _ _ two.0 in
+    let key = and_parts _ _ one.0 in
+    let long = and_parts _ _ key.0 in
+    record {
+      least = leb-true _ _ long.0;
+      most = leb-true _ _ long.1;
+      chars = key.1;
+      value = ltb-true _ _ one.1;
+      flags = ltb-true _ _ two.1;
+    }
+
+prefix_len-key : (key behind : List ℕ) → list_all is_key_char key ≡ true
+    → prefix_len is_key_char (key ++ (0 ∷ behind)) ≡ length key
+prefix_len-key [] behind all = refl
+prefix_len-key (c ∷ key) behind all =
+    let parts = and_parts (is_key_char c) (list_all is_key_char key) all in
+    rw parts.0 (omega (arith, prefix_len-key key behind parts.1))
+
+-- the bytes of an item, with what is after them
+shown : TagItem → List ℕ → List ℕ
+shown item rest = little_bytes 4 (length item.value)
+    ++ (little_bytes 4 item.flags ++ (item.key ++ (0 ∷ (item.value ++ rest))))
+
+shown-is : (item : TagItem) (rest : List ℕ) → item_bytes item ++ rest ≡ shown item rest
+unfolding item_bytes shown
+shown-is item rest =
+    joined (little_bytes 4 (length item.value)) (little_bytes 4 item.flags) item.key item.value rest
+
+drop-shown : (item : TagItem) (rest : List ℕ)
+    → drop 8 (shown item rest) ≡ item.key ++ (0 ∷ (item.value ++ rest))
+unfolding shown
+drop-shown item rest = refl
+
+key-shown : (item : TagItem) (rest : List ℕ) → IsItem item
+    → key_length (shown item rest) ≡ length item.key
+key-shown item rest is = ap (prefix_len is_key_char) (drop-shown item rest)
+    ∙ prefix_len-key item.key (item.value ++ rest) is.chars
+
+size-shown : (item : TagItem) (rest : List ℕ) → IsItem item
+    → ape_number 0 (shown item rest) ≡ length item.value
+unfolding shown
+size-shown item rest is = little_number-little_bytes (length item.value) is.value
+
+flags-shown : (item : TagItem) (rest : List ℕ) → IsItem item
+    → ape_number 4 (shown item rest) ≡ item.flags
+unfolding shown
+flags-shown item rest is = little_number-little_bytes item.flags is.flags
+
+length-shown : (item : TagItem) (rest : List ℕ)
+    → length (shown item rest) ≡ item_length item + length rest
+length-shown item rest = omega (
+  arith,
+  ap length (shown-is item rest),
+  length-append (item_bytes item) rest,
+  length-item_bytes item,
+)
+
+zero-shown : (item : TagItem) (rest : List ℕ) → get_or (shown item rest) (8 + length item.key) 0 ≡ 0
+zero-shown item rest =
+    sym (get_or-drop 8 (shown item rest) (length item.key) 0)
+    ∙ ap (λ l. get_or l (length item.key) 0) (drop-shown item rest)
+    ∙ get_or_at item.key 0 (item.value ++ rest) 0 (length item.key) refl
+
+value-shown : (item : TagItem) (rest : List ℕ)
+    → drop (9 + length item.key) (shown item rest) ≡ item.value ++ rest
+value-shown item rest =
+    let more : 8 + (length item.key + 1) ≡ 9 + length item.key = omega arith in
+    ap (λ n. drop n (shown item rest)) (sym more)
+    ∙ sym (drop-drop (length item.key + 1) 8 (shown item rest))
+    ∙ ap (drop (length item.key + 1)) (drop-shown item rest)
+    ∙ sym (drop-drop 1 (length item.key) (item.key ++ (0 ∷ (item.value ++ rest))))
+    ∙ ap (drop 1) (drop_at item.key (0 ∷ (item.value ++ rest)) (length item.key) refl)
+
+stands-shown : (item : TagItem) (rest : List ℕ) → IsItem item
+    → has_whole_item (shown item rest) ≡ true
+unfolding has_whole_item
+stands-shown item rest is =
+    rw (key-shown item rest is, size-shown item rest is, zero-shown item rest)
+    (and_from _ _ (and_from _ _ (and_from _ _ (le-leb 2 (length item.key) is.least)
+    (le-leb (length item.key) 255 is.most)) (le-leb (9 + length item.key + length item.value)
+    (length (shown item rest)) (omega (arith, length-shown item rest)))) refl)
+
+front-shown : (item : TagItem) (rest : List ℕ) → IsItem item
+    → tag_item_front (shown item rest) ≡ item
+unfolding tag_item_front
+front-shown item rest is =
+    rw (
+      key-shown item rest is,
+      size-shown item rest is,
+      flags-shown item rest is,
+      value-shown item rest,
+      drop-shown item rest,
+      take_at item.key (0 ∷ (item.value ++ rest)) (length item.key) refl,
+      take_at item.value rest (length item.value) refl,
+    ) refl
+
+-- an item is read from its bytes, whatever follows
+pub item_at-item_bytes : (item : TagItem) (rest : List ℕ) → is_item item ≡ true
+    → tag_item_of (item_bytes item ++ rest) ≡ Some item
+item_at-item_bytes item rest is =
+    let parts = is_item-parts item is in
+    ap tag_item_of (shown-is item rest)
+    ∙ rw (stands-shown item rest parts) (ap Some (front-shown item rest parts))
+
+-- ---- the next item
+
+admitted_cases : (met is : Bool) (other item : TagItem) → is_undo other ≡ is
+    → cond (met && is) None (Some other) ≡ Some item
+    → (Some other ≡ Some item) × ((met && is) ≡ false)
+admitted_cases true true other item own e = absurd cc
+admitted_cases _ _ other item own e = (e, refl)
+
+some_same : (a b : TagItem) → Some a ≡ Some b → a ≡ b
+some_same a b e = cc
+
+next_cases : (met : Bool) (o : Option TagItem) (item : TagItem) → next_if_admitted met o ≡ Some item
+    → (o ≡ Some item) × ((met && is_undo item) ≡ false)
+next_cases met None item e = absurd cc
+next_cases met (Some other) item e =
+    let cases = admitted_cases met (is_undo other) other item refl e in
+    (cases.0, subst (λ i. (met && is_undo i) ≡ false) (some_same other item cases.0) cases.1)
+
+-- the item that comes next is there, and isn't a second undo item
+pub record IsNext (met : Bool) (bytes : List ℕ) (item : TagItem) : Type 0 where
+  pub stands_there : has_whole_item bytes ≡ true
+  pub is : tag_item_front bytes ≡ item
+  pub admitted : (met && is_undo item) ≡ false
+
+-- an item that comes next is whole, and not a second undo item
+pub next_item-is : (met : Bool) (bytes : List ℕ) (item : TagItem) → next_item met bytes ≡ Some item
+    → IsNext met bytes item
+next_item-is met bytes item next =
+    let cases = next_cases met (tag_item_of bytes) item next in
+    let here = cond_some (has_whole_item bytes) (tag_item_front bytes) item cases.0 in
+    record { stands_there = here.0; is = here.1; admitted = cases.1 }
+
+-- it is within the bytes
+pub next_item-within : (met : Bool) (bytes : List ℕ) (item : TagItem)
+    → next_item met bytes ≡ Some item → item_length item ≤ length bytes
+next_item-within met bytes item next = let here = next_item-is met bytes item next in
+    subst (λ i. item_length i ≤ length bytes) here.is (within-front bytes here.stands_there)
+
+admit : (met : Bool) (item : TagItem) (o : Option TagItem) → o ≡ Some item
+    → (met && is_undo item) ≡ false → next_if_admitted met o ≡ Some item
+admit met item o is none = ap (next_if_admitted met) is ∙ rw none refl
+
+-- ---- items end to end
+
+one_more : (most : ℕ) (met : Bool) (bytes : List ℕ) → tag_items_from (suc most) met bytes
+    ≡ item_and_more (λ item. tag_items_from most (met || is_undo item)
+    (drop (item_length item) bytes)) (next_item met bytes)
+unfolding tag_items_from
+one_more most met bytes = refl
+
+-- the items from here on are the one that comes next, and those behind it
+pub items_from-next : (most : ℕ) (met : Bool) (bytes : List ℕ) (item : TagItem)
+    → next_item met bytes ≡ Some item → tag_items_from (suc most) met bytes
+    ≡ item ∷ tag_items_from most (met || is_undo item) (drop (item_length item) bytes)
+items_from-next most met bytes item next = one_more most met bytes
+    ∙ ap (item_and_more (λ i. tag_items_from most (met || is_undo i) (drop (item_length i) bytes)))
+    next
+
+-- where none comes next there are no items
+pub items_from-none : (most : ℕ) (met : Bool) (bytes : List ℕ) → next_item met bytes ≡ None
+    → tag_items_from most met bytes ≡ []
+unfolding tag_items_from
+items_from-none zero met bytes none = refl
+items_from-none (suc most) met bytes none = one_more most met bytes
+    ∙ ap (item_and_more (λ i. tag_items_from most (met || is_undo i) (drop (item_length i) bytes)))
+    none
+
+-- where no more may come there are none
+pub items_from-zero : (met : Bool) (bytes : List ℕ) → tag_items_from 0 met bytes ≡ []
+unfolding tag_items_from
+items_from-zero met bytes = refl
+
+-- steps of a loop over items: one more, none that comes next, and as many as there may be
+pub read_more : (whole items : List TagItem) (count at passed : ℕ) (met : Bool) (bytes : List ℕ)
+    (item : TagItem) → at < count
+    → whole ≡ items ++ tag_items_from (count - at) met (drop passed bytes)
+    → next_item met (drop passed bytes) ≡ Some item → whole ≡ (items ++ (item ∷ []))
+    ++ tag_items_from (count - (at + 1)) (met || is_undo item)
+    (drop (passed + item_length item) bytes)
+read_more whole items count at passed met bytes item more is next =
+    let left : count - at ≡ suc (count - (at + 1)) = omega (arith, more) in
+    is ∙ ap (λ n. items ++ tag_items_from n met (drop passed bytes)) left
+    ∙ ap (λ l. items ++ l) (items_from-next (count - (at + 1)) met (drop passed bytes) item next
+    ∙ ap (λ b. item ∷ tag_items_from (count - (at + 1)) (met || is_undo item) b)
+    (drop-drop (item_length item) passed bytes))
+    ∙ sym (append_assoc items (item ∷ [])
+    (tag_items_from (count - (at + 1)) (met || is_undo item)
+    (drop (passed + item_length item) bytes)))
+
+-- where none comes next the items so far are all
+pub read_none : (whole items : List TagItem) (left : ℕ) (met : Bool) (bytes : List ℕ)
+    → whole ≡ items ++ tag_items_from left met bytes → next_item met bytes ≡ None → items ≡ whole
+read_none whole items left met bytes is none =
+    sym (is ∙ ap (λ l. items ++ l) (items_from-none left met bytes none) ∙ append-nil items)
+
+-- as many items as may come are all
+pub read_all : (whole items : List TagItem) (count at : ℕ) (met : Bool) (bytes : List ℕ)
+    → count ≤ at → whole ≡ items ++ tag_items_from (count - at) met bytes → items ≡ whole
+read_all whole items count at met bytes done is =
+    let none : count - at ≡ 0 = omega (arith, done) in
+    sym (is ∙ ap (λ n. items ++ tag_items_from n met bytes) none
+    ∙ ap (λ l. items ++ l) (items_from-zero met bytes) ∙ append-nil items)
+
+-- ---- what items that follow end to end are
+
+undo_cases : (items : List TagItem) (item : TagItem) (is : Bool) → is_undo item ≡ is
+    → length (cond is (item ∷ filter is_undo items) (filter is_undo items))
+    ≡ cond is 1 0 + length (filter is_undo items)
+undo_cases items item true own = omega arith
+undo_cases items item false own = omega arith
+
+-- the undo items are one more if the first is one
+pub undos-cons : (item : TagItem) (items : List TagItem) → length (filter is_undo (item ∷ items))
+    ≡ cond (is_undo item) 1 0 + length (filter is_undo items)
+undos-cons item items = undo_cases items item (is_undo item) refl
+
+few_more : (met is : Bool) (k : ℕ) → (met && is) ≡ false → cond (met || is) 1 0 + k ≤ 1
+    → cond met 1 0 + (cond is 1 0 + k) ≤ 1
+few_more true true k both few = absurd (true≢false both)
+few_more true false k both few = omega (arith, few)
+few_more false true k both few = omega (arith, few)
+few_more false false k both few = omega (arith, few)
+
+few_less : (met is : Bool) (k : ℕ) → cond met 1 0 + (cond is 1 0 + k) ≤ 1
+    → ((met && is) ≡ false) × (cond (met || is) 1 0 + k ≤ 1)
+few_less true true k few = absurd (omega (arith, few))
+few_less true false k few = (refl, omega (arith, few))
+few_less false true k few = (refl, omega (arith, few))
+few_less false false k few = (refl, omega (arith, few))
+
+at_most_one : (met : Bool) → cond met 1 0 + 0 ≤ 1
+at_most_one true = omega arith
+at_most_one false = omega arith
+
+-- all are items, the bytes begin with theirs, and at most
+-- one is an undo item, or none where one was met before
+pub record AreRead (met : Bool) (bytes : List ℕ) (items : List TagItem) : Type 0 where
+  pub all : list_all is_item items ≡ true
+  pub front : bytes ≡ items_bytes items ++ drop (items_length items) bytes
+  pub few : cond met 1 0 + length (filter is_undo items) ≤ 1
+
+read_nothing : (met : Bool) (bytes : List ℕ) → AreRead met bytes []
+read_nothing met bytes = record { all = refl; front = refl; few = at_most_one met }
+
+read_one : (met : Bool) (bytes : List ℕ) (item : TagItem) (items : List TagItem)
+    → AreByteValues bytes → IsNext met bytes item
+    → AreRead (met || is_undo item) (drop (item_length item) bytes) items
+    → AreRead met bytes (item ∷ items)
+read_one met bytes item items octets next rest =
+    let here : is_item item ≡ true =
+    subst (λ i. is_item i ≡ true) next.is (is_item-front bytes octets next.stands_there) in
+    let front : bytes ≡ item_bytes item ++ drop (item_length item) bytes =
+    subst (λ i. bytes ≡ item_bytes i ++ drop (item_length i) bytes)
+    next.is (bytes-front bytes octets next.stands_there) in
+    let behind : drop (items_length items) (drop (item_length item) bytes)
+    ≡ drop (items_length (item ∷ items)) bytes =
+    drop-drop (items_length items) (item_length item) bytes
+    ∙ ap (λ n. drop n bytes) (sym (items_length-cons item items)) in
+    record {
+      all = and_from (is_item item) (list_all is_item items) here rest.all;
+      front = front
+          ∙ ap (λ l. item_bytes item ++ l) (rest.front ∙ ap (λ l. items_bytes items ++ l) behind)
+          ∙ sym (append_assoc (item_bytes item) (items_bytes items)
+          (drop (items_length (item ∷ items)) bytes));
+      few = omega (
+        arith,
+        undos-cons item items,
+        few_more met (is_undo item) (length (filter is_undo items)) next.admitted rest.few,
+      );
+    }
+
+read_cases : (most : ℕ) (met : Bool) (bytes : List ℕ) → AreByteValues bytes
+    → ((m : Bool) (b : List ℕ) → AreByteValues b → AreRead m b (tag_items_from most m b))
+    → (o : Option TagItem) → next_item met bytes ≡ o
+    → AreRead met bytes (tag_items_from (suc most) met bytes)
+read_cases most met bytes octets fewer None none = subst (AreRead met bytes)
+    (sym (items_from-none (suc most) met bytes none)) (read_nothing met bytes)
+read_cases most met bytes octets fewer (Some item) next =
+    subst (AreRead met bytes) (sym (items_from-next most met bytes item next))
+    (read_one met bytes item
+    (tag_items_from most (met || is_undo item) (drop (item_length item) bytes))
+    octets (next_item-is met bytes item next)
+    (fewer (met || is_undo item) (drop (item_length item) bytes)
+    (octets-drop (item_length item) bytes octets)))
+
+-- what is read are items with whose bytes the bytes begin, and at most one is an undo item
+pub items_from-read : (most : ℕ) (met : Bool) (bytes : List ℕ) → AreByteValues bytes
+    → AreRead met bytes (tag_items_from most met bytes)
+items_from-read zero met bytes octets =
+    subst (AreRead met bytes) (sym (items_from-zero met bytes)) (read_nothing met bytes)
+items_from-read (suc most) met bytes octets = read_cases most met bytes octets
+    (λ m b all. items_from-read most m b all) (next_item met bytes) refl
+
+-- items are read from their bytes
+pub items_from-items_bytes : (met : Bool) (items : List TagItem) → list_all is_item items ≡ true
+    → cond met 1 0 + length (filter is_undo items) ≤ 1
+    → tag_items_from (length items) met (items_bytes items) ≡ items
+items_from-items_bytes met [] all few = items_from-zero met []
+items_from-items_bytes met (item ∷ items) all few =
+    let parts = and_parts (is_item item) (list_all is_item items) all in
+    let less = few_less met (is_undo item) (length (filter is_undo items))
+    (omega (arith, few, undos-cons item items)) in
+    let next : next_item met (items_bytes (item ∷ items)) ≡ Some item = admit met item (tag_item_of
+    (items_bytes (item ∷ items))) (item_at-item_bytes item (items_bytes items) parts.0) less.0 in
+    items_from-next (length items) met (items_bytes (item ∷ items)) item next
+    ∙ ap (λ l. item ∷ l) (ap (tag_items_from (length items) (met || is_undo item))
+    (drop_at (item_bytes item) (items_bytes items) (item_length item) (length-item_bytes item))
+    ∙ items_from-items_bytes (met || is_undo item) items parts.1 less.1)
+
+-- they are within the bytes
+pub items_from-within : (most : ℕ) (met : Bool) (bytes : List ℕ) → AreByteValues bytes
+    → items_length (tag_items_from most met bytes) ≤ length bytes
+items_from-within most met bytes octets =
+    let items : List TagItem = tag_items_from most met bytes in
+    let read = items_from-read most met bytes octets in
+    omega (
+      arith,
+      ap length read.front,
+      length-append (items_bytes items) (drop (items_length items) bytes),
+      length-items_bytes items,
+    )
+
+-- ---- and reading ends only where it has to
+
+-- there are as many items as may come, or no further one comes next
+pub record IsStopped (most : ℕ) (met : Bool) (bytes : List ℕ) (items : List TagItem) : Type 0 where
+  pub few : length items ≤ most
+  pub last : length items < most
+      → next_item (met || list_any is_undo items) (drop (items_length items) bytes) ≡ None
+
+or_false : (m : Bool) → (m || false) ≡ m
+or_false true = refl
+or_false false = refl
+
+or_assoc : (a b c : Bool) → ((a || b) || c) ≡ (a || (b || c))
+or_assoc true b c = refl
+or_assoc false b c = refl
+
+stopped_here : (most : ℕ) (met : Bool) (bytes : List ℕ) → (0 < most → next_item met bytes ≡ None)
+    → IsStopped most met bytes []
+stopped_here most met bytes none = record {
+  few = omega arith;
+  last = λ less. ap (λ m. next_item m bytes) (or_false met) ∙ none less;
+}
+
+stopped_later : (most : ℕ) (met : Bool) (bytes : List ℕ) (item : TagItem) (items : List TagItem)
+    → IsStopped most (met || is_undo item) (drop (item_length item) bytes) items
+    → IsStopped (suc most) met bytes (item ∷ items)
+stopped_later most met bytes item items rest = record {
+  few = omega (arith, rest.few);
+  last = λ less.
+      ap (λ m. next_item m (drop (items_length (item ∷ items)) bytes))
+      (sym (or_assoc met (is_undo item) (list_any is_undo items)))
+      ∙ ap (next_item ((met || is_undo item) || list_any is_undo items))
+      (ap (λ n. drop n bytes) (items_length-cons item items)
+      ∙ sym (drop-drop (items_length items) (item_length item) bytes))
+      ∙ rest.last (omega (arith, less));
+}
+
+stop_cases : (most : ℕ) (met : Bool) (bytes : List ℕ)
+    → ((m : Bool) (b : List ℕ) → IsStopped most m b (tag_items_from most m b))
+    → (o : Option TagItem) → next_item met bytes ≡ o
+    → IsStopped (suc most) met bytes (tag_items_from (suc most) met bytes)
+stop_cases most met bytes fewer None none =
+    subst (IsStopped (suc most) met bytes) (sym (items_from-none (suc most) met bytes none))
+    (stopped_here (suc most) met bytes (λ _. none))
+stop_cases most met bytes fewer (Some item) next =
+    subst (IsStopped (suc most) met bytes) (sym (items_from-next most met bytes item next))
+    (stopped_later most met bytes item (tag_items_from most (met || is_undo item)
+    (drop (item_length item) bytes)) (fewer (met || is_undo item) (drop (item_length item) bytes)))
+
+-- reading goes on to the last item that may come or comes
+pub items_from-stopped : (most : ℕ) (met : Bool) (bytes : List ℕ)
+    → IsStopped most met bytes (tag_items_from most met bytes)
+items_from-stopped zero met bytes = subst (IsStopped 0 met bytes) (sym (items_from-zero met bytes))
+    (stopped_here 0 met bytes (λ less. absurd (omega (arith, less))))
+items_from-stopped (suc most) met bytes =
+    stop_cases most met bytes (λ m b. items_from-stopped most m b) (next_item met bytes) refl
+
+-- ---- and no others are read
+
+only_none : (most : ℕ) (met : Bool) (bytes : List ℕ) → (0 < most → next_item met bytes ≡ None)
+    → tag_items_from most met bytes ≡ []
+only_none zero met bytes last = items_from-zero met bytes
+only_none (suc most) met bytes last = items_from-none (suc most) met bytes (last (omega arith))
+
+-- items whose bytes are there, and behind which none comes, are those that are read
+pub items_from-only : (most : ℕ) (met : Bool) (items : List TagItem) (bytes rest : List ℕ)
+    → list_all is_item items ≡ true → length items ≤ most
+    → cond met 1 0 + length (filter is_undo items) ≤ 1 → bytes ≡ items_bytes items ++ rest
+    → (length items < most → next_item (met || list_any is_undo items) rest ≡ None)
+    → tag_items_from most met bytes ≡ items
+items_from-only most met [] bytes rest all few one front last =
+    only_none most met bytes
+    (λ less. ap (next_item met) front ∙ ap (λ m. next_item m rest) (sym (or_false met)) ∙ last less)
+items_from-only zero met (item ∷ items) bytes rest all few one front last =
+    absurd (omega (arith, few))
+items_from-only (suc most) met (item ∷ items) bytes rest all few one front last =
+    let parts = and_parts (is_item item) (list_all is_item items) all in
+    let less = few_less met (is_undo item) (length (filter is_undo items))
+    (omega (arith, one, undos-cons item items)) in
+    let shape : bytes ≡ item_bytes item ++ (items_bytes items ++ rest) =
+    front ∙ append_assoc (item_bytes item) (items_bytes items) rest in
+    let next : next_item met bytes ≡ Some item = admit met item (tag_item_of bytes)
+    (ap tag_item_of shape ∙ item_at-item_bytes item (items_bytes items ++ rest) parts.0) less.0 in
+    let behind : drop (item_length item) bytes ≡ items_bytes items ++ rest =
+    ap (drop (item_length item)) shape ∙ drop_at (item_bytes item) (items_bytes items ++ rest)
+    (item_length item) (length-item_bytes item) in
+    items_from-next most met bytes item next
+    ∙ ap (λ l. item ∷ l) (items_from-only most (met || is_undo item) items
+    (drop (item_length item) bytes) rest parts.1 (omega (arith, few)) less.1 behind
+    (λ fewer. ap (λ m. next_item m rest) (or_assoc met (is_undo item) (list_any is_undo items))
+    ∙ last (omega (arith, fewer))))

@@ -1,0 +1,591 @@
+-- Tags and their bytes give each other back, and what a block says of its tag.
+use Rattle.std.proofs.Common.{ap, append-nil, append_assoc, arith, Bool, cond, drop, Err, false}
+use Rattle.std.proofs.Common.{length, length-append, length-drop, length-take, List, not, Ok, refl}
+use Rattle.std.proofs.Common.{replicate, Some, subst, sym, take, take-append-drop, true, ℕ, [], ◌*◌}
+use Rattle.std.proofs.Common.{◌++◌, ◌+◌, ◌-◌, ◌<◌, ◌==◌, ◌^◌, ◌∙◌, ◌∷◌, ◌≡◌, ◌≤◌}
+use Rattle.std.proofs.Math.Seq.{take-add}
+use Rattle.std.proofs.lemmas.Bool.{and_from, and_parts, eq-eqb, eqb-true, le-leb, leb-true, lt-ltb}
+use Rattle.std.proofs.lemmas.Bool.{ltb-true, ne_eqb}
+use Rattle.std.proofs.lemmas.List.{drop-drop, drop_at, length-take-le, nil_from_length, take_all}
+use Rattle.std.{proofs.lemmas.{List.take_at, Slice.Eq.bytes_eq-Decides}, specs.Int.bit_at}
+use Rattle.std.specs.{List.list_all, Prelude.{codes, nat_le}}
+use Rattle.byteorder.specs.Endian.{little_bytes}
+use Rattle.tag_blocks.proofs.BlocksLemmas.{block_front-any, block_front-begins}
+use Rattle.tag_blocks.proofs.ItemsLemmas.{ape_number-below, is_item-parts, items_from-items_bytes}
+use Rattle.tag_blocks.proofs.ItemsLemmas.{items_from-read, items_from-within, items_length-cons}
+use Rattle.tag_blocks.proofs.ItemsLemmas.{length-items_bytes, little_bytes-ape_number}
+use Rattle.tag_blocks.proofs.ItemsLemmas.{little_number-little_bytes, octets-drop, octets-take}
+use Rattle.tag_blocks.proofs.UndoItemsLemmas.{items_length-parts}
+use Rattle.tag_blocks.specs.Blocks.{ape_flags, ape_length, ape_size, ape_version, begins_with}
+use Rattle.tag_blocks.specs.Blocks.{block_front, is_ape}
+use Rattle.tag_blocks.specs.Items.{is_item, items_bytes, items_length, tag_items_from, TagItem}
+use Rattle.tag_blocks.specs.Laws.{AreByteValues}
+use Rattle.tag_blocks.specs.Tags.{ape_count, are_footer_flags, are_header_flags, end_bytes}
+use Rattle.tag_blocks.specs.Tags.{footer_place, is_footer, is_reserved, IsTag, item_part, tag_bytes}
+use Rattle.tag_blocks.specs.Tags.{tag_items_of, tag_of, tag_size, TagFields}
+use Rattle.tag_blocks.specs.declared.{block.Kind.TheVariants.Ape, tag_fault.TagFault.TagFault}
+
+-- ---- how long
+
+-- the items of a tag have at most 2,097,024 bytes
+pub items_length-most : (tag : TagFields) → IsTag tag → items_length tag.items ≤ 2097024
+items_length-most tag is = omega (arith, items_length-parts tag.items, is.others, is.own)
+
+-- an item has 11 bytes or more
+pub count-few : (items : List TagItem) → list_all is_item items ≡ true
+    → 11 * length items ≤ items_length items
+count-few [] all = omega arith
+count-few (item ∷ items) all =
+    let parts = and_parts (is_item item) (list_all is_item items) all in
+    omega (
+      arith,
+      count-few items parts.1,
+      items_length-cons item items,
+      (is_item-parts item parts.0).least,
+    )
+
+-- a tag has fewer than 2 ^ 32 items
+pub count-most : (tag : TagFields) → IsTag tag → length tag.items < 2 ^ 32
+count-most tag is = omega (arith, items_length-most tag is, count-few tag.items is.items)
+
+length-end_bytes : (size count flags : ℕ) → length (end_bytes size count flags) ≡ 32
+unfolding end_bytes
+length-end_bytes size count flags = refl
+
+-- a tag has the bytes of its items, and 64 of its header and its footer
+pub length-tag_bytes : (tag : TagFields) → length (tag_bytes tag) ≡ 64 + items_length tag.items
+unfolding tag_bytes
+length-tag_bytes tag =
+    let header : List ℕ = end_bytes (tag_size tag) (length tag.items) tag.header_flags in
+    let footer : List ℕ = end_bytes (tag_size tag) (length tag.items) tag.footer_flags in
+    omega (
+      arith,
+      length-append header (items_bytes tag.items ++ footer),
+      length-append (items_bytes tag.items) footer,
+      length-end_bytes (tag_size tag) (length tag.items) tag.header_flags,
+      length-end_bytes (tag_size tag) (length tag.items) tag.footer_flags,
+      length-items_bytes tag.items,
+    )
+
+-- ---- a header or a footer that was written
+
+-- what bytes consist of that begin with a header or a footer
+pub record IsEnd (size count flags : ℕ) (bytes rest : List ℕ) : Type 0 where
+  pub long : nat_le 32 (length bytes) ≡ true
+  pub text : begins_with (codes "APETAGEX") bytes ≡ true
+  pub version : ape_version bytes ≡ 2000
+  pub size_is : ape_size bytes ≡ size
+  pub count_is : ape_count bytes ≡ count
+  pub flags_is : ape_flags bytes ≡ flags
+  pub reserved : is_reserved bytes ≡ true
+  pub behind : drop 32 bytes ≡ rest
+
+end_bytes-parts : (size count flags : ℕ) (rest : List ℕ) → size < 2 ^ 32 → count < 2 ^ 32
+    → flags < 2 ^ 32 → IsEnd size count flags (end_bytes size count flags ++ rest) rest
+unfolding end_bytes
+end_bytes-parts size count flags rest s n f = record {
+  long = le-leb 32 (length (end_bytes size count flags ++ rest)) (omega
+      (arith, length-append (end_bytes size count flags) rest, length-end_bytes size count flags));
+  text = refl;
+  version = refl;
+  size_is = little_number-little_bytes size s;
+  count_is = little_number-little_bytes count n;
+  flags_is = little_number-little_bytes flags f;
+  reserved = refl;
+  behind = refl;
+}
+
+-- ---- a tag that was written is read again
+
+is_footer-end : (size count flags : ℕ) (bytes : List ℕ) → IsEnd size count flags bytes []
+    → are_footer_flags flags ≡ true → is_footer size count bytes ≡ true
+unfolding is_footer
+is_footer-end size count flags bytes is bits =
+    and_from _ _ (and_from _ _
+    (and_from _ _ (and_from _ _ (and_from _ _ is.text (eq-eqb (ape_version bytes) 2000 is.version))
+    (eq-eqb (ape_size bytes) size is.size_is)) (eq-eqb (ape_count bytes) count is.count_is))
+    (subst (λ n. are_footer_flags n ≡ true) (sym is.flags_is) bits)) is.reserved
+
+-- the bytes of a tag are its header, its items and its footer, each in its place
+pub record AreParts (tag : TagFields) (block : List ℕ) : Type 0 where
+  pub header : IsEnd (tag_size tag) (length tag.items) tag.header_flags block
+      (items_bytes tag.items ++ end_bytes (tag_size tag) (length tag.items) tag.footer_flags)
+  pub place : footer_place block ≡ 32 + items_length tag.items
+  pub items : item_part block ≡ items_bytes tag.items
+  pub behind : drop (footer_place block) block
+      ≡ end_bytes (tag_size tag) (length tag.items) tag.footer_flags
+  pub footer : IsEnd (tag_size tag)
+      (length tag.items) tag.footer_flags (drop (footer_place block) block) []
+
+tag_bytes-is : (tag : TagFields)
+    → tag_bytes tag ≡ end_bytes (tag_size tag) (length tag.items) tag.header_flags
+    ++ (items_bytes tag.items ++ end_bytes (tag_size tag) (length tag.items) tag.footer_flags)
+unfolding tag_bytes
+tag_bytes-is tag = refl
+
+-- the bytes of a tag are its header, its items and its footer, each where it belongs
+pub tag_bytes-parts : (tag : TagFields) → IsTag tag → AreParts tag (tag_bytes tag)
+tag_bytes-parts tag is =
+    let size : ℕ = tag_size tag in
+    let count : ℕ = length tag.items in
+    let footer : List ℕ = end_bytes size count tag.footer_flags in
+    let block : List ℕ = tag_bytes tag in
+    let s : size < 2 ^ 32 = omega (arith, items_length-most tag is) in
+    let n : count < 2 ^ 32 = count-most tag is in
+    let header : IsEnd size count tag.header_flags block (items_bytes tag.items ++ footer) =
+    subst (λ b. IsEnd size count tag.header_flags b (items_bytes tag.items ++ footer))
+    (sym (tag_bytes-is tag)) (end_bytes-parts size count
+    tag.header_flags (items_bytes tag.items ++ footer) s n (ltb-true _ _ is.header_number)) in
+    let place : footer_place block ≡ 32 + items_length tag.items =
+    omega (arith, length-tag_bytes tag) in
+    let many : footer_place block - 32 ≡ items_length tag.items = omega (arith, place) in
+    let behind : drop (footer_place block) block ≡ footer =
+    ap (λ k. drop k block) place ∙ sym (drop-drop (items_length tag.items) 32 block)
+    ∙ ap (drop (items_length tag.items)) header.behind ∙ drop_at (items_bytes tag.items) footer
+    (items_length tag.items) (length-items_bytes tag.items) in
+    record {
+      header = header;
+      place = place;
+      items = ap (λ k. take k (drop 32 block)) many
+          ∙ ap (take (items_length tag.items)) header.behind ∙ take_at (items_bytes tag.items)
+          footer (items_length tag.items) (length-items_bytes tag.items);
+      behind = behind;
+      footer = subst (λ b. IsEnd size count tag.footer_flags b []) (append-nil footer ∙ sym behind)
+          (end_bytes-parts size count tag.footer_flags [] s n (ltb-true _ _ is.footer_number));
+    }
+
+-- header, items and footer, added one after the other to nothing
+pub tag_bytes-added : (tag : TagFields) (size count : ℕ) (nothing header items whole : List ℕ)
+    → size ≡ tag_size tag → count ≡ length tag.items → nothing ≡ [] → header
+    ≡ nothing ++ end_bytes size count tag.header_flags → items ≡ header ++ items_bytes tag.items
+    → whole ≡ items ++ end_bytes size count tag.footer_flags → whole ≡ tag_bytes tag
+tag_bytes-added tag size count nothing header items whole size_is count_is first second third
+    fourth =
+    fourth ∙ rw (third, second, first, size_is, count_is) (append_assoc (end_bytes (tag_size tag)
+    (length tag.items) tag.header_flags) (items_bytes tag.items)
+    (end_bytes (tag_size tag) (length tag.items) tag.footer_flags) ∙ sym (tag_bytes-is tag))
+
+-- ---- what a block says of its tag, step by step
+
+-- reserved bytes that aren't zeros are a fault at byte 24
+pub tag_of-reserved : (block : List ℕ) → is_reserved block ≡ false
+    → tag_of block ≡ Err (TagFault.BadTag 24)
+unfolding tag_of
+tag_of-reserved block bad = rw bad refl
+
+-- if the items aren't as many as the header says, the fault is behind the last one
+pub tag_of-count : (block : List ℕ) → is_reserved block ≡ true
+    → (length (tag_items_of block) == ape_count block) ≡ false
+    → tag_of block ≡ Err (TagFault.BadTag (32 + items_length (tag_items_of block)))
+unfolding tag_of
+tag_of-count block good bad = rw (good, bad) refl
+
+-- so it is if the footer isn't behind the last item
+pub tag_of-place : (block : List ℕ) → is_reserved block ≡ true
+    → (length (tag_items_of block) == ape_count block) ≡ true
+    → (32 + items_length (tag_items_of block) == footer_place block) ≡ false
+    → tag_of block ≡ Err (TagFault.BadTag (32 + items_length (tag_items_of block)))
+unfolding tag_of
+tag_of-place block good counted bad = rw (good, counted, bad) refl
+
+-- if there is no footer of this header, the fault is where it should be
+pub tag_of-footer : (block : List ℕ) → is_reserved block ≡ true
+    → (length (tag_items_of block) == ape_count block) ≡ true
+    → (32 + items_length (tag_items_of block) == footer_place block) ≡ true
+    → is_footer (ape_size block) (ape_count block) (drop (footer_place block) block) ≡ false
+    → tag_of block ≡ Err (TagFault.BadTag (footer_place block))
+unfolding tag_of
+tag_of-footer block good counted placed bad = rw (good, counted, placed, bad) refl
+
+abbrev pub tag_in : List ℕ → TagFields
+tag_in block = record {
+  header_flags = ape_flags block;
+  footer_flags = ape_flags (drop (footer_place block) block);
+  items = tag_items_of block;
+}
+
+-- otherwise the block is a tag
+pub tag_of-whole : (block : List ℕ) → is_reserved block ≡ true
+    → (length (tag_items_of block) == ape_count block) ≡ true
+    → (32 + items_length (tag_items_of block) == footer_place block) ≡ true
+    → is_footer (ape_size block) (ape_count block) (drop (footer_place block) block) ≡ true
+    → tag_of block ≡ Ok (tag_in block)
+unfolding tag_of
+tag_of-whole block good counted placed footed = rw (good, counted, placed, footed) refl
+
+-- the tag that is read from what was written is the one that was written
+pub tag_of-tag_bytes : (tag : TagFields) → IsTag tag → tag_of (tag_bytes tag) ≡ Ok tag
+tag_of-tag_bytes tag is =
+    let block : List ℕ = tag_bytes tag in
+    let parts = tag_bytes-parts tag is in
+    let count : ape_count block ≡ length tag.items = parts.header.count_is in
+    let items : tag_items_of block ≡ tag.items =
+    ap (λ k. tag_items_from k false (item_part block)) count
+    ∙ ap (tag_items_from (length tag.items) false) parts.items
+    ∙ items_from-items_bytes false tag.items is.items (omega (arith, is.one)) in
+    let counted : (length (tag_items_of block) == ape_count block) ≡ true =
+    eq-eqb (length (tag_items_of block)) (ape_count block) (ap length items ∙ sym count) in
+    let placed : (32 + items_length (tag_items_of block) == footer_place block) ≡ true =
+    eq-eqb (32 + items_length (tag_items_of block)) (footer_place block)
+    (ap (λ l. 32 + items_length l) items ∙ sym parts.place) in
+    let footed : is_footer (ape_size block) (ape_count block) (drop (footer_place block) block)
+    ≡ true =
+    rw (parts.header.size_is, count) (is_footer-end (tag_size tag) (length tag.items)
+    tag.footer_flags (drop (footer_place block) block) parts.footer is.footer_bits) in
+    tag_of-whole block parts.header.reserved counted placed footed
+    ∙ ap Ok (rw (parts.header.flags_is, parts.footer.flags_is, items) refl)
+
+-- ---- what was written is a block
+
+is_ape-end : (size count flags : ℕ) (bytes rest : List ℕ) → IsEnd size count flags bytes rest
+    → 32 ≤ size → are_header_flags flags ≡ true → is_ape bytes ≡ true
+unfolding is_ape
+is_ape-end size count flags bytes rest is most bits =
+    let flag = and_parts (bit_at flags 31 == 1) (bit_at flags 29 == 1) bits in
+    and_from _ _ (and_from _ _ (and_from _ _
+    (and_from _ _ (and_from _ _ is.long is.text) (eq-eqb (ape_version bytes) 2000 is.version))
+    (le-leb 32 (ape_size bytes) (omega (arith, is.size_is, most))))
+    (subst (λ n. (bit_at n 31 == 1) ≡ true) (sym is.flags_is) flag.0))
+    (subst (λ n. (bit_at n 29 == 1) ≡ true) (sym is.flags_is) flag.1)
+
+-- the bytes of a tag begin with an APEv2 block as long as they are
+pub block_front-tag_bytes : (tag : TagFields) → IsTag tag
+    → block_front (tag_bytes tag) ≡ Some (record { kind = Ape; length = length (tag_bytes tag) })
+unfolding ape_length
+block_front-tag_bytes tag is =
+    let block : List ℕ = tag_bytes tag in
+    let parts = tag_bytes-parts tag is in
+    let here : is_ape block ≡ true = is_ape-end (tag_size tag)
+    (length tag.items) tag.header_flags block _ parts.header (omega arith) is.header_bits in
+    let long : 32 + ape_size block ≡ length block =
+    omega (arith, parts.header.size_is, length-tag_bytes tag) in
+    block_front-any Ape block (record { kind = Ape; length = length block }) (rw (here, long) refl)
+
+-- ---- a block that is a tag, written again
+
+zeros : (bytes : List ℕ) → list_all (λ b. b == 0) bytes ≡ true → bytes ≡ replicate (length bytes) 0
+zeros [] all = refl
+zeros (b ∷ bytes) all =
+    let parts = and_parts (b == 0) (list_all (λ c. c == 0) bytes) all in
+    ap (λ c. c ∷ bytes) (eqb-true b 0 parts.0) ∙ ap (λ l. 0 ∷ l) (zeros bytes parts.1)
+
+six : (bytes : List ℕ)
+    → take 32 bytes ≡ take 8 bytes ++ (take 4 (drop 8 bytes) ++ (take 4 (drop 12 bytes)
+    ++ (take 4 (drop 16 bytes) ++ (take 4 (drop 20 bytes) ++ take 8 (drop 24 bytes)))))
+six bytes =
+    take-add 8 24 bytes
+    ∙ ap (λ l. take 8 bytes ++ l) (take-add 4 20 (drop 8 bytes)
+    ∙ ap (λ l. take 4 (drop 8 bytes) ++ take 20 l) (drop-drop 4 8 bytes)
+    ∙ ap (λ l. take 4 (drop 8 bytes) ++ l) (take-add 4 16 (drop 12 bytes)
+    ∙ ap (λ l. take 4 (drop 12 bytes) ++ take 16 l) (drop-drop 4 12 bytes)
+    ∙ ap (λ l. take 4 (drop 12 bytes) ++ l) (take-add 4 12 (drop 16 bytes)
+    ∙ ap (λ l. take 4 (drop 16 bytes) ++ take 12 l) (drop-drop 4 16 bytes)
+    ∙ ap (λ l. take 4 (drop 16 bytes) ++ l) (take-add 4 8 (drop 20 bytes)
+    ∙ ap (λ l. take 4 (drop 20 bytes) ++ take 8 l) (drop-drop 4 20 bytes)))))
+
+glued : (a b c d e f g h i j k l : List ℕ) → a ≡ g → b ≡ h → c ≡ i → d ≡ j → e ≡ k → f ≡ l
+    → a ++ (b ++ (c ++ (d ++ (e ++ f)))) ≡ g ++ (h ++ (i ++ (j ++ (k ++ l))))
+glued a b c d e f g h i j k l first second third fourth fifth sixth =
+    rw (first, second, third, fourth, fifth, sixth) refl
+
+end_bytes-back : (bytes : List ℕ) → AreByteValues bytes → 32 ≤ length bytes
+    → begins_with (codes "APETAGEX") bytes ≡ true → ape_version bytes ≡ 2000 → is_reserved bytes
+    ≡ true → take 32 bytes ≡ end_bytes (ape_size bytes) (ape_count bytes) (ape_flags bytes)
+unfolding end_bytes
+end_bytes-back bytes octets long text version reserved =
+    let front : take 8 bytes ≡ codes "APETAGEX" =
+    sym ((bytes_eq-Decides (codes "APETAGEX") (take 8 bytes)).0 text) in
+    let number : take 4 (drop 8 bytes) ≡ little_bytes 4 2000 =
+    sym (little_bytes-ape_number 8 bytes octets (omega (arith, long))) ∙ ap (little_bytes 4) version
+    in
+    let size : take 4 (drop 12 bytes) ≡ little_bytes 4 (ape_size bytes) =
+    sym (little_bytes-ape_number 12 bytes octets (omega (arith, long))) in
+    let count : take 4 (drop 16 bytes) ≡ little_bytes 4 (ape_count bytes) =
+    sym (little_bytes-ape_number 16 bytes octets (omega (arith, long))) in
+    let flags : take 4 (drop 20 bytes) ≡ little_bytes 4 (ape_flags bytes) =
+    sym (little_bytes-ape_number 20 bytes octets (omega (arith, long))) in
+    let zero : take 8 (drop 24 bytes) ≡ replicate 8 0 =
+    zeros (take 8 (drop 24 bytes)) reserved ∙ ap (λ k. replicate k 0)
+    (length-take-le 8 (drop 24 bytes) (omega (arith, long, length-drop 24 bytes))) in
+    six bytes ∙ glued _ _ _ _ _ _ _ _ _ _ _ _ front number size count flags zero
+
+-- a block as `block_at` tells it
+pub record IsBlock (block : List ℕ) : Type 0 where
+  pub least : 32 ≤ length block
+  pub text : begins_with (codes "APETAGEX") block ≡ true
+  pub version : ape_version block ≡ 2000
+  pub room : 32 ≤ ape_size block
+  pub long : 32 + ape_size block ≡ length block
+  pub header_bits : are_header_flags (ape_flags block) ≡ true
+
+-- a block that is all of its bytes begins with an APEv2 header that gives its length
+pub block_front-is : (block : List ℕ)
+    → block_front block ≡ Some (record { kind = Ape; length = length block }) → IsBlock block
+unfolding is_ape ape_length
+block_front-is block is =
+    let both = block_front-begins block (record { kind = Ape; length = length block }) is in
+    let five = and_parts _ _ both.0 in
+    let four = and_parts _ _ five.0 in
+    let three = and_parts _ _ four.0 in
+    let two = and_parts _ _ three.0 in
+    let one = and_parts _ _ two.0 in
+    record {
+      least = leb-true _ _ one.0;
+      text = one.1;
+      version = eqb-true _ _ two.1;
+      room = leb-true _ _ three.1;
+      long = both.1;
+      header_bits = and_from _ _ four.1 five.1;
+    }
+
+-- the bytes are a footer with this size and this count
+pub record IsFooter (size count : ℕ) (footer : List ℕ) : Type 0 where
+  pub text : begins_with (codes "APETAGEX") footer ≡ true
+  pub version : ape_version footer ≡ 2000
+  pub size_is : ape_size footer ≡ size
+  pub count_is : ape_count footer ≡ count
+  pub bits : are_footer_flags (ape_flags footer) ≡ true
+  pub reserved : is_reserved footer ≡ true
+
+-- what passes the test of footers is one
+pub is_footer-parts : (size count : ℕ) (footer : List ℕ) → is_footer size count footer ≡ true
+    → IsFooter size count footer
+unfolding is_footer
+is_footer-parts size count footer is =
+    let five = and_parts _ _ is in
+    let four = and_parts _ _ five.0 in
+    let three = and_parts _ _ four.0 in
+    let two = and_parts _ _ three.0 in
+    let one = and_parts _ _ two.0 in
+    record {
+      text = one.0;
+      version = eqb-true _ _ one.1;
+      size_is = eqb-true _ _ two.1;
+      count_is = eqb-true _ _ three.1;
+      bits = four.1;
+      reserved = five.1;
+    }
+
+-- the block has no fault
+pub record IsWhole (block : List ℕ) : Type 0 where
+  pub is : IsBlock block
+  pub octets : AreByteValues block
+  pub most : length block ≤ 1048576
+  pub reserved : is_reserved block ≡ true
+  pub count : length (tag_items_of block) ≡ ape_count block
+  pub place : 32 + items_length (tag_items_of block) ≡ footer_place block
+  pub footer : is_footer (ape_size block) (ape_count block) (drop (footer_place block) block) ≡ true
+
+part-octets : (block : List ℕ) → AreByteValues block → AreByteValues (item_part block)
+part-octets block octets =
+    octets-take (footer_place block - 32) (drop 32 block) (octets-drop 32 block octets)
+
+-- the items of a block are those of a tag
+pub IsTag-in : (block : List ℕ) → IsWhole block → IsTag (tag_in block)
+IsTag-in block whole =
+    let read =
+    items_from-read (ape_count block) false (item_part block) (part-octets block whole.octets) in
+    let sum = items_length-parts (tag_items_of block) in
+    record {
+      items = read.all;
+      one = omega (arith, read.few);
+      others = omega (arith, sum, whole.place, whole.most);
+      own = omega (arith, sum, whole.place, whole.most);
+      header_bits = whole.is.header_bits;
+      footer_bits = (is_footer-parts (ape_size block) (ape_count block)
+          (drop (footer_place block) block) whole.footer).bits;
+      header_number = lt-ltb (ape_flags block) (2 ^ 32) (ape_number-below 20 block whole.octets);
+      footer_number =
+          lt-ltb (ape_flags (drop (footer_place block) block)) (2 ^ 32) (ape_number-below 20
+          (drop (footer_place block) block) (octets-drop (footer_place block) block whole.octets));
+    }
+
+none_left : (n : ℕ) (bytes : List ℕ) → length bytes ≤ n → drop n bytes ≡ []
+none_left n bytes few = nil_from_length (drop n bytes) (omega (arith, few, length-drop n bytes))
+
+up_to : (end n : ℕ) → 32 + n ≡ end → 32 + (end - 32) ≡ end
+up_to end n is = omega (arith, is)
+
+-- and the bytes of that tag are the block
+pub tag_bytes-in : (block : List ℕ) → IsWhole block → tag_bytes (tag_in block) ≡ block
+unfolding tag_bytes
+tag_bytes-in block whole =
+    let items : List TagItem = tag_items_of block in
+    let end : ℕ = footer_place block in
+    let footer : List ℕ = drop end block in
+    let foot = is_footer-parts (ape_size block) (ape_count block) footer whole.footer in
+    let size : items_length items + 32 ≡ ape_size block =
+    omega (arith, whole.place, whole.is.long) in
+    let header : end_bytes (items_length items + 32) (length items) (ape_flags block)
+    ≡ take 32 block =
+    rw (size, whole.count) (sym (end_bytes-back block
+    whole.octets whole.is.least whole.is.text whole.is.version whole.reserved)) in
+    let short : length footer ≡ 32 = omega (arith, length-drop end block, whole.is.least) in
+    let ended : end_bytes (items_length items + 32) (length items) (ape_flags footer) ≡ footer =
+    rw (size, whole.count, ← foot.size_is, ← foot.count_is)
+    (sym (end_bytes-back footer (octets-drop end block whole.octets) (omega (arith, short))
+    foot.text foot.version foot.reserved) ∙ take_all 32 footer (omega (arith, short))) in
+    let read =
+    items_from-read (ape_count block) false (item_part block) (part-octets block whole.octets) in
+    let wide : length (item_part block) ≡ items_length items = omega (
+      arith,
+      length-take (end - 32) (drop 32 block),
+      length-drop 32 block,
+      whole.place,
+      whole.is.least,
+    ) in
+    let nothing : items_bytes items ≡ item_part block =
+    sym (append-nil (items_bytes items)) ∙ ap (λ l. items_bytes items ++ l) (sym
+    (none_left (items_length items) (item_part block) (omega (arith, wide)))) ∙ sym read.front in
+    let split : item_part block ++ footer ≡ drop 32 block =
+    ap (λ l. item_part block ++ l) (ap (λ k. drop k block)
+    (sym (up_to end (items_length items) whole.place)) ∙ sym (drop-drop (end - 32) 32 block))
+    ∙ take-append-drop (end - 32) (drop 32 block) in
+    rw (header, nothing, ended, split) (take-append-drop 32 block)
+
+-- ---- the steps of reading, by what was found at each
+
+-- the items that were read, how many and how long they are, and the count that the header says
+pub record AreFound (block : List ℕ) (items : List TagItem) (many long count : ℕ) : Type 0 where
+  pub items_is : items ≡ tag_items_of block
+  pub many_is : many ≡ length items
+  pub long_is : long ≡ items_length items
+  pub count_is : count ≡ ape_count block
+  pub reserved : is_reserved block ≡ true
+
+module _ (block : List ℕ) (items : List TagItem) (many long count : ℕ) where
+  -- if not as many items were read as the header says, the fault is behind the last one
+  pub count_fault : AreFound block items many long count → (many ≡ count → ⊥)
+      → tag_of block ≡ Err (TagFault.BadTag (32 + long))
+  count_fault found bad =
+      let same : many ≡ length (tag_items_of block) = found.many_is ∙ ap length found.items_is in
+      tag_of-count block found.reserved (ne_eqb (length (tag_items_of block)) (ape_count block)
+      (λ e. bad (same ∙ e ∙ sym found.count_is)))
+      ∙ ap (λ n. Err (TagFault.BadTag (32 + n)))
+      (sym (found.long_is ∙ ap items_length found.items_is))
+
+  counted : AreFound block items many long count → many ≡ count
+      → length (tag_items_of block) ≡ ape_count block
+  counted found good = sym (found.many_is ∙ ap length found.items_is) ∙ good ∙ found.count_is
+
+  -- if the footer isn't behind the items that were read, the fault is behind the last one
+  pub place_fault : AreFound block items many long count → many ≡ count
+      → (32 + long ≡ footer_place block → ⊥) → tag_of block ≡ Err (TagFault.BadTag (32 + long))
+  place_fault found good bad =
+      let same : long ≡ items_length (tag_items_of block) =
+      found.long_is ∙ ap items_length found.items_is in
+      tag_of-place block found.reserved
+      (eq-eqb (length (tag_items_of block)) (ape_count block) (counted found good))
+      (ne_eqb (32 + items_length (tag_items_of block)) (footer_place block)
+      (λ e. bad (ap (λ n. 32 + n) same ∙ e)))
+      ∙ ap (λ n. Err (TagFault.BadTag (32 + n))) (sym same)
+
+  placed : AreFound block items many long count → 32 + long ≡ footer_place block
+      → 32 + items_length (tag_items_of block) ≡ footer_place block
+  placed found good = sym (ap (λ n. 32 + n) (found.long_is ∙ ap items_length found.items_is)) ∙ good
+
+  -- if it isn't a footer of this header, the fault is at it
+  pub footer_fault : AreFound block items many long count → many ≡ count
+      → 32 + long ≡ footer_place block
+      → is_footer (ape_size block) (ape_count block) (drop (footer_place block) block) ≡ false
+      → tag_of block ≡ Err (TagFault.BadTag (footer_place block))
+  footer_fault found good place bad =
+      tag_of-footer block found.reserved
+      (eq-eqb (length (tag_items_of block)) (ape_count block) (counted found good))
+      (eq-eqb (32 + items_length (tag_items_of block)) (footer_place block) (placed found place))
+      bad
+
+  -- otherwise the block has no fault
+  pub whole_found : block_front block ≡ Some (record { kind = Ape; length = length block })
+      → AreByteValues block → length block ≤ 1048576 → AreFound block items many long count
+      → many ≡ count → 32 + long ≡ footer_place block
+      → is_footer (ape_size block) (ape_count block) (drop (footer_place block) block) ≡ true
+      → IsWhole block
+  whole_found is octets most found good place footer = record {
+    is = block_front-is block is;
+    octets = octets;
+    most = most;
+    reserved = found.reserved;
+    count = counted found good;
+    place = placed found place;
+    footer = footer;
+  }
+
+-- the tag of a block without fault is the one in it
+pub tag_of-in : (block : List ℕ) → IsWhole block → tag_of block ≡ Ok (tag_in block)
+tag_of-in block whole =
+    tag_of-whole block
+    whole.reserved (eq-eqb (length (tag_items_of block)) (ape_count block) whole.count)
+    (eq-eqb (32 + items_length (tag_items_of block)) (footer_place block) whole.place) whole.footer
+
+-- the items of a block leave room for header and footer
+pub found-within : (block : List ℕ) → AreByteValues block → 64 ≤ length block
+    → 64 + items_length (tag_items_of block) ≤ length block
+found-within block octets long =
+    omega (
+      arith,
+      long,
+      items_from-within (ape_count block) false (item_part block) (part-octets block octets),
+      length-take (footer_place block - 32) (drop 32 block),
+      length-drop 32 block,
+    )
+
+-- an APEv2 block has at least 64 bytes
+pub block-long : (block : List ℕ)
+    → block_front block ≡ Some (record { kind = Ape; length = length block }) → 64 ≤ length block
+block-long block is = let here = block_front-is block is in omega (arith, here.room, here.long)
+
+-- ---- the place of a fault is in the block
+
+fault_cases : (block : List ℕ) (a b c d : Bool) (items_long : ℕ) (tag : TagFields) (place : ℕ)
+    → 64 ≤ length block → 64 + items_long ≤ length block → cond (not a) (Err (TagFault.BadTag 24))
+    (cond (not b) (Err (TagFault.BadTag (32 + items_long))) (cond (not c) (Err (TagFault.BadTag
+    (32 + items_long))) (cond (not d) (Err (TagFault.BadTag (footer_place block))) (Ok tag))))
+    ≡ Err (TagFault.BadTag place) → place < length block
+fault_cases block false b c d n tag place long within e = let here : 24 ≡ place = cc in
+    omega (arith, here, long)
+fault_cases block true true true false n tag place long within e =
+    let here : footer_place block ≡ place = cc in omega (arith, here, long)
+fault_cases block true true true true n tag place long within e = absurd cc
+fault_cases block true _ _ d n tag place long within e = let here : 32 + n ≡ place = cc in
+    omega (arith, here, within)
+
+-- a fault is at a byte of the block
+pub place-within : (block : List ℕ) (place : ℕ) → AreByteValues block → 64 ≤ length block
+    → tag_of block ≡ Err (TagFault.BadTag place) → place < length block
+unfolding tag_of
+place-within block place octets long e =
+    fault_cases block (is_reserved block) (length (tag_items_of block) == ape_count block)
+    (32 + items_length (tag_items_of block) == footer_place block)
+    (is_footer (ape_size block) (ape_count block) (drop (footer_place block) block))
+    (items_length (tag_items_of block)) (tag_in block) place long (found-within block octets long) e
+
+-- ---- a block that is a tag has no fault
+
+ok_cases : (a b c d : Bool) (x y z w : TagFault) (t tag : TagFields) → cond (not a) (Err x)
+    (cond (not b) (Err y) (cond (not c) (Err z) (cond (not d) (Err w) (Ok t)))) ≡ Ok tag
+    → (a ≡ true) × (b ≡ true) × (c ≡ true) × (d ≡ true) × (t ≡ tag)
+ok_cases true true true true x y z w t tag e = (refl, refl, refl, refl, cc)
+ok_cases _ _ _ _ x y z w t tag e = absurd cc
+
+-- a block that is read as a tag has no fault, and the tag is the one in it
+pub tag_of-ok : (block : List ℕ) (tag : TagFields) → AreByteValues block
+    → block_front block ≡ Some (record { kind = Ape; length = length block })
+    → length block ≤ 1048576 → tag_of block ≡ Ok tag → IsWhole block × (tag_in block ≡ tag)
+unfolding tag_of
+tag_of-ok block tag octets is most e =
+    let parts = ok_cases (is_reserved block) (length (tag_items_of block) == ape_count block)
+    (32 + items_length (tag_items_of block) == footer_place block)
+    (is_footer (ape_size block) (ape_count block) (drop (footer_place block) block)) _ _ _ _
+    (tag_in block) tag e in (
+      record {
+        is = block_front-is block is;
+        octets = octets;
+        most = most;
+        reserved = parts.0;
+        count = eqb-true _ _ parts.1;
+        place = eqb-true _ _ parts.2;
+        footer = parts.3;
+      },
+      parts.4,
+    )

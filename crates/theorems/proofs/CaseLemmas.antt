@@ -1,0 +1,89 @@
+-- The commands that choose frames of one file.
+use Rattle.std.proofs.Common.{ap, append-nil, length, List, Ok, refl, subst, sym, ℕ, [], ◌∷◌, ◌≡◌}
+use Rattle.std.specs.Prelude.{slice_range, ◌<◌, ◌≤◌}
+use Rattle.commands.specs.SingleOutput.{most_frames}
+use Rattle.cut_edits.proofs.ChosenLemmas.{the-plan}
+use Rattle.cut_edits.specs.Chosen.{AreUsualChoices, Chosen, chosen_file_part, chosen_needs}
+use Rattle.cut_edits.specs.Chosen.{first_plan, placed_part}
+use Rattle.frame_header.specs.{Fields.{HeaderFields, SlotFields}, Tables.window_of}
+use Rattle.laying.{proofs.SurveyFrameLemmas.survey-had, specs.Laid.stream_laid}
+use Rattle.laying.specs.Relaid.{FilePart, IsPart, part_stream, stream_with_lead_ins}
+use Rattle.laying.specs.Surveys.{CanBeRelaid}
+use Rattle.slot_plan.specs.{Plans.IsPlan, declared.needs.Placed.Placed}
+use Rattle.sync_survey.proofs.SurveyPartsLemmas.{surveyed-stream}
+use Rattle.sync_survey.proofs.SurveyedFileLemmas.{survey_of-parts}
+use Rattle.sync_survey.specs.Faults.{stream_of, stream_of_survey, SurveyFields}
+use Rattle.sync_survey.specs.{MainData.StreamFrame, Survey.survey_of}
+use Rattle.theorems.{proofs.ExactLemmas.planned-exact, specs.Exact.IsExactly}
+use Rattle.theorems.specs.Laws.{ChosenPlansAreFirst, ChosenStreamsAreExact}
+
+-- ---- frames of a file with a survey, whether or not it is one without fault
+
+module _ (chosen : Chosen) (file : List ℕ) (s : SurveyFields) (has : CanBeRelaid file s)
+    (some : chosen.from < chosen.to) (within : chosen.to ≤ length s.frames) where
+  abbrev part : FilePart
+  part = chosen_file_part chosen file s
+
+  -- the chosen frames of a survey that is had are a part
+  pub had-part : IsPart s.class part
+  had-part = record { has = has; class = refl; some = some; within = within }
+
+  module _ (choices : HeaderFields → List SlotFields) (usual : AreUsualChoices choices) where
+    abbrev first : List Placed
+    first = first_plan choices s.class (chosen_needs chosen s)
+
+    -- the first of all lists with a layout is their plan
+    pub had-plan : IsPlan (window_of s.class.version) choices (chosen_needs chosen s ∷ []) first
+    had-plan = the-plan chosen s has.placed some within choices usual
+
+    -- the stream by it is exactly the frames, behind at most one lead-in
+    pub had-exact : IsExactly (part_stream part ∷ [])
+        (stream_with_lead_ins first (part_stream part))
+    had-exact =
+        subst (λ (l : List StreamFrame). IsExactly (part_stream part ∷ [])
+        (stream_with_lead_ins first l))
+        (append-nil (part_stream part))
+        (planned-exact s.class choices (part ∷ []) first (had-part, tt) had-plan)
+
+-- ---- of one without fault
+
+-- the stream of a surveyed file is that of its survey
+pub stream-is : (file : List ℕ) (allowed : ℕ) (s : SurveyFields) → survey_of file allowed ≡ Ok s
+    → stream_of file ≡ stream_of_survey file s
+stream-is file allowed s is =
+    (surveyed-stream file allowed s (survey_of-parts file allowed s is).1).stream_is
+
+module _ (chosen : Chosen) (file : List ℕ) (s : SurveyFields) (is : survey_of file most_frames
+    ≡ Ok s) (some : chosen.from < chosen.to) (within : chosen.to ≤ length s.frames) where
+  abbrev had : CanBeRelaid file s
+  had = survey-had file most_frames s is
+
+  -- so they are by any survey without fault
+  pub chosen-part : IsPart s.class (chosen_file_part chosen file s)
+  chosen-part = had-part chosen file s had some within
+
+  -- the chosen frames are the stream of the part
+  pub own-stream : slice_range (stream_of file) chosen.from chosen.to
+      ≡ part_stream (chosen_file_part chosen file s)
+  own-stream = ap (λ (l : List StreamFrame). slice_range l chosen.from chosen.to)
+      (stream-is file most_frames s is)
+
+  -- their stream by a usual plan is exactly these, behind at most one lead-in
+  pub chosen-exact_is : (choices : HeaderFields → List SlotFields) → AreUsualChoices choices
+      → IsExactly (slice_range (stream_of file) chosen.from chosen.to ∷ [])
+      (stream_laid (placed_part chosen (first_plan choices s.class (chosen_needs chosen s))) file s)
+  chosen-exact_is choices usual =
+      subst (λ (l : List StreamFrame). IsExactly (l ∷ []) (stream_with_lead_ins
+      (first_plan choices s.class (chosen_needs chosen s))
+      (part_stream (chosen_file_part chosen file s))))
+      (sym own-stream) (had-exact chosen file s had some within choices usual)
+
+-- the stream of chosen frames is exactly these, behind at most one lead-in
+pub chosen-exact : ChosenStreamsAreExact
+chosen-exact = λ choices chosen file s usual is some within. chosen-exact_is chosen file s is some
+    within choices usual
+
+-- their plan is the first of all lists with a layout
+pub plans-first : ChosenPlansAreFirst
+plans-first = λ choices chosen file s usual is some within. had-plan chosen file s
+    (survey-had file most_frames s is) some within choices usual

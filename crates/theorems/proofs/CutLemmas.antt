@@ -1,0 +1,134 @@
+-- The first bytes of a file without fault and without junk.
+use Rattle.std.proofs.Common.{ap, arith, Err, inl, inr, length, length-append, List, None, Ok}
+use Rattle.std.proofs.Common.{Result, subst, sym, take, ℕ, ◌++◌, ◌+◌, ◌∙◌, ◌≡◌, ◌≤◌}
+use Rattle.sync_survey.proofs.{FaultsLemmas.marked-length, FoldersLemmas.surveyed_by}
+use Rattle.sync_survey.proofs.PlacedRowLemmas.{surveyed-placed}
+use Rattle.sync_survey.proofs.SurveyLemmas.{survey-stopped, survey-whole, told_by}
+use Rattle.sync_survey.proofs.SurveyPartsLemmas.{IsRead, surveyed-parts, surveyed-stream, told_from}
+use Rattle.sync_survey.specs.Faults.{first_of, stream_of_survey, survey_fields, SurveyFields}
+use Rattle.sync_survey.specs.Items.{item_at, size_of}
+use Rattle.sync_survey.specs.MainData.{main_bytes, marked_rows, rows_of, stream_frames, StreamFrame}
+use Rattle.sync_survey.specs.{Row.Row, Start.start_of, Survey.AreWellPlaced}
+use Rattle.sync_survey.specs.Walk.{all_blocks, end_fault, fault_at}
+use Rattle.sync_survey.specs.declared.{items.Item.TheVariants.Frame, places.Start.Start}
+use Rattle.sync_survey.specs.declared.survey_fault.SurveyFault.{SurveyFault}
+use Rattle.theorems.proofs.CutFrameLemmas.{are-in, end-now, first_in, found-now, frames, head, more}
+use Rattle.theorems.proofs.CutFrameLemmas.{no-faults, r, rows, rows-now, rows-were}
+use Rattle.theorems.proofs.{CutItemLemmas.cut, CutRunLemmas.{cut-start, IsCutStart, MayBeCut}}
+use Rattle.theorems.proofs.CutStreamLemmas.{marked-front}
+use Rattle.theorems.specs.CutLaws.{IsCutAnswer, IsCutFault, IsStreamPrefix, PrefixFault}
+
+-- an answer of a survey, by what it is equal to
+fault_answer : (file front : List ℕ) (answer : Result SurveyFields SurveyFault)
+    (fault : SurveyFault) → answer ≡ Err fault → IsCutFault fault → IsCutAnswer file front answer
+fault_answer file front answer fault is kind = subst (IsCutAnswer file front) (sym is) kind
+
+module _ (file : List ℕ) (n : ℕ) (within : n ≤ length file) (allowed : ℕ) (start : Start)
+    (read : IsRead file allowed start) (no_junk : start.first.offset ≡ start.front_end) where
+  abbrev front : List ℕ
+  front = cut file n within
+
+  abbrev s : SurveyFields
+  s = told_from file start
+
+  module _ (start_now : start_of front ≡ Ok start)
+      (kept : start.first.offset + size_of (Frame start.first.header) ≤ n) where
+    abbrev own : List Row
+    own = rows file n within start start_now kept allowed read
+
+    abbrev left : List Row
+    left = more file n within start start_now kept allowed read
+
+    abbrev t : SurveyFields
+    t = told_by front start (head file n within start start_now kept allowed read) (rows_of front
+        (frames file n within start start_now kept allowed read)) (all_blocks front start)
+
+    were : s.frames ≡ marked_rows s.head (own ++ left)
+    were = ap (marked_rows s.head) (rows-were file n within start start_now kept allowed read)
+
+    few : length own ≤ length s.frames
+    few = omega (arith, ap length were, marked-length s.head (own ++ left), length-append own left)
+
+    whole : end_fault front (frames file n within start start_now kept allowed read)
+        (fault_at (r file n within start start_now kept allowed read).stop (item_at front
+        (r file n within start start_now kept allowed read).stop)) ≡ None
+        → survey_fields front (length s.frames) ≡ Ok t
+    whole none =
+        survey-whole front (length s.frames) start (head file n within start start_now kept allowed
+        read) (frames file n within start start_now kept allowed read) (all_blocks front start)
+        (r file n within start start_now kept allowed read).stop
+        (found-now file n within start start_now kept allowed read) (ap first_of
+        (no-faults file n within start start_now kept allowed read (length s.frames) few)) none
+
+    stream-were : (allowed_now : ℕ) → survey_fields front allowed_now ≡ Ok t
+        → IsStreamPrefix (stream_of_survey front t) (stream_of_survey file s)
+    unfolding stream_of_survey
+    stream-were allowed_now is =
+        let now_rows = rows-now file n within start start_now kept allowed read in
+        let all = head file n within start start_now kept allowed read in
+        let placed =
+        subst (λ (rs : List Row). AreWellPlaced all t.class (marked_rows all rs)) now_rows
+        (surveyed-placed front allowed_now t is) in
+        let found =
+        marked-front file n within
+        start.first (first_in file n within start start_now kept allowed read) t.class
+        (frames file n within start start_now kept allowed read) left
+        (are-in file n within start start_now kept allowed read) placed in (
+          found.0,
+          ap (λ (rs : List Row). stream_frames (main_bytes front all (marked_rows all rs)) all
+              (marked_rows all rs) ++ found.0) now_rows
+              ∙ found.1
+              ∙ ap (λ (rs : List Row). stream_frames (main_bytes file all rs) all rs) (sym were),
+        )
+
+    answer : MayBeCut file n within (end_fault front (frames file n within start start_now kept
+        allowed read) (fault_at (r file n within start start_now kept allowed read).stop
+        (item_at front (r file n within start start_now kept allowed read).stop)))
+        → survey_fields file allowed ≡ Ok s
+        → IsCutAnswer file front (survey_fields front (length s.frames))
+    answer (inr found) is =
+        fault_answer file front (survey_fields front (length s.frames)) found.0
+        (survey-stopped front (length s.frames) start (head file n within start start_now kept
+        allowed read) (frames file n within start start_now kept allowed read)
+        (all_blocks front start) (r file n within start start_now kept allowed read).stop
+        (found-now file n within start start_now kept allowed read) found.0 (ap first_of
+        (no-faults file n within start start_now kept allowed read (length s.frames) few)) found.1)
+        found.2
+    answer (inl none) is =
+        let now_is = whole none in
+        let holds = surveyed-stream front (length s.frames) t now_is in
+        let held = surveyed-stream file allowed s is in
+        let part = stream-were (length s.frames) now_is in
+        subst (IsCutAnswer file front) (sym now_is) (
+          holds.well_formed,
+          (
+            part.0,
+            ap (λ (fs : List StreamFrame). fs ++ part.0) holds.stream_is ∙ part.1
+                ∙ sym held.stream_is,
+          ),
+        )
+
+  by_start : IsCutStart file n within start → survey_fields file allowed ≡ Ok s
+      → IsCutAnswer file front (survey_fields front (length s.frames))
+  by_start (inl there) is =
+      answer there.0 there.1 (end-now file n within start there.0 there.1 allowed read) is
+  by_start (inr found) is =
+      fault_answer file front (survey_fields front (length s.frames))
+      found.0 (surveyed_by front (length s.frames) found.0 found.1) found.2
+
+  -- the answer of the survey is the one for a file that was cut short
+  pub cut-answer : survey_fields file allowed ≡ Ok s
+      → IsCutAnswer file front (survey_fields front (length s.frames))
+  cut-answer is = by_start (cut-start file n within start read.start_is no_junk) is
+
+-- the first bytes of a file without fault and junk have the fault that the definition says
+pub prefix-fault : PrefixFault
+prefix-fault file allowed s n is no_junk within =
+    let parts = surveyed-parts file allowed s is in
+    let start = parts.0 in
+    let told = parts.2 in
+    let junk : start.first.offset ≡ start.front_end = ap (λ (t : SurveyFields). t.first) told
+    ∙ sym no_junk ∙ sym (ap (λ (t : SurveyFields). t.junk) told) in
+    subst (λ (t : SurveyFields). IsCutAnswer file (take n file)
+    (survey_fields (take n file) (length t.frames))) told
+    (cut-answer file n within allowed start parts.1 junk (is ∙ ap Ok (sym told)))

@@ -1,0 +1,272 @@
+-- The items of a file that was cut short: those that still are whole.
+use Rattle.std.proofs.Common.{ap, arith, Err, false, inl, inr, length, List, None, Ok, Option, refl}
+use Rattle.std.proofs.Common.{Some, subst, sym, true, ℕ, [], ◌++◌, ◌+◌, ◌-◌, ◌<◌, ◌∙◌, ◌∷◌, ◌≡◌}
+use Rattle.std.proofs.{Common.{◌≤◌, ◌⊎◌}, lemmas.Bool.{cases_lt, false≢true, le-leb, lt-leb}}
+use Rattle.std.proofs.lemmas.List.{drop_all}
+use Rattle.frame_header.specs.Fields.{HeaderFields}
+use Rattle.sync_survey.proofs.{ItemListLemmas.stream_belongs, OneItemLemmas.stands-only_at}
+use Rattle.sync_survey.proofs.RunsLemmas.{IsItemOf, item_of-is, item_of-whole, run-ends, run-only}
+use Rattle.sync_survey.proofs.StartLemmas.{start-first, start-front, start_is}
+use Rattle.sync_survey.specs.Items.{item_at, item_fits, size_of}
+use Rattle.sync_survey.specs.Runs.{AreEndToEnd, belongs, item_if_whole, item_run, ItemRun}
+use Rattle.sync_survey.specs.Runs.{PlacedItem, whole_item_at}
+use Rattle.sync_survey.specs.{Start.{front_end_of, start_at, start_of}, Walk.fault_at}
+use Rattle.sync_survey.specs.declared.items.Item.{Item}
+use Rattle.sync_survey.specs.declared.items.Item.TheVariants.{Block, End, Frame, Free, Nothing}
+use Rattle.sync_survey.specs.declared.{items.Item.TheVariants.Zero, places.Start.Start}
+use Rattle.sync_survey.specs.declared.runs.Region.{Region, TheVariants.{Front, Stream}}
+use Rattle.sync_survey.specs.declared.survey_fault.SurveyFault.{SurveyFault}
+use Rattle.sync_survey.specs.declared.survey_fault.SurveyFault.TheVariants.{LostSync, NoFrame}
+use Rattle.sync_survey.specs.declared.survey_fault.SurveyFault.TheVariants.{Truncated}
+use Rattle.theorems.proofs.CutItemLemmas.{cut, cut-none, IsCutItem, IsCutThrough, item-cut}
+use Rattle.theorems.proofs.{CutItemLemmas.{item-kept, length-cut}, CutStartLemmas.no-start}
+use Rattle.theorems.specs.CutLaws.{IsCutFault}
+
+module _ (file : List ℕ) (n : ℕ) (within : n ≤ length file) where
+  abbrev now : List ℕ
+  now = cut file n within
+
+  -- ---- a run
+
+  -- where the run stops now: where it did, or at an item that was cut through
+  abbrev pub IsStop : Region → ℕ → ℕ → List PlacedItem → Type 0
+  IsStop part to stop rest =
+      ((stop ≡ to) × (rest ≡ [])) ⊎ ((item : Item) × IsCutThrough file n within part stop item)
+
+  -- the items that are still whole, end to end, and where and why the run stops
+  pub record IsCutRun (part : Region) (from : ℕ) (ps : List PlacedItem) (to : ℕ) : Type 0 where
+    pub front : List PlacedItem
+    pub rest : List PlacedItem
+    pub stop : ℕ
+    pub split : front ++ rest ≡ ps
+    pub ends : AreEndToEnd part now from front stop
+    pub low : stop ≤ n
+    pub last : IsStop part to stop rest
+
+  run-more : (part : Region) (from : ℕ) (p : PlacedItem) (ps : List PlacedItem) (to : ℕ)
+      → AreEndToEnd part file from (p ∷ ps) to → from ≤ n
+      → (p.offset + size_of p.item ≤ n → IsCutRun part (p.offset + size_of p.item) ps to)
+      → (n < p.offset + size_of p.item) ⊎ (p.offset + size_of p.item ≤ n)
+      → IsCutRun part from (p ∷ ps) to
+  run-more part from p ps to ends low later (inl over) = record {
+    front = [];
+    rest = p ∷ ps;
+    stop = from;
+    split = refl;
+    ends = refl;
+    low = low;
+    last = inr (
+      p.item,
+      record {
+        is = ap (whole_item_at part file) (sym ends.0) ∙ ends.1;
+        low = low;
+        over = omega (arith, over, ends.0);
+      },
+    );
+  }
+  run-more part from p ps to ends low later (inr kept) =
+      let behind = later kept in
+      record {
+        front = p ∷ behind.front;
+        rest = behind.rest;
+        stop = behind.stop;
+        split = ap (λ (qs : List PlacedItem). p ∷ qs) behind.split;
+        ends = (ends.0, item-kept file n within part p.offset p.item ends.1 kept, behind.ends);
+        low = behind.low;
+        last = behind.last;
+      }
+
+  -- the run has the items that are still whole, and stops behind them
+  pub cut-run : (part : Region) (from : ℕ) (ps : List PlacedItem) (to : ℕ)
+      → AreEndToEnd part file from ps to → from ≤ n → IsCutRun part from ps to
+  cut-run part from [] to ends low = record {
+    front = [];
+    rest = [];
+    stop = from;
+    split = refl;
+    ends = refl;
+    low = low;
+    last =
+        inl (ends, refl);
+  }
+  cut-run part from (p ∷ ps) to ends low =
+      run-more part from p ps to ends low (λ kept. cut-run part
+      (p.offset + size_of p.item) ps to ends.2 kept) (cases_lt n (p.offset + size_of p.item))
+
+  -- ---- where no item of the part is whole
+
+  -- a fault that a file that was cut may have, or none
+  abbrev pub MayBeCut : Option SurveyFault → Type 0
+  MayBeCut o = (o ≡ None) ⊎ ((fault : SurveyFault) × (o ≡ Some fault) × IsCutFault fault)
+
+  fault_by : (at : ℕ) (item : Item) → belongs Stream item ≡ true → MayBeCut (fault_at at item)
+  fault_by at (Frame h) is = inr (Truncated at, refl, tt)
+  fault_by at Free is = absurd (false≢true is)
+  fault_by at (Block b) is = inr (Truncated at, refl, tt)
+  fault_by at Zero is = inr (LostSync at, refl, tt)
+  fault_by at End is = absurd (false≢true is)
+  fault_by at Nothing is = absurd (false≢true is)
+
+  fault_cases : (at : ℕ) (x item : Item) → belongs Stream item ≡ true → IsCutItem x item
+      → MayBeCut (fault_at at x)
+  fault_cases at x item is (inl same) =
+      subst (λ y. MayBeCut (fault_at at y)) (sym same) (fault_by at item is)
+  fault_cases at x item is (inr (inl same)) = inl (ap (fault_at at) same)
+  fault_cases at x item is (inr (inr same)) = inr (LostSync at, ap (fault_at at) same, tt)
+
+  -- where the stream stops now
+  pub stop-fault : (at : ℕ) (item : Item) → IsCutThrough file n within Stream at item
+      → MayBeCut (fault_at at (item_at now at))
+  stop-fault at item through =
+      let here = item_of-is Stream file at item through.is in
+      fault_cases at
+      (item_at now at) item here.belongs (item-cut file n within at item through.low here.is)
+
+  -- ---- the start
+
+  front-item : (x : Item) (h : HeaderFields) → IsCutItem x (Frame h) → belongs Front x ≡ false
+  front-item x h (inl same) = ap (belongs Front) same
+  front-item x h (inr (inl same)) = ap (belongs Front) same
+  front-item x h (inr (inr same)) = ap (belongs Front) same
+
+  not-in-front : (at : ℕ) (x : Item) → item_at now at ≡ x → belongs Front x ≡ false
+      → whole_item_at Front now at ≡ None
+  unfolding whole_item_at
+  not-in-front at x is out = ap (item_if_whole Front now at) is ∙ rw out refl
+
+  abbrev pub IsCutStart : Start → Type 0
+  IsCutStart start =
+      ((start_of now ≡ Ok start) × (start.first.offset + size_of (Frame start.first.header) ≤ n))
+      ⊎ ((fault : SurveyFault) × (start_of now ≡ Err fault) × IsCutFault fault)
+
+  -- no start, if the item at which the front ends was cut through
+  no_start : (at : ℕ) (item : Item) → IsCutThrough file n within Stream at item → (x : Item)
+      → item_at now at ≡ x → IsCutItem x item
+      → (fault : SurveyFault) × (start_at now at x ≡ Err fault) × IsCutFault fault
+  no_start at item through x is (inl same) =
+      whole_start item same (item_of-is Stream file at item through.is).belongs through
+    where
+      unfit : (h : HeaderFields) → n < at + size_of (Frame h)
+          → start_at now at (Frame h) ≡ Err (Truncated at)
+      unfit h over =
+          let not : item_fits now at (Frame h) ≡ false =
+          lt-leb (size_of (Frame h)) (length now - at)
+          (omega (arith, over, length-cut file n within, through.low)) in
+          rw not refl
+
+      whole_start : (item : Item) → x ≡ item → belongs Stream item ≡ true
+          → IsCutThrough file n within Stream at item
+          → (fault : SurveyFault) × (start_at now at x ≡ Err fault) × IsCutFault fault
+      whole_start (Frame h) same is through =
+          (Truncated at, ap (start_at now at) same ∙ unfit h through.over, tt)
+      whole_start Free same is through = absurd (false≢true is)
+      whole_start (Block b) same is through = (Truncated at, ap (start_at now at) same, tt)
+      whole_start Zero same zero through =
+          let none : End ≡ item_at now at = stands-only_at now at End
+          (drop_all at now (omega (arith, length-cut file n within, through.over))) in
+          let no : End ≡ Zero = none ∙ is ∙ same in absurd cc
+      whole_start End same is through = absurd (false≢true is)
+      whole_start Nothing same is through = absurd (false≢true is)
+  no_start at item through x is (inr (inl same)) = (
+    NoFrame at,
+    ap (start_at now at) same ∙ no-start file n within at item through (λ e. not_end item
+        (sym same ∙ sym is ∙ e) (item_of-is Stream file at item through.is).belongs),
+    tt,
+  )
+    where
+      not_end : (item : Item) → End ≡ item → belongs Stream item ≡ true → ⊥
+      not_end item same is = false≢true (ap (belongs Stream) same ∙ is)
+  no_start at item through x is (inr (inr same)) = (
+    NoFrame at,
+    ap (start_at now at) same ∙ no-start file n within at item through (λ e. not_nothing item
+        (sym same ∙ sym is ∙ e) (item_of-is Stream file at item through.is).belongs),
+    tt,
+  )
+    where
+      not_nothing : (item : Item) → Nothing ≡ item → belongs Stream item ≡ true → ⊥
+      not_nothing item same is = false≢true (ap (belongs Stream) same ∙ is)
+
+  stop-is : (f : List ℕ) → (item_run Front f 0).stop ≡ front_end_of f
+  unfolding front_end_of
+  stop-is f = refl
+
+  in_stream : (part : Region) (at : ℕ) (item : Item) → IsCutThrough file n within part at item
+      → IsCutThrough file n within Stream at item
+  in_stream part at item through =
+      let here = item_of-is part file at item through.is in
+      record {
+        is = item_of-whole Stream file at item here.is (stream_belongs part item here.belongs)
+            here.within;
+        low = through.low;
+        over = through.over;
+      }
+
+  -- the front ends at this offset now
+  front-now : (front : List PlacedItem) (stop : ℕ) → AreEndToEnd Front now 0 front stop
+      → whole_item_at Front now stop ≡ None → stop ≡ front_end_of now
+  front-now front stop ends none =
+      sym (ap (λ (r : ItemRun). r.stop) (run-only Front now 0 front stop ends none)) ∙ stop-is now
+
+  module _ (start : Start) (is : start_of file ≡ Ok start)
+      (no_junk : start.first.offset ≡ start.front_end) where
+    abbrev at : ℕ
+    at = start.first.offset
+
+    abbrev h : HeaderFields
+    h = start.first.header
+
+    frame : IsItemOf Stream file at (Frame h)
+    frame = (start-first file start is).frame
+
+    at_front : at ≡ front_end_of file
+    at_front = no_junk ∙ start-front file start is
+
+    -- the first frame isn't whole
+    cut_through : (stop : ℕ) (item : Item) → IsCutThrough file n within Stream stop item
+        → stop ≡ front_end_of now → IsCutStart start
+    cut_through stop item through front =
+        let cut_item = item-cut file n within stop item
+        through.low (item_of-is Stream file stop item through.is).is in
+        let none = no_start stop item through (item_at now stop) refl cut_item in
+        inr (none.0, start_is now stop (item_at now stop) front refl ∙ none.1, none.2)
+
+    -- it is whole
+    still_there : at + size_of (Frame h) ≤ n → at ≡ front_end_of now → IsCutStart start
+    still_there kept front =
+        let there = item_of-whole Stream file at (Frame h) frame.is refl frame.within in
+        let here = item_of-is Stream now at (Frame h)
+        (item-kept file n within Stream at (Frame h) there kept) in
+        let fit : item_fits now at (Frame h) ≡ true = le-leb (size_of (Frame h)) (length now - at)
+        (omega (arith, kept, length-cut file n within)) in
+        let same : Ok (record { front_end = at; first = start.first }) ≡ Ok start =
+        λ i. Ok (record { front_end = no_junk i; first = start.first }) in
+        inl (start_is now at (Frame h) front here.is ∙ rw fit refl ∙ same, kept)
+
+    by_front : (r : IsCutRun Front 0 (item_run Front file 0).items (item_run Front file 0).stop)
+        → IsStop Front (item_run Front file 0).stop r.stop r.rest → IsCutStart start
+    by_front r (inl end) =
+        let stop : r.stop ≡ at = end.0 ∙ stop-is file ∙ sym at_front in
+        let none : whole_item_at Front now r.stop ≡ None =
+        subst (λ k. whole_item_at Front now k ≡ None) (sym stop)
+        (not-in-front at (item_at now at) refl (front-item (item_at now at) h
+        (item-cut file n within at (Frame h) (omega (arith, stop, r.low)) frame.is))) in
+        let front : at ≡ front_end_of now = sym stop ∙ front-now r.front r.stop r.ends none in
+        elim (cases_lt n (at + size_of (Frame h))) as (λ _. IsCutStart start) [
+          | inl over ↦ cut_through at (Frame h) (record {
+            is = item_of-whole Stream file at (Frame h) frame.is refl frame.within;
+            low = omega (arith, stop, r.low);
+            over = over;
+          }) front
+          | inr kept ↦ still_there kept front
+        ]
+    by_front r (inr found) =
+        cut_through r.stop found.0 (in_stream Front r.stop found.0 found.1)
+        (front-now r.front r.stop r.ends (cut-none file n within Front r.stop found.0 found.1))
+
+    -- the start is the same and its frame still whole, or there is none, with a fault of a cut file
+    pub cut-start : IsCutStart start
+    cut-start =
+        let r = cut-run Front 0
+        (item_run Front file 0).items (item_run Front file 0).stop (run-ends Front file 0)
+        (omega arith) in
+        by_front r r.last

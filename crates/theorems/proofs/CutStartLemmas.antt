@@ -1,0 +1,169 @@
+-- Where the stream of a file starts that was cut short.
+use Rattle.std.proofs.Common.{ap, arith, codes, drop, Err, get_or, inl, inr, length, List, lit<}
+use Rattle.std.proofs.Common.{None, Ok, Option, refl, Some, subst, suc, sym, take, true, zero, ℕ}
+use Rattle.std.proofs.Common.{◌+◌, ◌-◌, ◌<◌, ◌∙◌, ◌≡◌, ◌≤◌}
+use Rattle.std.proofs.lemmas.Bool.{and_parts, cases_lt, false≢true}
+use Rattle.std.proofs.lemmas.List.{get_or-drop, get_or-take, take-take}
+use Rattle.frame_header.proofs.HeaderLemmas.{IsClass-class_of}
+use Rattle.frame_header.proofs.LengthLemmas.{least_length, length-least}
+use Rattle.frame_header.specs.{Fields.{HeaderFields, IsHeader}, Tables.{class_of, length_of}}
+use Rattle.frame_header.specs.declared.{header.NotHeader.TheVariants.No, version.Version.Version}
+use Rattle.frame_header.specs.declared.version.Version.TheVariants.{One, Two, TwoFive}
+use Rattle.sync_survey.proofs.ItemBytesLemmas.{front_as-take, header_front-four, known_by}
+use Rattle.sync_survey.proofs.ItemsLemmas.{header_front-in_range, stands-at}
+use Rattle.sync_survey.proofs.{OneItemLemmas.{no_header, stands-only_at}, RunsLemmas.item_of-is}
+use Rattle.sync_survey.proofs.StartLemmas.{anchored_frame-is, first_anchored-none}
+use Rattle.sync_survey.specs.{Items.{header_front, IsItemFront, item_at, size_of}, Runs.belongs}
+use Rattle.sync_survey.specs.Start.{anchored_frame, first_anchored, longest_junk, start_after_junk}
+use Rattle.sync_survey.specs.declared.items.Item.{Item}
+use Rattle.sync_survey.specs.declared.items.Item.TheVariants.{Block, End, Frame, Free, Nothing}
+use Rattle.sync_survey.specs.declared.{items.Item.TheVariants.Zero, places.PlacedFrame.PlacedFrame}
+use Rattle.sync_survey.specs.declared.runs.Region.TheVariants.{Stream}
+use Rattle.sync_survey.specs.declared.survey_fault.SurveyFault.TheVariants.{NoFrame}
+use Rattle.tag_blocks.proofs.BlocksLemmas.{block_front-any, block_front-begins, block_front-own}
+use Rattle.tag_blocks.specs.Blocks.{begins, block_front, is_ape}
+use Rattle.tag_blocks.specs.declared.block.{Block.Block as TagBlock, Kind.Kind}
+use Rattle.tag_blocks.specs.declared.block.Kind.TheVariants.{Ape, Id3v1, Id3v2}
+use Rattle.theorems.proofs.CutItemLemmas.{cut, drop-cut, IsCutThrough, length-cut, text-long}
+
+-- ---- no frame after an item that was cut through and isn't known
+
+least-24 : (h : HeaderFields) → IsHeader h → 24 ≤ length_of (class_of h) h.slot
+least-24 h is = omega (
+  arith,
+  by_version (class_of h).version,
+  length-least (class_of h) h.slot (IsClass-class_of h is) is.slot,
+)
+  where
+    by_version : (v : Version) → 24 ≤ least_length v
+    by_version One = omega arith
+    by_version Two = omega arith
+    by_version TwoFive = omega arith
+
+ape-text : (bytes : List ℕ) → is_ape bytes ≡ true → take 8 bytes ≡ codes "APETAGEX"
+unfolding is_ape
+ape-text bytes is = text-long (codes "APETAGEX") bytes
+    (and_parts _ _ (and_parts _ _ (and_parts _ _ (and_parts _ _ (and_parts _ _ is).0).0).0).0).1
+
+text-low : (j : ℕ) → j < 8 → get_or (codes "APETAGEX") j 0 < 255
+text-low zero within = lit< tt
+text-low (suc zero) within = lit< tt
+text-low (suc (suc zero)) within = lit< tt
+text-low (suc (suc (suc zero))) within = lit< tt
+text-low (suc (suc (suc (suc zero)))) within = lit< tt
+text-low (suc (suc (suc (suc (suc zero))))) within = lit< tt
+text-low (suc (suc (suc (suc (suc (suc zero)))))) within = lit< tt
+text-low (suc (suc (suc (suc (suc (suc (suc zero))))))) within = lit< tt
+text-low (suc (suc (suc (suc (suc (suc (suc (suc j)))))))) within = absurd (omega (arith, within))
+
+few-known : (kind : Kind) (k : ℕ) → 25 ≤ k → k < known_by kind → (kind ≡ Ape) × (k < 32)
+few-known Id3v2 k many few = absurd (omega (arith, many, few))
+few-known Id3v1 k many few = absurd (omega (arith, many, few))
+few-known Ape k many few = (refl, few)
+
+module _ (file : List ℕ) (n : ℕ) (within : n ≤ length file) where
+  abbrev now : List ℕ
+  now = cut file n within
+
+  -- the frame of a later offset that would be whole
+  record IsLater (at : ℕ) (h : HeaderFields) (offset : ℕ) : Type 0 where
+    low : at < offset
+    here : header_front (drop offset now) ≡ Ok h
+    high : offset + 24 ≤ n
+
+  header-kept : (at : ℕ) (h : HeaderFields) → header_front (drop at file) ≡ Ok h → at + 4 ≤ n
+      → item_at now at ≡ Frame h
+  header-kept at h here high =
+      sym (stands-only_at now at (Frame h)
+      (ap header_front (drop-cut file n within at (omega (arith, high)))
+      ∙ header_front-four (take (n - at) (drop at file)) (drop at file)
+      (take-take 4 (n - at) (drop at file) (omega (arith, high)))
+      ∙ here))
+
+  block-kept : (at : ℕ) (b : TagBlock) → block_front (drop at file) ≡ Some b
+      → at + known_by b.kind ≤ n → item_at now at ≡ Block b
+  block-kept at b here high =
+      let bytes = drop at file in
+      let k = n - at in
+      sym (stands-only_at now at (Block b)
+      (ap block_front (drop-cut file n within at (omega (arith, high)))
+      ∙ block_front-any b.kind (take k bytes) b
+      (front_as-take b.kind k bytes (omega (arith, high)) ∙ block_front-own bytes b here)))
+
+  byte-there : (at offset : ℕ) → at ≤ offset → offset < n
+      → get_or (drop offset now) 0 0 ≡ get_or (drop at file) (offset - at) 0
+  byte-there at offset low high =
+      let none : offset + 0 ≡ offset = omega arith in
+      let split : at + (offset - at) ≡ offset = omega (arith, low) in
+      get_or-drop offset now 0 0
+      ∙ ap (λ i. get_or now i 0) none
+      ∙ get_or-take n file offset 0 high
+      ∙ ap (λ i. get_or file i 0) (sym split)
+      ∙ sym (get_or-drop at file (offset - at) 0)
+
+  ape-none : (at : ℕ) (b : TagBlock) (h : HeaderFields) (offset : ℕ)
+      → block_front (drop at file) ≡ Some b → IsLater at h offset → (b.kind ≡ Ape) × (n - at < 32)
+      → ⊥
+  ape-none at b h offset here later few =
+      let bytes = drop at file in
+      let j = offset - at in
+      let ape : begins Ape bytes ≡ true =
+      subst (λ kind. begins kind bytes ≡ true) few.0 (block_front-begins bytes b here).0 in
+      let small : j < 8 = omega (arith, few.1, later.low, later.high) in
+      let low : get_or (drop offset now) 0 0 < 255 =
+      omega (
+        arith,
+        text-low j small,
+        byte-there at offset (omega (arith, later.low)) (omega (arith, later.high)),
+        get_or-take 8 bytes j 0 small,
+        ap (λ (xs : List ℕ). get_or xs j 0) (ape-text bytes ape),
+      ) in
+      let no : Ok h ≡ Err No = sym later.here ∙ no_header (drop offset now) low in
+      absurd cc
+
+  later-none : (at : ℕ) (item : Item) (h : HeaderFields) (offset : ℕ)
+      → IsItemFront (drop at file) item → belongs Stream item ≡ true → n < at + size_of item
+      → (item_at now at ≡ item → ⊥) → IsLater at h offset → ⊥
+  later-none at (Frame g) h offset here is over unknown later =
+      unknown (header-kept at g here (omega (arith, later.low, later.high)))
+  later-none at Free h offset here is over unknown later = false≢true is
+  later-none at (Block b) h offset here is over unknown later =
+      elim (cases_lt (n - at) (known_by b.kind)) as (λ _. ⊥) [
+        | inl few ↦ ape-none at b h offset here later
+            (few-known b.kind (n - at) (omega (arith, later.low, later.high)) few)
+        | inr many ↦ unknown (block-kept at b here (omega (arith, many, later.low, later.high)))
+      ]
+  later-none at Zero h offset here is over unknown later =
+      omega (arith, over, later.low, later.high)
+  later-none at End h offset here is over unknown later = false≢true is
+  later-none at Nothing h offset here is over unknown later = false≢true is
+
+  no-placed : (o : Option PlacedFrame) → ((p : PlacedFrame) → o ≡ Some p → ⊥) → o ≡ None
+  no-placed None not = refl
+  no-placed (Some p) not = absurd (not p refl)
+
+  -- after an item that was cut through no frame is anchored
+  pub no-anchor : (at : ℕ) (item : Item) → IsCutThrough file n within Stream at item
+      → (item_at now at ≡ item → ⊥) → (offset : ℕ) → at < offset → anchored_frame now offset ≡ None
+  no-anchor at item through unknown offset behind =
+      no-placed (anchored_frame now offset) (λ p is.
+      let anchored = anchored_frame-is now offset p is in
+      let header : header_front (drop p.offset now) ≡ Ok p.header =
+      stands-at now p.offset (Frame p.header) anchored.frame.is in
+      let size = least-24 p.header (header_front-in_range (drop p.offset now) p.header header) in
+      let whole = item_of-is Stream file at item through.is in
+      later-none at item p.header p.offset (stands-at file at item whole.is)
+      whole.belongs through.over unknown
+      (record {
+        low = omega (arith, behind, anchored.offset);
+        here = header;
+        high = omega (arith, size, anchored.frame.within, length-cut file n within);
+      }))
+
+  -- so there is no frame
+  pub no-start : (at : ℕ) (item : Item) → IsCutThrough file n within Stream at item
+      → (item_at now at ≡ item → ⊥)
+      → start_after_junk at (first_anchored longest_junk now (at + 1)) ≡ Err (NoFrame at)
+  no-start at item through unknown =
+      ap (start_after_junk at) (first_anchored-none longest_junk now (at + 1)
+      (λ offset low high. no-anchor at item through unknown offset (omega (arith, low))))

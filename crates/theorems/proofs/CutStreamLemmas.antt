@@ -1,0 +1,282 @@
+-- The stream of a file that was cut short: the first frames of the file's, with the same main data.
+use Rattle.std.proofs.Common.{ap, append_assoc, ap₂, arith, Bool, cond, drop, false, length}
+use Rattle.std.proofs.Common.{length-append, length-drop, List, map, None, Option, refl, Some}
+use Rattle.std.proofs.Common.{subst, suc, sym, take, true, zero, ℕ, [], ◌*◌, ◌++◌, ◌+◌, ◌-◌, ◌∙◌}
+use Rattle.std.proofs.{Common.{◌∷◌, ◌≡◌, ◌≤◌}, lemmas.{Bool.ltb-false, Grind.flat_map-append}}
+use Rattle.std.proofs.lemmas.List.{drop-take, length-take-le, map-append, take-take}
+use Rattle.std.proofs.lemmas.{List.Sums.sum_by-cons, Option.slice_get_within}
+use Rattle.std.specs.{List.enumerate_from, Prelude.{flat_map, option_map, slice_get, sum_by}}
+use Rattle.bit_fields.{proofs.BitsLemmas.bits-front, specs.Bits.bits}
+use Rattle.frame_header.proofs.{HeaderLemmas.IsClass-class_of, SlotLemmas.area-is}
+use Rattle.frame_header.specs.Fields.{ClassFields, HeaderFields, IsHeader}
+use Rattle.frame_header.specs.Tables.{class_of, length_of, overhead_of}
+use Rattle.info_header.specs.HeadText.{head_text_of}
+use Rattle.side_info.{proofs.SideLemmas.bits_least, specs.Side.{no_side, payload_bits}}
+use Rattle.sync_survey.proofs.FaultsLemmas.{end-more, enumerate-append, map-numbers, place-more}
+use Rattle.sync_survey.proofs.SurveyPartsLemmas.{data-none_well}
+use Rattle.sync_survey.specs.MainData.{area_bytes, data_end_before, end_of_data, granule_lengths}
+use Rattle.sync_survey.specs.MainData.{head_area, head_bytes, lacks_data, main_bytes, marked_row}
+use Rattle.sync_survey.specs.MainData.{marked_rows, own_area, payload_at, place, row_side, rows_of}
+use Rattle.sync_survey.specs.MainData.{split_bits, start_of_data, stream_frame, stream_frames}
+use Rattle.sync_survey.specs.{MainData.StreamFrame, Row.Row, Survey.AreWellPlaced}
+use Rattle.sync_survey.specs.{Walk.{frame_bytes, head_of}, declared.places.Head.Head}
+use Rattle.sync_survey.specs.declared.places.PlacedFrame.{PlacedFrame}
+use Rattle.theorems.proofs.{CutFrameLemmas.{AreIn, IsIn}, CutItemLemmas.{cut, drop-cut, length-cut}}
+
+-- ---- marks
+
+marks-front : (head : Option Head) (rows more : List Row) → marked_rows head (rows ++ more)
+    ≡ marked_rows head rows ++ map (λ (p : ℕ × Row). marked_row head
+    (rows ++ more) p.0 p.1) (enumerate_from (length rows) more)
+unfolding marked_rows
+marks-front head rows more =
+    let each = λ (p : ℕ × Row). marked_row head (rows ++ more) p.0 p.1 in
+    ap (map each) (enumerate-append 0 rows more)
+    ∙ map-append each (enumerate_from 0 rows) (enumerate_from (0 + length rows) more)
+    ∙ ap (λ n. map each (enumerate_from 0 rows) ++ map each (enumerate_from n more))
+    (let e : 0 + length rows ≡ length rows = omega arith in e)
+    ∙ ap (λ (rs : List Row). rs ++ map each (enumerate_from (length rows) more))
+    (map-numbers (marked_row head (rows ++ more)) (marked_row head rows) 0 rows (λ i r low.
+    let before : i ≤ length rows = omega (arith, low) in
+    λ j. record r {
+      lost =
+          lacks_data (place-more head rows more i before j) (end-more head rows more i before j) r;
+    }))
+
+-- ---- numbered rows
+
+numbers-same : {A : Type 0} (f g : ℕ → Row → A) (n : ℕ) (rows : List Row)
+    → ((i : ℕ) (r : Row) → slice_get rows i ≡ Some r → f (n + i) r ≡ g (n + i) r)
+    → map (λ (p : ℕ × Row). f p.0 p.1) (enumerate_from n rows)
+    ≡ map (λ (p : ℕ × Row). g p.0 p.1) (enumerate_from n rows)
+numbers-same f g n [] same = refl
+numbers-same f g n (r ∷ rows) same =
+    let none : n + 0 ≡ n = omega arith in
+    ap₂ (λ a b. a ∷ b) (subst (λ m. f m r ≡ g m r) none (same 0 r refl))
+    (numbers-same f g (n + 1) rows (λ i q is. let e : n + suc i ≡ n + 1 + i = omega arith in
+    subst (λ m. f m q ≡ g m q) e (same (suc i) q is)))
+
+-- ---- bits of the first bytes
+
+no-bits : payload_bits no_side ≡ 0
+unfolding payload_bits
+no-bits = refl
+
+-- ---- areas
+
+module _ (file : List ℕ) (n : ℕ) (within : n ≤ length file) where
+  abbrev now : List ℕ
+  now = cut file n within
+
+  module _ (at : ℕ) (h : HeaderFields) (is : IsHeader h)
+      (high : at + length_of (class_of h) h.slot ≤ n) where
+    abbrev over : ℕ
+    over = overhead_of (class_of h) h.protected
+
+    parts : length_of (class_of h) h.slot ≡ over + own_area h
+    parts =
+        omega (arith, (area-is (class_of h) h.slot h.protected (IsClass-class_of h is) is.slot).0)
+
+    area-same : area_bytes now at h ≡ area_bytes file at h
+    area-same =
+        let left = n - at in
+        let split : left ≡ over + (left - over) = omega (arith, parts, high) in
+        ap (λ (xs : List ℕ). take (own_area h) (drop over xs))
+        (drop-cut file n within at (omega (arith, high)) ∙ ap (λ k. take k (drop at file)) split)
+        ∙ ap (take (own_area h)) (drop-take over (left - over) (drop at file))
+        ∙ take-take (own_area h) (left - over) (drop over (drop at file))
+        (omega (arith, parts, high))
+
+    area-long : length (area_bytes now at h) ≡ own_area h
+    area-long =
+        length-take-le (own_area h) (drop over (drop at now))
+        (omega (
+          arith,
+          parts,
+          high,
+          length-drop over (drop at now),
+          length-drop at now,
+          length-cut file n within,
+        ))
+
+  marks-in : (head : Option Head) (all : List Row) (k : ℕ) (rows : List Row)
+      → AreIn file n within rows → AreIn file n within
+      (map (λ (p : ℕ × Row). marked_row head all p.0 p.1) (enumerate_from k rows))
+  marks-in head all k [] are = tt
+  marks-in head all k (r ∷ rows) are = (are.0, marks-in head all (k + 1) rows are.1)
+
+  marked-in : (head : Option Head) (rows : List Row) → AreIn file n within rows
+      → AreIn file n within (marked_rows head rows)
+  unfolding marked_rows
+  marked-in head rows are = marks-in head rows 0 rows are
+
+  abbrev areas : List ℕ → List Row → List ℕ
+  areas f rows = flat_map (λ (r : Row). area_bytes f r.offset r.header) rows
+
+  abbrev all_own : List Row → ℕ
+  all_own rows = sum_by (λ (r : Row). own_area r.header) rows
+
+  areas-same : (rows : List Row) → AreIn file n within rows → areas now rows ≡ areas file rows
+  areas-same [] are = refl
+  areas-same (r ∷ rows) are = ap₂ (λ (xs ys : List ℕ). xs ++ ys)
+      (area-same r.offset r.header are.0.header are.0.high) (areas-same rows are.1)
+
+  areas-long : (rows : List Row) → AreIn file n within rows → length (areas now rows) ≡ all_own rows
+  areas-long [] are = refl
+  areas-long (r ∷ rows) are =
+      omega (
+        arith,
+        length-append (area_bytes now r.offset r.header) (areas now rows),
+        area-long r.offset r.header are.0.header are.0.high,
+        areas-long rows are.1,
+        sum_by-cons (λ (q : Row). own_area q.header) r rows,
+      )
+
+  -- the areas of a frame and of those before it are among all
+  own-within : (rows : List Row) (i : ℕ) (r : Row) → slice_get rows i ≡ Some r
+      → all_own (take i rows) + own_area r.header ≤ all_own rows
+  own-within [] i r is = absurd cc
+  own-within (q ∷ rows) zero r is =
+      let one : q ≡ r = cc in
+      let same : own_area q.header ≡ own_area r.header = ap (λ (x : Row). own_area x.header) one in
+      omega (arith, same, sum_by-cons (λ (x : Row). own_area x.header) q rows)
+  own-within (q ∷ rows) (suc i) r is =
+      omega (
+        arith,
+        own-within rows i r is,
+        sum_by-cons (λ (x : Row). own_area x.header) q rows,
+        sum_by-cons (λ (x : Row). own_area x.header) q (take i rows),
+      )
+
+  -- ---- the head
+
+  module _ (p : PlacedFrame) (is : IsIn file n within p.offset p.header) where
+    abbrev head_with : Option ℕ → Option Head
+    head_with o =
+        option_map (λ text. record { offset = p.offset; header = p.header; text_at = text }) o
+
+    head_by : (o : Option ℕ) → (head_bytes now (head_with o) ≡ head_bytes file (head_with o))
+        × (length (head_bytes now (head_with o)) ≡ head_area (head_with o))
+    head_by None = (refl, refl)
+    head_by (Some text) = (
+      area-same p.offset p.header is.header is.high,
+      area-long p.offset p.header is.header is.high,
+    )
+
+    head-parts : (head_bytes now (head_of file p) ≡ head_bytes file (head_of file p))
+        × (length (head_bytes now (head_of file p)) ≡ head_area (head_of file p))
+    unfolding head_of
+    head-parts = head_by (head_text_of p.header (frame_bytes file p))
+
+    abbrev head : Option Head
+    head = head_of file p
+
+    -- ---- the main data
+
+    main-front : (rows more : List Row) → AreIn file n within rows
+        → (rest : List ℕ) × (main_bytes file head (rows ++ more) ≡ main_bytes now head rows ++ rest)
+    unfolding main_bytes
+    main-front rows more are = (
+      areas file more,
+      ap₂ (λ (xs ys : List ℕ). xs ++ ys) (sym head-parts.0)
+          (flat_map-append (λ (r : Row). area_bytes file r.offset r.header) rows more
+          ∙ ap (λ (xs : List ℕ). xs ++ areas file more) (sym (areas-same rows are)))
+          ∙ sym (append_assoc (head_bytes now head) (areas now rows) (areas file more)),
+    )
+
+    main-long : (rows : List Row) → AreIn file n within rows
+        → length (main_bytes now head rows) ≡ head_area head + all_own rows
+    unfolding main_bytes
+    main-long rows are = omega (
+      arith,
+      length-append (head_bytes now head) (areas now rows),
+      head-parts.1,
+      areas-long rows are,
+    )
+
+    place-within : (rows : List Row) (i : ℕ) (r : Row) → AreIn file n within rows → slice_get rows i
+        ≡ Some r → place head rows i + own_area r.header ≤ length (main_bytes now head rows)
+    unfolding place
+    place-within rows i r are found = omega (arith, main-long rows are, own-within rows i r found)
+
+    -- ---- the frames of the stream
+
+    module _ (class : ClassFields) (rows more : List Row) (are : AreIn file n within rows)
+        (placed : AreWellPlaced head class rows) where
+      abbrev main : List ℕ
+      main = main_bytes now head rows
+
+      payload_by : (i : ℕ) (r : Row) (lost : Bool) → slice_get rows i ≡ Some r → r.lost ≡ lost
+          → let start = start_of_data (place head rows i) r in
+          payload_at (main ++ (main-front rows more are).0) start (cond lost no_side r.side)
+          ≡ payload_at main start (cond lost no_side r.side)
+      payload_by i r true found is =
+          let start = start_of_data (place head rows i) r in
+          let rest = (main-front rows more are).0 in
+          ap (λ k. take k (drop (8 * start) (bits (main ++ rest)))) no-bits
+          ∙ sym (ap (λ k. take k (drop (8 * start) (bits main))) no-bits)
+      payload_by i r false found is =
+          let start = start_of_data (place head rows i) r in
+          let here = placed i r found in
+          let well = data-none_well (place head rows i)
+          (data_end_before head rows i) r here.sound (sym here.mark ∙ is) in
+          let ends : end_of_data (place head rows i) r ≤ place head rows i + own_area r.header =
+          ltb-false (place head rows i + own_area r.header)
+          (end_of_data (place head rows i) r) well.within in
+          bits-front main (main-front rows more are).0 start (payload_bits r.side)
+          (omega (arith, ends, bits_least r.side, place-within rows i r are found))
+
+      frame-same : (i : ℕ) (r : Row) → slice_get rows i ≡ Some r
+          → stream_frame (main_bytes file head (rows ++ more)) head (rows ++ more) i r
+          ≡ stream_frame main head rows i r
+      frame-same i r found =
+          let low : i ≤ length rows = omega (arith, slice_get_within rows i r found) in
+          let start = start_of_data (place head rows i) r in
+          let payload : payload_at (main_bytes file head (rows ++ more)) (start_of_data (place head
+          (rows ++ more) i) r) (row_side r) ≡ payload_at main start (row_side r) =
+          ap₂ (λ (m : List ℕ) k. payload_at m (start_of_data k r) (row_side r))
+          (main-front rows more are).1 (place-more head rows more i low)
+          ∙ payload_by i r r.lost found refl in
+          ap (λ (bs : List ℕ). record {
+            header = (stream_frame main head rows i r).header;
+            side = (stream_frame main head rows i r).side;
+            payload = split_bits (granule_lengths r.header (row_side r)) bs;
+          }) payload
+
+      -- the stream of the first frames begins the stream of all
+      pub stream-front : (rest : List StreamFrame) × (stream_frames main head rows ++ rest
+          ≡ stream_frames (main_bytes file head (rows ++ more)) head (rows ++ more))
+      unfolding stream_frames
+      stream-front =
+          let each = λ (p : ℕ × Row). stream_frame (main_bytes file head (rows ++ more)) head
+          (rows ++ more) p.0 p.1 in
+          let later = map each (enumerate_from (0 + length rows) more) in
+          let zero_more : (i : ℕ) → 0 + i ≡ i = λ i. omega arith in (
+            later,
+            sym (ap (map each) (enumerate-append 0 rows more)
+                ∙ map-append each (enumerate_from 0 rows) (enumerate_from (0 + length rows) more)
+                ∙ ap (λ (fs : List StreamFrame). fs ++ later)
+                (numbers-same (stream_frame (main_bytes file head (rows ++ more)) head
+                (rows ++ more)) (stream_frame main head rows) 0 rows (λ i r found.
+                subst (λ k. stream_frame (main_bytes file head (rows ++ more)) head (rows ++ more) k
+                r ≡ stream_frame main head rows k r) (sym (zero_more i)) (frame-same i r found)))),
+          )
+
+    -- with the rows marked the stream of the first frames begins that of all, too
+    pub marked-front : (class : ClassFields) (ps : List PlacedFrame) (gone : List Row)
+        → AreIn file n within (rows_of file ps)
+        → AreWellPlaced head class (marked_rows head (rows_of file ps))
+        → (rest : List StreamFrame) × (stream_frames (main_bytes now head
+        (marked_rows head (rows_of file ps))) head (marked_rows head (rows_of file ps)) ++ rest
+        ≡ stream_frames (main_bytes file head (marked_rows head (rows_of file ps ++ gone))) head
+        (marked_rows head (rows_of file ps ++ gone)))
+    marked-front class ps gone are placed =
+        let rows = rows_of file ps in
+        let later = map (λ (p : ℕ × Row). marked_row head (rows ++ gone) p.0 p.1)
+        (enumerate_from (length rows) gone) in
+        let found =
+        stream-front class (marked_rows head rows) later (marked-in head rows are) placed in (
+          found.0,
+          found.1 ∙ ap (λ (rs : List Row). stream_frames (main_bytes file head rs) head rs)
+              (sym (marks-front head rows gone)),
+        )

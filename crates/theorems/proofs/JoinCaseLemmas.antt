@@ -1,0 +1,201 @@
+-- All frames of several files, in one file.
+use Rattle.std.proofs.Common.{All, ap, ap₂, arith, Err, false, length, List, map, None, Ok, Option}
+use Rattle.std.proofs.Common.{refl, Result, Some, subst, sym, ℕ, [], ◌+◌, ◌-◌, ◌∙◌, ◌∷◌, ◌≡◌}
+use Rattle.std.{proofs.lemmas.List.{length-map, Elements.All-cons}, specs.Prelude.unwrap_or}
+use Rattle.commands.proofs.{MadeLemmas.{makes-parts, some-frames}, RefusingLemmas.then_ok}
+use Rattle.commands.specs.{Refusing.then_made, SingleOutput.most_frames}
+use Rattle.commands.specs.declared.fault.EditFault.{EditFault}
+use Rattle.frame_header.specs.{Fields.ClassFields, Tables.window_of}
+use Rattle.job_words.specs.Request.{Join}
+use Rattle.join_edits.proofs.PartLemmas.{part-is}
+use Rattle.join_edits.specs.Join.{join_command, join_part, join_parts, join_parts_from, join_stream}
+use Rattle.join_edits.specs.Join.{join_task, joined_file, joined_plan, joined_stream, whole_part}
+use Rattle.laying.proofs.{PartsLemmas.{parts-fit, parts-plan}, SurveyFrameLemmas.survey-had}
+use Rattle.laying.specs.Needs.{need_of, plan_input}
+use Rattle.laying.specs.NeedsFit.{IsFitPlanInput, IsPartOf, own_choice}
+use Rattle.laying.specs.Relaid.{AreParts, FilePart, IsPart, part_needs, part_rows, part_stream}
+use Rattle.outside.specs.Files.{Contents}
+use Rattle.salvage_edits.proofs.StreamLemmas.{whole-stream}
+use Rattle.slot_plan.specs.{LeastPlan.least_plan, Plans.IsPlan, declared.needs.Need.Need}
+use Rattle.sync_survey.specs.{Faults.{stream_of, SurveyFields}, MainData.StreamFrame}
+use Rattle.sync_survey.specs.Survey.{survey_of}
+use Rattle.theorems.proofs.{CaseLemmas.stream-is, ExactLemmas.planned-exact}
+use Rattle.theorems.specs.{Chosen.named_frames, Exact.IsExactly}
+use Rattle.theorems.specs.Laws.{HoldsChosen, JoinedPlansAreFirst, JoinedStreamsAreExact}
+
+rows-each : (class : ClassFields) (parts : List FilePart) → AreParts class parts
+    → All (IsPartOf class) (map part_rows parts)
+rows-each class [] are = λ k d lt. absurd (omega (arith, lt))
+rows-each class (p ∷ parts) are =
+    let is = are.0 in
+    All-cons (IsPartOf class) (part_rows p) (map part_rows parts)
+    (record {
+      survey = p.survey;
+      from = p.from;
+      to = p.to;
+      placed = is.has.placed;
+      same = is.class;
+      some = is.some;
+      within = is.within;
+      are = refl;
+    })
+    (rows-each class parts are.1)
+
+needs-each : (parts : List FilePart)
+    → map (map need_of) (map part_rows parts) ≡ map part_needs parts
+needs-each [] = refl
+needs-each (p ∷ parts) = ap (λ (l : List (List Need)). part_needs p ∷ l) (needs-each parts)
+
+module _ (first : FilePart) (parts : List FilePart)
+    (are : AreParts first.survey.class (first ∷ parts)) where
+  abbrev all : List FilePart
+  all = first ∷ parts
+
+  abbrev class : ClassFields
+  class = first.survey.class
+
+  all_fit : IsFitPlanInput class (plan_input (map part_rows all))
+  all_fit = parts-fit class (map part_rows all) (omega (arith, length-map all part_rows))
+      (rows-each class all are)
+
+  one_plan : IsPlan (window_of class.version) own_choice (map (map need_of) (map part_rows all))
+      (least_plan (window_of class.version) own_choice (map (map need_of) (map part_rows all)))
+  one_plan = (parts-plan class own_choice (map part_rows all) _ all_fit all_fit.kept).1 refl
+
+  -- the plan is that of all parts
+  pub join-plan : IsPlan (window_of class.version) own_choice (map part_needs all)
+      (joined_plan class all)
+  join-plan = subst (λ (parts : List (List Need)). IsPlan (window_of class.version) own_choice parts
+      (least_plan (window_of class.version) own_choice parts)) (needs-each all) one_plan
+
+  -- the stream is exactly the frames of the parts
+  pub join-exact : IsExactly (map part_stream all) (joined_stream all)
+  unfolding joined_stream
+  join-exact = planned-exact class own_choice all (joined_plan class all) are join-plan
+
+-- the stream of a join is exactly the frames of its inputs, each behind at most one lead-in
+pub joined-exact : JoinedStreamsAreExact
+joined-exact = join-exact
+
+-- its plan is the first of all lists with a layout
+pub joined-first : JoinedPlansAreFirst
+joined-first = join-plan
+
+-- ---- the command
+
+-- a part of all frames of an input
+part-of : (c : ClassFields) (file : List ℕ) (allowed : ℕ) (s : SurveyFields)
+    → survey_of file allowed ≡ Ok s → s.class ≡ c → IsPart c (whole_part file s)
+part-of c file allowed s is same = record {
+  has = survey-had file allowed s is;
+  class = same;
+  some = some-frames file allowed s is;
+  within =
+      omega arith;
+}
+
+part-stream : (files : Contents) (name file : List ℕ) (allowed : ℕ) (s : SurveyFields)
+    → files name ≡ Some file → survey_of file allowed ≡ Ok s
+    → part_stream (whole_part file s) ≡ named_frames files name
+part-stream files name file allowed s there is =
+    whole-stream file s ∙ sym (stream-is file allowed s is)
+    ∙ sym (ap (λ (o : Option (List ℕ)). stream_of (unwrap_or o [])) there)
+
+-- each is the frames of the input at its place
+pub record AreFramesOf (files : Contents) (c : ClassFields) (names : List (List ℕ))
+    (parts : List FilePart) : Type 0 where
+  pub are : AreParts c parts
+  pub frames : map part_stream parts ≡ map (named_frames files) names
+
+frames-more : (files : Contents) (c : ClassFields) (place : ℕ) (first : Option ClassFields)
+    (allowed : ℕ) (name : List ℕ) (names : List (List ℕ)) (part : FilePart) (parts : List FilePart)
+    → join_part place first allowed (files name) ≡ Ok part → part.survey.class ≡ c
+    → AreFramesOf files c names parts → AreFramesOf files c (name ∷ names) (part ∷ parts)
+frames-more files c place first allowed name names part parts e same more =
+    let is = part-is place first allowed (files name) part e in
+    record {
+      are = (
+        subst (IsPart c) is.whole (part-of c is.file allowed
+            is.survey is.surveyed (ap (λ (p : FilePart). p.survey.class) is.whole ∙ same)),
+        more.are,
+      );
+      frames = ap₂ (λ (l : List StreamFrame) (ls : List (List StreamFrame)). l ∷ ls)
+          (ap part_stream (sym is.whole)
+          ∙ part-stream files name is.file allowed is.survey is.there is.surveyed) more.frames;
+    }
+
+parts-more : (part : FilePart) (r : Result (List FilePart) EditFault) (parts : List FilePart)
+    → then_made r (λ later. Ok (part ∷ later)) ≡ Ok parts
+    → (later : List FilePart) × (r ≡ Ok later) × (part ∷ later ≡ parts)
+parts-more part (Ok later) parts e = (later, refl, cc)
+parts-more part (Err fault) parts e = absurd cc
+
+-- the inputs after the first, which are of its class
+parts-behind : (files : Contents) (c : ClassFields) (place allowed : ℕ) (names : List (List ℕ))
+    (parts : List FilePart) → join_parts_from place (Some c) allowed files names ≡ Ok parts
+    → AreFramesOf files c names parts
+unfolding join_parts_from
+parts-behind files c place allowed [] parts e = let none : [] ≡ parts = cc in
+    subst (AreFramesOf files c []) none (record { are = tt; frames = refl })
+parts-behind files c place allowed (name ∷ names) parts e =
+    let one = then_ok (join_part place (Some c) allowed (files name)) _ parts e in
+    let part : FilePart = one.0 in
+    let more = parts-more part (join_parts_from (place + 1) (Some c)
+    (allowed - length part.survey.frames) files names) parts one.2 in
+    let is = part-is place (Some c) allowed (files name) part one.1 in
+    subst (AreFramesOf files c (name ∷ names)) more.2
+    (frames-more files c place (Some c) allowed name names part
+    more.0 one.1 (ap (λ (p : FilePart). p.survey.class) (sym is.whole) ∙ is.follows)
+    (parts-behind files c (place + 1) (allowed - length part.survey.frames) names more.0 more.1))
+
+-- the parts are a first and more, of all inputs, with the class of the first
+pub record IsJoinOf (files : Contents) (names : List (List ℕ))
+    (parts : List FilePart) : Type 0 where
+  pub first : FilePart
+  pub more : List FilePart
+  pub is : first ∷ more ≡ parts
+  pub all : AreFramesOf files first.survey.class names (first ∷ more)
+
+-- the parts of a join are its inputs, of one class
+pub parts-join : (files : Contents) (name : List ℕ) (names : List (List ℕ)) (parts : List FilePart)
+    → join_parts files (name ∷ names) ≡ Ok parts → IsJoinOf files (name ∷ names) parts
+unfolding join_parts_from
+parts-join files name names parts e =
+    let one = then_ok (join_part 0 None most_frames (files name)) _ parts e in
+    let part : FilePart = one.0 in
+    let more = parts-more part (join_parts_from (0 + 1) (Some part.survey.class)
+    (most_frames - length part.survey.frames) files names) parts one.2 in
+    record {
+      first = part;
+      more = more.0;
+      is = more.2;
+      all = frames-more files part.survey.class 0 None most_frames name names part more.0 one.1 refl
+          (parts-behind files part.survey.class (0 + 1)
+          (most_frames - length part.survey.frames) names more.0 more.1);
+    }
+
+parts-exact : (files : Contents) (names : List (List ℕ)) (parts : List FilePart)
+    → join_parts files names
+    ≡ Ok parts → IsExactly (map (named_frames files) names) (joined_stream parts)
+unfolding join_parts_from joined_stream IsExactly
+parts-exact files [] parts e = let none : [] ≡ parts = cc in
+    subst (λ (l : List FilePart). IsExactly [] (joined_stream l)) none refl
+parts-exact files (name ∷ names) parts e =
+    let is = parts-join files name names parts e in
+    subst (λ (l : List FilePart). IsExactly (map (named_frames files) (name ∷ names))
+    (joined_stream l))
+    is.is
+    (subst (λ (l : List (List StreamFrame)). IsExactly l (joined_stream (is.first ∷ is.more)))
+    is.all.frames (join-exact is.first is.more is.all.are))
+
+-- a join holds the frames that its job chooses
+pub join-holds : (output : List ℕ) (inputs : List (List ℕ))
+    → HoldsChosen (Join false output inputs) (join_command output inputs)
+join-holds output inputs files made e =
+    let bytes = makes-parts (join_task inputs) output files made e in
+    let parts =
+    then_ok (join_parts files inputs) (λ parts. Ok (joined_file parts)) bytes.1 bytes.2 in (
+      subst (λ (l : List StreamFrame). IsExactly (map (named_frames files) inputs) l)
+          (sym (ap join_stream parts.1)) (parts-exact files inputs parts.0 parts.1),
+      tt,
+    )

@@ -1,0 +1,109 @@
+-- The frames of several files without seams, in one file.
+use Rattle.std.proofs.Common.{ap, append-nil, arith, flat_map, List, Ok, Option, refl, Result}
+use Rattle.std.proofs.Common.{subst, sym, true, ℕ, [], ◌∙◌, ◌∷◌, ◌≡◌}
+use Rattle.commands.proofs.{MadeLemmas.makes-parts, RefusingLemmas.then_ok}
+use Rattle.commands.{proofs.TellingLemmas.text-parts, specs.SingleOutput.one_command}
+use Rattle.commands.specs.declared.fault.EditFault.{EditFault}
+use Rattle.frame_header.specs.{Fields.{HeaderFields, SlotFields}, Tables.window_of}
+use Rattle.job_words.specs.Request.{Join}
+use Rattle.join_edits.proofs.RunFileLemmas.{parts-whole}
+use Rattle.join_edits.proofs.RunPartLemmas.{AreWholeFiles, IsWholeFile, run-many, run-planned}
+use Rattle.join_edits.{proofs.RunPartLemmas.run-some, specs.Join.{join_parts, join_parts_from}}
+use Rattle.join_edits.specs.Seamless.{join_of_parts, part_brought, run_parts, run_plan}
+use Rattle.join_edits.specs.Seamless.{seamless_command, seamless_file, seamless_stream}
+use Rattle.join_edits.specs.Seamless.{seamless_stream_or_none, seamless_task, seamless_text_or_none}
+use Rattle.laying.specs.{NeedsFit.own_choice, Relaid.{FilePart, part_stream, stream_with_lead_ins}}
+use Rattle.outside.specs.Files.{Contents}
+use Rattle.seam_plan.specs.{Frames.needs_of, Seams.run_of}
+use Rattle.slot_plan.specs.{Parts.{all_items, AreLeadIns}, Plans.{AreItemSlots, IsPlan}}
+use Rattle.slot_plan.specs.declared.needs.{Need.Need, Placed.Placed}
+use Rattle.sync_survey.specs.MainData.{StreamFrame}
+use Rattle.theorems.proofs.ExactLemmas.{IsSized, no-frames, part-on}
+use Rattle.theorems.specs.{Chosen.joined_run_frames, Exact.IsExactly}
+use Rattle.theorems.specs.Laws.{HoldsChosen, SeamlessPlansAreFirst}
+
+-- ---- one part, in other slots than its frames have
+
+module _ (window : ℕ) (choices : HeaderFields → List SlotFields) (needs : List Need)
+    (fs : List StreamFrame) (placed : List Placed) (sized : IsSized needs fs) where
+  exact-by : (lead_ins : List (Option SlotFields)) → AreLeadIns window choices (needs ∷ []) lead_ins
+      → AreItemSlots (all_items choices (needs ∷ []) lead_ins) placed
+      → IsExactly (fs ∷ []) (stream_with_lead_ins placed fs)
+  unfolding AreLeadIns all_items IsExactly
+  exact-by [] alone slots = absurd alone
+  exact-by (lead_in ∷ lead_ins) alone slots =
+      let none = all_items choices [] lead_ins in
+      let on = part-on choices none needs lead_in fs [] placed sized slots in
+      let stream = ap (stream_with_lead_ins placed) (sym (append-nil fs)) ∙ on.3 in
+      (on.0, stream_with_lead_ins on.1 [], on.2, stream, no-frames on.1)
+
+  planned-one : IsPlan window choices (needs ∷ []) placed
+      → IsExactly (fs ∷ []) (stream_with_lead_ins placed fs)
+  planned-one plan = exact-by plan.lead_ins plan.alone plan.whole.slots
+
+-- ---- the run
+
+run-exact : (first : FilePart) (parts : List FilePart) → IsWholeFile first.survey.class first
+    → AreWholeFiles first.survey.class parts → IsExactly
+    (flat_map part_stream (run_parts first parts) ∷ []) (seamless_stream (first ∷ parts))
+unfolding seamless_stream
+run-exact first parts is are =
+    let needs : List Need = needs_of (run_of (part_brought first) (join_of_parts first parts)) in
+    let stream : List StreamFrame = flat_map part_stream (run_parts first parts) in
+    let sized : IsSized needs stream =
+    record { some = run-some first parts is are; same = run-many first parts is are } in
+    planned-one (window_of first.survey.class.version) own_choice needs stream
+    (run_plan first parts) sized (run-planned first parts is are)
+
+-- ---- the command
+
+parts-exact : (files : Contents) (names : List (List ℕ)) (parts : List FilePart)
+    → join_parts files names ≡ Ok parts
+    → IsExactly (joined_run_frames (Ok parts) ∷ []) (seamless_stream parts)
+unfolding IsExactly seamless_stream join_parts_from
+parts-exact files [] parts e =
+    let none : [] ≡ parts = cc in
+    subst (λ (l : List FilePart). IsExactly (joined_run_frames (Ok l) ∷ []) (seamless_stream l))
+    none
+    ([], [], tt, refl, refl)
+parts-exact files (name ∷ names) parts e =
+    let is = parts-whole files (name ∷ names) parts (omega arith) e in
+    subst (λ (l : List FilePart). IsExactly (joined_run_frames (Ok l) ∷ []) (seamless_stream l))
+    is.is
+    (run-exact is.first is.more is.whole is.all)
+
+-- a seamless join holds exactly the frames that the job chooses
+pub seamless-chosen : (output : List ℕ) (inputs : List (List ℕ))
+    → HoldsChosen (Join true output inputs) (seamless_command output inputs)
+seamless-chosen output inputs files made e =
+    let task = seamless_task inputs in
+    let text = seamless_text_or_none inputs (join_parts files inputs) in
+    let told = text-parts text ((one_command task output).makes files) made e in
+    let bytes = makes-parts task output files told.0 told.1 in
+    let parts = then_ok (join_parts files inputs) (λ ps. Ok (seamless_file ps)) bytes.1 bytes.2 in
+    let Exact : Result (List FilePart) EditFault → Type 0 =
+    λ r. IsExactly (joined_run_frames r ∷ []) (seamless_stream_or_none r) in
+    (subst Exact (sym parts.1) (parts-exact files inputs parts.0 parts.1), tt)
+
+-- the run is planned as one part
+first-planned : (first : FilePart) (parts : List FilePart) (other : FilePart) (more : List FilePart)
+    → other ∷ more ≡ first ∷ parts → IsWholeFile other.survey.class other
+    → AreWholeFiles other.survey.class more
+    → IsPlan (window_of first.survey.class.version) own_choice
+    (needs_of (run_of (part_brought first) (join_of_parts first parts)) ∷ []) (run_plan first parts)
+first-planned first parts other more same is are =
+    let one : other ≡ first = cc in
+    let rest : more ≡ parts = cc in
+    subst (λ (ps : List FilePart). IsPlan (window_of first.survey.class.version) own_choice
+    (needs_of (run_of (part_brought first) (join_of_parts first ps)) ∷ []) (run_plan first ps)) rest
+    (subst (λ (p : FilePart). IsPlan (window_of p.survey.class.version) own_choice
+    (needs_of (run_of (part_brought p) (join_of_parts p more)) ∷ []) (run_plan p more)) one
+    (run-planned other more is are))
+
+-- the plan of the run is the first of all its plans
+pub seamless-first : SeamlessPlansAreFirst
+unfolding join_parts_from
+seamless-first files [] first parts e = absurd cc
+seamless-first files (name ∷ names) first parts e =
+    let is = parts-whole files (name ∷ names) (first ∷ parts) (omega arith) e in
+    first-planned first parts is.first is.more is.is is.whole is.all

@@ -1,0 +1,367 @@
+-- The lead-in that a run gets again is alike the one that left it.
+use Rattle.std.proofs.Common.{ap, ap₂, arith, Bool, cond, Contains, drop, false, find, flat_map}
+use Rattle.std.proofs.Common.{length, List, map, None, Option, refl, Some, subst, suc, sym, take}
+use Rattle.std.proofs.Common.{true, zero, ℕ, [], ◌*◌, ◌++◌, ◌+◌, ◌<◌, ◌==◌, ◌∙◌, ◌∷◌, ◌≡◌}
+use Rattle.std.proofs.lemmas.{Bool.{and_parts, eqb-true}, Option.slice_get-map}
+use Rattle.std.proofs.lemmas.Slice.Eq.{bytes_eq-Decides}
+use Rattle.std.specs.{List.{concat, enumerate_from, list_all}, Prelude.{option_map, slice_get}}
+use Rattle.bit_fields.specs.{Bits.{bits, bits_of}, Groups.group_bits}
+use Rattle.cut_edits.specs.Exact.{survey_without_head}
+use Rattle.frame_header.proofs.HeaderLemmas.{good, header_in-header_bits, IsClass-class_of}
+use Rattle.frame_header.specs.Fields.{ClassFields, HeaderFields, IsClass, IsHeader, SlotFields}
+use Rattle.frame_header.specs.{HeaderBits.header_bits, Reading.header_in, Slots.all_slots}
+use Rattle.frame_header.specs.Tables.{area_of, class_of}
+use Rattle.join_edits.specs.Seamless.{begins_blank, is_side_blank, later_parts, sound_of}
+use Rattle.join_edits.specs.Seamless.{without_gains}
+use Rattle.laying.proofs.{EntryByteLemmas.shaped, LaidLemmas.first-there}
+use Rattle.laying.{proofs.PlannedFrameLemmas.slot_among, specs.Needs.need_of}
+use Rattle.laying.specs.Relaid.{FilePart, part_stream, silent_lead_in}
+use Rattle.laying.specs.Surveys.{AreWholeRows, IsWholeRow}
+use Rattle.seam_plan.proofs.{FollowLemmas.sounds, RunSoundLemmas.{run-sounds, sounds_left}}
+use Rattle.seam_plan.specs.Frames.{needs_of, RunFrame}
+use Rattle.seam_plan.specs.Joins.{fits_behind, has_lead_in, lead_in_header, lead_in_slot}
+use Rattle.seam_plan.specs.{Joins.{leads_others, matches_header}, Seams.joints_of}
+use Rattle.side_info.proofs.SideLemmas.{each_class, IsShaped, length-side_bits, side_at-side_bits}
+use Rattle.side_info.proofs.SideLemmas.{SideFits-no_side}
+use Rattle.side_info.specs.Granule.{granule_bits, granule_numbers}
+use Rattle.side_info.specs.Side.{granules_in, no_side, side_at, side_bits, SideFits}
+use Rattle.side_info.specs.declared.side.Side.{Side}
+use Rattle.slot_plan.specs.declared.needs.Need.{Need}
+use Rattle.sync_survey.{proofs.EmptiedLemmas.no_bits, specs.Faults.{stream_of_survey, SurveyFields}}
+use Rattle.sync_survey.specs.HeadApart.{apart_row, apart_rows, emptied_row, rows_set_apart}
+use Rattle.sync_survey.specs.MainData.{granule_lengths, main_bytes, no_slot, payload_at, place}
+use Rattle.sync_survey.specs.MainData.{row_side, split_bits, start_of_data, stream_frame}
+use Rattle.sync_survey.specs.{MainData.{stream_frames, StreamFrame}, Row.Row}
+use Rattle.sync_survey.specs.declared.places.Head.{Head}
+use Rattle.theorems.proofs.SeamlessInputLemmas.{AreInputs, brought-fit, brought-needs}
+use Rattle.theorems.proofs.SeamlessInputLemmas.{brought-sounds, has-apart, inputs-fit, IsInput}
+use Rattle.theorems.proofs.SeamlessInputLemmas.{stream-from, whole_stream}
+use Rattle.theorems.proofs.SeamlessRunLemmas.{all, brought, front-few, front-parts, joined, others}
+use Rattle.theorems.proofs.SeamlessRunLemmas.{stream, window}
+
+-- ---- side information that is all 0
+
+abbrev pub AllZero : List ℕ → Type 0
+AllZero xs = list_all (λ bit. bit == 0) xs ≡ true
+
+zeros-are : (xs ys : List ℕ) → length xs ≡ length ys → AllZero xs → AllZero ys → xs ≡ ys
+zeros-are [] [] same first second = refl
+zeros-are [] (y ∷ ys) same first second = absurd (omega (arith, same))
+zeros-are (x ∷ xs) [] same first second = absurd (omega (arith, same))
+zeros-are (x ∷ xs) (y ∷ ys) same first second =
+    let one = and_parts (x == 0) (list_all (λ bit. bit == 0) xs) first in
+    let two = and_parts (y == 0) (list_all (λ bit. bit == 0) ys) second in
+    let here : x ≡ y = omega (arith, eqb-true x 0 one.0, eqb-true y 0 two.0) in
+    ap₂ (λ (z : ℕ) (zs : List ℕ). z ∷ zs) here (zeros-are xs ys (omega (arith, same)) one.1 two.1)
+
+-- side information with nothing in it is spelled in zeros
+pub none-zero : (c : ClassFields) → IsClass c → AllZero (side_bits c no_side)
+unfolding side_bits granules_in granule_bits granule_numbers group_bits bits_of
+none-zero c known =
+    each_class (λ d. AllZero (side_bits d no_side)) (λ f. refl) (λ f. refl) (λ f. refl) (λ f. refl)
+    (λ f channels is. is) c known
+
+none-shaped : IsShaped no_side
+none-shaped = record { scfsi = refl; granules = refl; first = refl; second = refl }
+
+-- side information that is spelled in zeros has nothing in it
+pub zero-side : (c : ClassFields) (s : Side) → IsClass c → IsShaped s → SideFits c s
+    → AllZero (side_bits c s) → s ≡ no_side
+zero-side c s known is fits zeros =
+    sym (side_at-side_bits c known s is fits)
+    ∙ ap (side_at c)
+    (zeros-are (side_bits c s) (side_bits c no_side)
+    (length-side_bits c known s is ∙ sym (length-side_bits c known no_side none-shaped)) zeros
+    (none-zero c known))
+    ∙ side_at-side_bits c known no_side none-shaped (SideFits-no_side c)
+
+-- ---- the first frame of an input
+
+-- rows begin blank just where the first of them is blank
+pub begins-first : (rows : List Row) (r : Row) → slice_get rows 0 ≡ Some r
+    → begins_blank rows ≡ is_side_blank r
+begins-first [] r is = absurd cc
+begins-first (q ∷ rows) r is = let same : q ≡ r = cc in ap is_side_blank same
+
+-- the first of rows that are whole is whole
+pub whole-first : (file : List ℕ) (rows : List Row) (r : Row) → AreWholeRows file rows
+    → slice_get rows 0 ≡ Some r → IsWholeRow file r
+whole-first file [] r are is = absurd cc
+whole-first file (q ∷ rows) r are is = let same : q ≡ r = cc in subst (IsWholeRow file) same are.0
+
+emptied-side : (r : Row) (lost : Bool) → r.lost ≡ lost → r.side ≡ no_side
+    → row_side (emptied_row r) ≡ no_side
+emptied-side r true is none =
+    ap (λ b. row_side (cond b (record r { side = no_side; lost = false }) r)) is
+emptied-side r false is none =
+    ap (λ b. row_side (cond b (record r { side = no_side; lost = false }) r)) is
+    ∙ ap (λ b. cond b no_side r.side) is ∙ none
+
+apart-side : (head : Option Head) (rows : List Row) (q r : Row) → slice_get rows 0 ≡ Some q
+    → q.side ≡ no_side
+    → slice_get (map emptied_row (rows_set_apart head rows)) 0 ≡ Some r → row_side r ≡ no_side
+unfolding apart_rows
+apart-side head [] q r first none is = absurd cc
+apart-side None (p ∷ rows) q r first none is =
+    let here : p ≡ q = cc in
+    let there : emptied_row p ≡ r = cc in
+    ap row_side (sym there) ∙ emptied-side p p.lost refl (ap (λ (x : Row). x.side) here ∙ none)
+apart-side (Some head) (p ∷ rows) q r first none is =
+    let here : p ≡ q = cc in
+    let moved : Row = apart_row (p ∷ rows) 0 p in
+    let there : emptied_row moved ≡ r = cc in
+    ap row_side (sym there)
+    ∙ emptied-side moved moved.lost refl (ap (λ (x : Row). x.side) here ∙ none)
+
+-- ---- its header
+
+find-contains : (test : SlotFields → Bool) (slots : List SlotFields) (slot : SlotFields)
+    → find test slots ≡ Some slot → Contains slots slot
+find-contains test [] slot is = absurd cc
+find-contains test (s ∷ slots) slot is = at (test s) (find-contains test slots slot) is
+  where
+    at : (b : Bool) → (find test slots ≡ Some slot → Contains slots slot)
+        → cond b (Some s) (find test slots) ≡ Some slot → Contains (s ∷ slots) slot
+    at true later found = let same : s ≡ slot = cc in (zero, omega arith, same)
+    at false later found = let has = later found in (suc has.0, omega (arith, has.1), has.2)
+
+one-header : (g h : HeaderFields) → IsHeader g → IsHeader h → header_bits g ≡ header_bits h → g ≡ h
+one-header g h first second same =
+    let both : good g ≡ good h = sym (header_in-header_bits g first) ∙ ap header_in same
+    ∙ header_in-header_bits h second in
+    cc
+
+-- two frames, of which the first has the header of a lead-in before the second, but for its slot
+record AreLed (rows : List Row) : Type 0 where
+  first : Row
+  second : Row
+  rest : List Row
+  are : rows ≡ first ∷ second ∷ rest
+  like : record first.header { slot = no_slot }
+      ≡ record second.header { protected = false; slot = no_slot }
+
+rows-led : (window : ℕ) (rows : List Row)
+    → ((i : ℕ) (r : Row) → slice_get rows i ≡ Some r → IsHeader r.header)
+    → leads_others window (map need_of rows) ≡ true → AreLed rows
+unfolding lead_in_header
+rows-led window [] known leads = absurd cc
+rows-led window (r ∷ []) known leads = absurd cc
+rows-led window (r ∷ q ∷ rows) known leads =
+    at (lead_in_slot window (class_of q.header) (map need_of (q ∷ rows))) refl leads
+  where
+    at : (o : Option SlotFields)
+        → lead_in_slot window (class_of q.header) (map need_of (q ∷ rows)) ≡ o
+        → matches_header r.header
+        (option_map (λ slot. record q.header { protected = false; slot = slot }) o) ≡ true
+        → AreLed (r ∷ q ∷ rows)
+    at None found none = absurd cc
+    at (Some slot) found same =
+        let fits : SlotFields → Bool =
+        λ s. fits_behind window (area_of (class_of q.header) s false)
+        (map need_of (q ∷ rows)) in
+        let is_slot = slot_among slot (find-contains fits all_slots slot found) in
+        let of = known 1 q refl in
+        let lead : HeaderFields = record q.header { protected = false; slot = slot } in
+        let lead_known : IsHeader lead =
+        record {
+          slot = is_slot;
+          frequency_index = of.frequency_index;
+          mode = of.mode;
+          mode_extension = of.mode_extension;
+          emphasis = of.emphasis;
+        } in
+        let equal : r.header ≡ lead =
+        one-header r.header lead (known 0 r refl) lead_known
+        ((bytes_eq-Decides (header_bits r.header) (header_bits lead)).0 same) in
+        record {
+          first = r;
+          second = q;
+          rest = rows;
+          are = refl;
+          like =
+              ap (λ (h : HeaderFields). record h { slot = no_slot }) equal;
+        }
+
+-- ---- sounds
+
+no-parts : (lengths : List ℕ) → concat (split_bits lengths []) ≡ []
+unfolding split_bits
+no-parts [] = refl
+no-parts (zero ∷ lengths) = no-parts lengths
+no-parts (suc n ∷ lengths) = no-parts lengths
+
+abbrev silent_sound : ClassFields → HeaderFields → List ℕ
+silent_sound c h = header_bits h ++ (side_bits c (without_gains no_side) ++ [])
+
+-- a frame whose side information is all 0
+empty-sound : (c : ClassFields) (main : List ℕ) (head : Option Head) (rows : List Row) (i : ℕ)
+    (r : Row) → row_side r ≡ no_side
+    → sound_of c (stream_frame main head rows i r)
+    ≡ silent_sound c (record r.header { slot = no_slot })
+empty-sound c main head rows i r none =
+    let start : ℕ = start_of_data (place head rows i) r in
+    ap (λ (s : Side).
+    header_bits (record r.header { slot = no_slot })
+    ++ (side_bits c (without_gains (record s { main_data_begin = 0 })) ++ concat
+    (split_bits (granule_lengths r.header s) (payload_at main start s)))) none
+    ∙ ap (λ (l : List ℕ). header_bits (record r.header { slot = no_slot }) ++
+    (side_bits c (without_gains no_side) ++ l))
+    (ap (λ n.
+    concat (split_bits (granule_lengths r.header no_side) (take n (drop (8 * start) (bits main)))))
+    no_bits
+    ∙ no-parts (granule_lengths r.header no_side))
+
+-- a frame without main data, by its header
+abbrev silent_frame : HeaderFields → StreamFrame
+silent_frame h =
+    record { header = h; side = no_side; payload = split_bits (granule_lengths h no_side) [] }
+
+-- a frame whose side information is all 0, as it is in the stream
+empty-frame : (main : List ℕ) (head : Option Head) (rows : List Row) (i : ℕ)
+    (r : Row) → row_side r ≡ no_side
+    → stream_frame main head rows i r ≡ silent_frame (record r.header { slot = no_slot })
+empty-frame main head rows i r none =
+    let start : ℕ = start_of_data (place head rows i) r in
+    ap (λ (s : Side). record {
+      header = record r.header { slot = no_slot };
+      side = record s { main_data_begin = 0 };
+      payload = split_bits (granule_lengths r.header s) (payload_at main start s);
+    }) none
+    ∙ ap (λ n. record {
+      header = record r.header { slot = no_slot };
+      side = no_side;
+      payload =
+          split_bits (granule_lengths r.header no_side) (take n (drop (8 * start) (bits main)));
+    }) no_bits
+
+silent-sound : (c : ClassFields) (f : StreamFrame)
+    → sound_of c (silent_lead_in f) ≡ silent_sound c (record f.header { protected = false })
+silent-sound c f =
+    ap (λ (l : List ℕ). header_bits (record f.header { protected = false }) ++
+    (side_bits c (without_gains no_side) ++ l))
+    (no-parts (granule_lengths f.header no_side))
+
+-- the first two frames of a stream
+stream-two : (file : List ℕ) (s : SurveyFields) (r q : Row) (rows : List Row)
+    → s.frames ≡ r ∷ q ∷ rows →
+    let main = main_bytes file s.head s.frames in
+    (n : ℕ) × (more : List StreamFrame)
+    × (stream_of_survey file s
+    ≡ stream_frame main s.head s.frames 0 r ∷ stream_frame main s.head s.frames n q ∷ more)
+unfolding stream_of_survey stream_frames
+stream-two file s r q rows are =
+    let main = main_bytes file s.head s.frames in
+    let f : ℕ × Row → StreamFrame = λ p. stream_frame main s.head s.frames p.0 p.1 in (
+      0 + 1,
+      map f (enumerate_from (0 + 1 + 1) rows),
+      ap (λ (l : List Row). map f (enumerate_from 0 l)) are,
+    )
+
+-- an input that begins with side information that is all 0
+module _ (c : ClassFields) (p : FilePart) (is : IsInput c p)
+    (blank : begins_blank p.survey.frames ≡ true) where
+  -- its first frame, when the head is set apart, has side information with nothing in it
+  pub blank-side : (r : Row) → slice_get (survey_without_head p.survey).frames 0 ≡ Some r
+      → row_side r ≡ no_side
+  blank-side r found =
+      let q = first-there p.survey.frames 0 is.some in
+      let placed = is.has.placed 0 q.0 q.1 in
+      let pairs = (whole-first p.file p.survey.frames q.0 is.has.rows q.1).pairs in
+      let known : IsClass (class_of q.0.header) = IsClass-class_of q.0.header placed.known in
+      let none = zero-side (class_of q.0.header) q.0.side known (shaped q.0.side pairs)
+      (subst (λ d. SideFits d q.0.side) (sym placed.class_is) placed.fits)
+      (sym (begins-first p.survey.frames q.0 q.1) ∙ blank) in
+      apart-side p.survey.head p.survey.frames q.0 r q.1 none found
+
+module _ (first : FilePart) (parts : List FilePart)
+    (are : AreInputs first.survey.class (first ∷ parts))
+    (out : 0 < (joined first parts are).front) where
+  abbrev survey : SurveyFields
+  survey = survey_without_head first.survey
+
+  abbrev main : List ℕ
+  main = main_bytes first.file survey.head survey.frames
+
+  leads : (((brought first parts are).blank) ≡ true)
+      × (leads_others (window first parts are) (needs_of (brought first parts are).frames) ≡ true)
+  unfolding has_lead_in
+  leads =
+      and_parts (brought first parts are).blank
+      (leads_others (window first parts are) (needs_of (brought first parts are).frames))
+      (front-parts first parts are out).0
+
+  two : AreLed survey.frames
+  two =
+      rows-led (window first parts are) survey.frames
+      (λ i r found. ((has-apart first.survey.class first are.0).placed i r found).known)
+      (subst (λ (l : List Need). leads_others (window first parts are) l ≡ true)
+      (brought-needs first.survey.class first are.0) leads.1)
+
+  first-none : row_side two.first ≡ no_side
+  first-none =
+      blank-side first.survey.class first are.0 leads.0 two.first
+      (ap (λ (l : List Row). slice_get l 0) two.are)
+
+  -- what the run begins with, and what its stream begins with
+  pub front-alike : (g : RunFrame) (f : StreamFrame) (fs : List StreamFrame)
+      → slice_get (all first parts are) 0 ≡ Some g → stream first parts are ≡ f ∷ fs
+      → sound_of first.survey.class (silent_lead_in f) ≡ g.sound
+  front-alike g f fs begins streams =
+      let c : ClassFields = first.survey.class in
+      let both = stream-two first.file survey two.first two.second two.rest two.are in
+      let w : StreamFrame = stream_frame main survey.head survey.frames 0 two.first in
+      let v : StreamFrame = stream_frame main survey.head survey.frames both.0 two.second in
+      let others_sounds =
+      sounds_left (joints_of c (brought first parts are) (others first parts are))
+      (others first parts are) in
+      let sounding : sounds (all first parts are)
+      ≡ map (sound_of c) (w ∷ v ∷ both.1) ++ others_sounds =
+      run-sounds c (brought first parts are) (others first parts are) (brought-fit c first are.0)
+      (inputs-fit c parts are.1)
+      ∙ ap (λ (l : List (List ℕ)). l ++ others_sounds)
+      (brought-sounds c first are.0 ∙ ap (map (sound_of c)) both.2) in
+      let own : Some g.sound ≡ Some (sound_of c w) =
+      sym (slice_get-map (λ (x : RunFrame). x.sound) (all first parts are) 0
+      ∙ ap (option_map (λ (x : RunFrame). x.sound)) begins)
+      ∙ ap (λ (l : List (List ℕ)). slice_get l 0) sounding in
+      let sound : g.sound ≡ sound_of c w = cc in
+      let k : ℕ = (joined first parts are).front in
+      let one : k ≡ 1 = omega (arith, out, front-few first parts are) in
+      let behind = flat_map part_stream (later_parts (joined first parts are).joints parts) in
+      let next : v ∷ both.1 ++ behind ≡ f ∷ fs =
+      ap (λ (l : List StreamFrame). l ++ behind)
+      (sym (stream-from c first are.0 k ∙ ap (λ n. drop n (whole_stream c first are.0)) one
+      ∙ ap (drop 1) both.2))
+      ∙ streams in
+      let second : v ≡ f = cc in
+      silent-sound c f
+      ∙ ap (λ (x : StreamFrame). silent_sound c (record x.header { protected = false }))
+      (sym second)
+      ∙ ap (silent_sound c) (sym two.like)
+      ∙ sym (empty-sound c main survey.head survey.frames 0 two.first first-none)
+      ∙ sym sound
+
+  -- where the lead-in of the first input leaves the run, it is the one that the run gets again
+  pub front-silent : (f : StreamFrame) (fs : List StreamFrame) → stream first parts are ≡ f ∷ fs
+      → (more : List StreamFrame)
+      × (whole_stream first.survey.class first are.0 ≡ silent_lead_in f ∷ more)
+  front-silent f fs streams =
+      let c : ClassFields = first.survey.class in
+      let both = stream-two first.file survey two.first two.second two.rest two.are in
+      let w : StreamFrame = stream_frame main survey.head survey.frames 0 two.first in
+      let v : StreamFrame = stream_frame main survey.head survey.frames both.0 two.second in
+      let k : ℕ = (joined first parts are).front in
+      let one : k ≡ 1 = omega (arith, out, front-few first parts are) in
+      let behind = flat_map part_stream (later_parts (joined first parts are).joints parts) in
+      let next : v ∷ both.1 ++ behind ≡ f ∷ fs =
+      ap (λ (l : List StreamFrame). l ++ behind)
+      (sym (stream-from c first are.0 k ∙ ap (λ n. drop n (whole_stream c first are.0)) one
+      ∙ ap (drop 1) both.2))
+      ∙ streams in
+      let second : v ≡ f = cc in
+      let silent : w ≡ silent_lead_in v =
+      empty-frame main survey.head survey.frames 0 two.first first-none ∙ ap silent_frame two.like
+      in (
+        v ∷ both.1,
+        both.2 ∙ ap (λ (x : StreamFrame). x ∷ v ∷ both.1) (silent ∙ ap silent_lead_in second),
+      )

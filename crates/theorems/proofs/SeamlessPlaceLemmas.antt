@@ -1,0 +1,403 @@
+-- Where the samples of an input that follows the one before it are in the joined file.
+use Rattle.std.proofs.Common.{ap, append_assoc, ap₂, arith, drop, inl, inr, length, List, map, None}
+use Rattle.std.proofs.Common.{Option, refl, Some, subst, suc, sym, take, zero, ℕ, [], ◌%◌, ◌*◌}
+use Rattle.std.proofs.{Common.{◌++◌, ◌+◌, ◌-◌, ◌/◌, ◌<◌, ◌∙◌, ◌∷◌, ◌≡◌, ◌≤◌}, lemmas.Bool.cases_lt}
+use Rattle.std.proofs.lemmas.{List.{take-append-drop, Concat.flat_map-append}, Option.slice_get-map}
+use Rattle.std.specs.Prelude.{option_map, slice_get}
+use Rattle.exact_span.specs.PlayedPositions.{rest_of, samples_in}
+use Rattle.frame_header.specs.{Fields.ClassFields, Tables.samples_of}
+use Rattle.frame_header.specs.declared.version.Version.{Version, TheVariants.{One, Two, TwoFive}}
+use Rattle.join_edits.specs.Seamless.{join_of_parts, part_brought, part_without_head, run_lead_ins}
+use Rattle.join_edits.specs.Seamless.{seamless_stream, sound_of}
+use Rattle.laying.specs.Relaid.{FilePart, part_stream, silent_lead_in}
+use Rattle.seam_plan.proofs.FollowLemmas.{added, followers-on, get-drop, sounds}
+use Rattle.seam_plan.specs.{Frames.{Brought, RunFrame}, Laws.{InputGoesOn, run_after}}
+use Rattle.seam_plan.specs.{Seams.{JointFrames, joints_of}, declared.seam.Seam.TheVariants.Follows}
+use Rattle.sync_survey.specs.MainData.{StreamFrame}
+use Rattle.theorems.proofs.SeamlessFrontLemmas.{front-alike}
+use Rattle.theorems.proofs.SeamlessInputLemmas.{AreInputs, brought-many, brought-sounds, inputs-are}
+use Rattle.theorems.proofs.SeamlessInputLemmas.{IsInput, played-end, stream-whole}
+use Rattle.theorems.proofs.SeamlessRunLemmas.{all, brought, class, front-few, front-parts, joined}
+use Rattle.theorems.proofs.SeamlessRunLemmas.{joints-are, leads-many, others, run, run-is}
+use Rattle.theorems.proofs.SeamlessRunLemmas.{run-leads, seamless-is, stream, stream-sounds}
+use Rattle.theorems.specs.SeamlessLaws.{ComesBehind, FollowingSamplesStay, IsPositionKept, run_end}
+
+-- ---- lists
+
+get-front : {X : Type 0} (xs ys : List X) (i : ℕ) (x : X) → slice_get xs i ≡ Some x
+    → slice_get (xs ++ ys) i ≡ Some x
+get-front [] ys i x is = absurd cc
+get-front (z ∷ xs) ys zero x is = is
+get-front (z ∷ xs) ys (suc i) x is = get-front xs ys i x is
+
+get-behind : {X : Type 0} (xs ys : List X) (i : ℕ)
+    → slice_get (xs ++ ys) (length xs + i) ≡ slice_get ys i
+get-behind [] ys i = let none : 0 + i ≡ i = omega arith in ap (slice_get ys) none
+get-behind (x ∷ xs) ys i =
+    let next : suc (length xs) + i ≡ suc (length xs + i) = omega arith in
+    ap (slice_get (x ∷ xs ++ ys)) next ∙ get-behind xs ys i
+
+get-there : {X : Type 0} (xs : List X) (i : ℕ) → i < length xs → (x : X) × (slice_get xs i ≡ Some x)
+get-there [] i within = absurd (omega (arith, within))
+get-there (x ∷ xs) zero within = (x, refl)
+get-there (x ∷ xs) (suc i) within = get-there xs i (omega (arith, within))
+
+-- a frame of a stream by its sound
+record HasSound (class : ClassFields) (stream : List StreamFrame) (i : ℕ) (sound : List ℕ) : Type 0
+  where
+    frame : StreamFrame
+    found : slice_get stream i ≡ Some frame
+    is : sound_of class frame ≡ sound
+
+has-sound : (class : ClassFields) (stream : List StreamFrame) (i : ℕ) (sound : List ℕ)
+    → slice_get (map (sound_of class) stream) i ≡ Some sound
+    → HasSound class stream i sound
+has-sound class stream i sound is =
+    at (slice_get stream i) refl (sym (slice_get-map (sound_of class) stream i) ∙ is)
+  where
+    at : (o : Option StreamFrame) → slice_get stream i ≡ o
+        → option_map (sound_of class) o ≡ Some sound → HasSound class stream i sound
+    at None found none = absurd cc
+    at (Some f) found some = record { frame = f; found = found; is = cc }
+
+sound-at : (frames : List RunFrame) (i : ℕ) (f : RunFrame) → slice_get frames i ≡ Some f
+    → slice_get (sounds frames) i ≡ Some f.sound
+sound-at frames i f is = slice_get-map (λ (x : RunFrame). x.sound) frames i
+    ∙ ap (option_map (λ (x : RunFrame). x.sound)) is
+
+-- ---- positions
+
+-- position x of a file of n frames, and its place in another: as far from the end of `ends` frames
+-- after `leads` others, of which `front` are taken away
+record IsPlaced (v : Version) (x n front leads ends : ℕ) : Type 0 where
+  place : ℕ
+  frame : ℕ
+  at : place + (n + front) * samples_of v ≡ x + (leads + ends) * samples_of v
+  frame_is : frame + (n + front) ≡ x / samples_of v + (leads + ends)
+  in_frame : place / samples_of v ≡ frame
+  offset : place % samples_of v ≡ x % samples_of v
+
+placed-by : (v : Version) (x n front leads ends : ℕ) → n + front ≤ x / samples_of v + (leads + ends)
+    → IsPlaced v x n front leads ends
+placed-by One x n front leads ends enough = record {
+  place = (x / 1152 + (leads + ends) - (n + front)) * 1152 + x % 1152;
+  frame = x / 1152 + (leads + ends) - (n + front);
+  at = omega (arith, enough);
+  frame_is = omega (arith, enough);
+  in_frame = omega arith;
+  offset = omega arith;
+}
+placed-by Two x n front leads ends enough = record {
+  place = (x / 576 + (leads + ends) - (n + front)) * 576 + x % 576;
+  frame = x / 576 + (leads + ends) - (n + front);
+  at = omega (arith, enough);
+  frame_is = omega (arith, enough);
+  in_frame = omega arith;
+  offset = omega arith;
+}
+placed-by TwoFive x n front leads ends enough = record {
+  place = (x / 576 + (leads + ends) - (n + front)) * 576 + x % 576;
+  frame = x / 576 + (leads + ends) - (n + front);
+  at = omega (arith, enough);
+  frame_is = omega (arith, enough);
+  in_frame = omega arith;
+  offset = omega arith;
+}
+
+-- where the positions of one file end, those of the next begin
+meets-at : (v : Version) (place start end n m front leads old new out : ℕ)
+    → place + (n + front) * samples_of v ≡ start + (leads + new) * samples_of v
+    → start + (m * samples_of v - end) ≡ out * samples_of v → end ≤ m * samples_of v
+    → new + out ≡ old + n
+    → place + (m + front) * samples_of v ≡ end + (leads + old) * samples_of v
+meets-at One place start end n m front leads old new out at meets within longer =
+    omega (arith, at, meets, within, longer)
+meets-at Two place start end n m front leads old new out at meets within longer =
+    omega (arith, at, meets, within, longer)
+meets-at TwoFive place start end n m front leads old new out at meets within longer =
+    omega (arith, at, meets, within, longer)
+
+later-frame : (v : Version) (x y : ℕ) → x ≤ y → x / samples_of v ≤ y / samples_of v
+later-frame One x y less = omega (arith, less)
+later-frame Two x y less = omega (arith, less)
+later-frame TwoFive x y less = omega (arith, less)
+
+within-frames : (v : Version) (x end n : ℕ) → x < end → end ≤ n * samples_of v
+    → x / samples_of v < n
+within-frames One x end n before most = omega (arith, before, most)
+within-frames Two x end n before most = omega (arith, before, most)
+within-frames TwoFive x end n before most = omega (arith, before, most)
+
+-- ---- the frames of the run in the joined file
+
+input-at : (class : ClassFields) (parts : List FilePart) (i : ℕ) (p : FilePart)
+    → AreInputs class parts → slice_get parts i ≡ Some p → IsInput class p
+input-at class [] i p are is = absurd cc
+input-at class (q ∷ parts) zero p are is = let same : q ≡ p = cc in subst (IsInput class) same are.0
+input-at class (q ∷ parts) (suc i) p are is = input-at class parts i p are.1 is
+
+module _ (first : FilePart) (parts : List FilePart)
+    (are : AreInputs first.survey.class (first ∷ parts))
+  where
+    abbrev c : ClassFields
+    c = first.survey.class
+
+    abbrev front : ℕ
+    front = (joined first parts are).front
+
+    abbrev whole : List RunFrame
+    whole = all first parts are
+
+    abbrev heard : List StreamFrame
+    heard = stream first parts are
+
+    abbrev leads : List StreamFrame
+    leads = (run-leads first parts are).leads
+
+    stays-by : (j i : ℕ) (g : RunFrame) → slice_get whole j ≡ Some g → j ≡ front + i
+        → HasSound c (leads ++ heard) (length leads + i) g.sound
+    stays-by j i g found is =
+        let there : slice_get (sounds (run first parts are)) i ≡ Some g.sound =
+        ap (λ (l : List RunFrame). slice_get (sounds l) i) (run-is first parts are)
+        ∙ sound-at (drop front whole) i g (get-drop front whole i ∙ ap (slice_get whole) (sym is)
+        ∙ found) in
+        let own =
+        has-sound c heard i g.sound
+        (ap (λ (l : List (List ℕ)). slice_get l i) (stream-sounds first parts are) ∙ there) in
+        record { frame = own.frame; found = get-behind leads heard i ∙ own.found; is = own.is }
+
+    -- the first one, where it leaves the run
+    leaves-by : (g : RunFrame) → slice_get whole 0 ≡ Some g → 0 < front
+        → HasSound c (leads ++ heard) 0 g.sound × (length leads ≡ 1)
+    leaves-by g found out =
+        let led = (run-leads first parts are).led (front-parts first parts are out).1 in
+        let f : StreamFrame = led.0 in (
+          record {
+            frame = silent_lead_in f;
+            found = ap (λ (l : List StreamFrame). slice_get (l ++ heard) 0) led.3;
+            is = front-alike first parts are out g f led.1 found led.2;
+          },
+          ap (λ (l : List StreamFrame). length l) led.3,
+        )
+
+    leads-enough : front ≤ length leads
+    leads-enough =
+        elim (cases_lt 0 front) as (λ _. front ≤ length leads) [
+          | inl out ↦
+              let led = (run-leads first parts are).led (front-parts first parts are out).1 in
+              omega
+              (arith, front-few first parts are, ap (λ (l : List StreamFrame). length l) led.3)
+          | inr none ↦ omega (arith, none)
+        ]
+
+    run-stays : (j place : ℕ) (g : RunFrame) → slice_get whole j ≡ Some g
+        → place + front ≡ length leads + j → HasSound c (leads ++ heard) place g.sound
+    run-stays j place g found is =
+        elim (cases_lt j front) as (λ _. HasSound c (leads ++ heard) place g.sound) [
+          | inl early ↦
+              let none : j ≡ 0 = omega (arith, early, front-few first parts are) in
+              let left =
+              leaves-by g (subst (λ n. slice_get whole n ≡ Some g) none found)
+              (omega (arith, early)) in
+              let here : 0 ≡ place =
+              omega (arith, early, is, none, left.1, front-few first parts are) in
+              subst (λ n. HasSound c (leads ++ heard) n g.sound) here left.0
+          | inr late ↦
+              let i : ℕ = j - front in
+              let here : length leads + i ≡ place = omega (arith, late, is) in
+              subst (λ n. HasSound c (leads ++ heard) n g.sound) here
+              (stays-by j i g found (omega (arith, late)))
+        ]
+
+    -- ---- an input that follows
+
+    abbrev begin : Brought
+    begin = brought first parts are
+
+    abbrev more : List Brought
+    more = others first parts are
+
+    -- the run after some inputs is the front of the whole
+    whole-parts : (number : ℕ)
+        → run_after begin (joints_of c begin more) number ++ added
+        (drop number (joints_of c begin more)) ≡ whole
+    whole-parts number =
+        let joints = joints_of c begin more in
+        append_assoc begin.frames (added (take number joints)) (added (drop number joints))
+        ∙ ap (λ (l : List RunFrame). begin.frames ++ l)
+        (sym (flat_map-append (λ (j : JointFrames). j.frames) (take number joints)
+        (drop number joints))
+        ∙ ap added (take-append-drop number joints))
+
+    module _ (number out : ℕ) (before input : FilePart) (joint : JointFrames)
+        (is_before : slice_get (first ∷ parts) number ≡ Some before)
+        (is_input : slice_get parts number ≡ Some input)
+        (is_joint : slice_get (join_of_parts first parts).joints number ≡ Some joint)
+        (seam : joint.seam ≡ Follows out) where
+      before_is : IsInput c before
+      before_is = input-at c (first ∷ parts) number before are is_before
+
+      input_is : IsInput c input
+      input_is = input-at c parts number input are.1 is_input
+
+      abbrev old_run : List RunFrame
+      old_run = run_after begin (joints_of c begin more) number
+
+      abbrev new_run : List RunFrame
+      new_run = run_after begin (joints_of c begin more) (number + 1)
+
+      goes : InputGoesOn c (part_brought before) (part_brought input) old_run new_run out
+      goes =
+          followers-on c begin more number (part_brought before) (part_brought input) joint out
+          (slice_get-map part_brought (first ∷ parts) number
+          ∙ ap (option_map part_brought) is_before)
+          (slice_get-map part_brought parts number ∙ ap (option_map part_brought) is_input)
+          (ap (λ (js : List JointFrames). slice_get js number) (sym (joints-are first parts are))
+          ∙ is_joint) seam
+
+      abbrev n : ℕ
+      n = length input.survey.frames
+
+      abbrev own : List RunFrame
+      own = (part_brought input).frames
+
+      many : length own ≡ n
+      many = brought-many c input input_is
+
+      ends-new : run_end first parts (number + 1) ≡ length new_run
+      ends-new =
+          ap (λ (js : List JointFrames). length (run_after begin js (number + 1)))
+          (joints-are first parts are)
+
+      ends-old : run_end first parts number ≡ length old_run
+      ends-old =
+          ap (λ (js : List JointFrames). length (run_after begin js number))
+          (joints-are first parts are)
+
+      enough : (x : ℕ) → goes.played.start ≤ x → n + front
+          ≤ x / samples_in c + (run_lead_ins first parts + run_end first parts (number + 1))
+      enough x late =
+          omega (
+            arith,
+            later-frame c.version goes.played.start x late,
+            goes.alike.within,
+            many,
+            ends-new,
+            leads-many first parts are,
+            leads-enough,
+          )
+
+      place-of : (x : ℕ) → goes.played.start ≤ x → IsPlaced c.version x n front
+          (run_lead_ins first parts) (run_end first parts (number + 1))
+      place-of x late =
+          placed-by c.version x n front (run_lead_ins first parts)
+          (run_end first parts (number + 1))
+          (enough x late)
+
+      -- ---- one of its samples
+
+      module _ (x : ℕ) (late : goes.played.start ≤ x) (early : x < goes.played.end) where
+        placed : IsPlaced c.version x n front (run_lead_ins first parts)
+            (run_end first parts (number + 1))
+        placed = place-of x late
+
+        -- its frame in the input
+        abbrev i : ℕ
+        i = x / samples_in c
+
+        within : i < n
+        within =
+            within-frames c.version x goes.played.end n early
+            (played-end c input input_is goes.played goes.played_is)
+
+        own_frame : (f : RunFrame) × (slice_get own i ≡ Some f)
+        own_frame = get-there own i (omega (arith, within, many))
+
+        -- and in the run
+        abbrev j : ℕ
+        j = i + length new_run - length own
+
+        run_frame : (g : RunFrame) × (slice_get new_run j ≡ Some g) × (g.sound ≡ own_frame.0.sound)
+        run_frame =
+            goes.alike.alike i own_frame.0 (later-frame c.version goes.played.start x late)
+            own_frame.1
+
+        in_whole : slice_get whole j ≡ Some run_frame.0
+        in_whole =
+            ap (λ (l : List RunFrame). slice_get l j) (sym (whole-parts (number + 1)))
+            ∙ get-front new_run (added (drop (number + 1) (joints_of c begin more))) j run_frame.0
+            run_frame.1
+
+        in_file : placed.frame + front ≡ length leads + j
+        in_file =
+            omega (
+              arith,
+              placed.frame_is,
+              ends-new,
+              many,
+              leads-many first parts are,
+              goes.alike.within,
+              later-frame c.version goes.played.start x late,
+            )
+
+        heard_frame : HasSound c (leads ++ heard) placed.frame run_frame.0.sound
+        heard_frame = run-stays j placed.frame run_frame.0 in_whole in_file
+
+        own_stream : HasSound c (part_stream (part_without_head input)) i own_frame.0.sound
+        own_stream =
+            has-sound c (part_stream (part_without_head input)) i own_frame.0.sound
+            (ap (λ (l : List StreamFrame). slice_get (map (sound_of c) l) i)
+            (stream-whole c input input_is)
+            ∙ ap (λ (l : List (List ℕ)). slice_get l i) (sym (brought-sounds c input input_is))
+            ∙ sound-at own i own_frame.0 own_frame.1)
+
+        heard_there : slice_get (seamless_stream (first ∷ parts)) (placed.place / samples_in c)
+            ≡ Some heard_frame.frame
+        heard_there =
+            ap₂ (λ (l : List StreamFrame) (k : ℕ). slice_get l k) (seamless-is first parts are)
+            placed.in_frame
+            ∙ heard_frame.found
+
+        heard_alike : sound_of c heard_frame.frame ≡ sound_of c own_stream.frame
+        heard_alike = heard_frame.is ∙ run_frame.2 ∙ sym own_stream.is
+
+        keeps : IsPositionKept first parts (number + 1) input x
+        keeps = record {
+          place = placed.place;
+          at = placed.at;
+          offset = placed.offset;
+          frame = record {
+            own_frame = own_stream.frame;
+            frame = heard_frame.frame;
+            found = own_stream.found;
+            there = heard_there;
+            alike = heard_alike;
+          };
+        }
+
+      comes-behind : ComesBehind first parts number before input
+      comes-behind =
+          let place = place-of goes.played.start (omega arith) in
+          record {
+            ended = goes.ended;
+            played = goes.played;
+            ended_is = goes.ended_is;
+            played_is = goes.played_is;
+            seam = place.place;
+            ends =
+                meets-at c.version place.place goes.played.start goes.ended.end n
+                (length before.survey.frames) front (run_lead_ins first parts)
+                (run_end first parts number) (run_end first parts (number + 1)) out place.at
+                (ap (λ m. goes.played.start + rest_of c m goes.ended)
+                (sym (brought-many c before before_is)) ∙ goes.meets)
+                (played-end c before before_is goes.ended goes.ended_is)
+                (omega (arith, goes.longer, ends-new, ends-old, many));
+            starts = place.at;
+            samples = keeps;
+          }
+
+-- an input that follows comes behind the one before it
+pub following : FollowingSamplesStay
+following files inputs first parts number before input joint out taken old new at seam =
+    comes-behind first parts (inputs-are files inputs first parts taken) number out before input
+    joint old new at seam

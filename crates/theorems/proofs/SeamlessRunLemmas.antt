@@ -1,0 +1,305 @@
+-- The stream of a seamless join: at most one lead-in, and the frames of the run.
+use Rattle.std.proofs.Common.{All, ap, append-nil, ap₂, arith, Bool, cond, drop, false, flat_map}
+use Rattle.std.proofs.Common.{length, List, map, not, refl, subst, sym, true, ℕ, [], ◌&&◌, ◌++◌}
+use Rattle.std.proofs.{Common.{◌-◌, ◌<◌, ◌∙◌, ◌∷◌, ◌≡◌, ◌≤◌}, lemmas.Bool.{and_parts, both_ways}}
+use Rattle.std.proofs.lemmas.List.{drop-append-le, drop-map, length-map, map-append}
+use Rattle.std.proofs.lemmas.List.Elements.{All-cons, All-nil}
+use Rattle.cut_edits.proofs.SpanLemmas.{for_length}
+use Rattle.frame_header.{proofs.HeaderLemmas.IsClass-class_of, specs.Fields.{ClassFields, IsClass}}
+use Rattle.frame_header.specs.Tables.{window_of}
+use Rattle.join_edits.specs.Seamless.{join_of_parts, later_parts, part_brought, part_from}
+use Rattle.join_edits.specs.Seamless.{run_lead_ins, run_parts, run_plan, seamless_stream, sound_of}
+use Rattle.laying.{proofs.LaidLemmas.first-there, specs.NeedsFit.own_choice}
+use Rattle.laying.specs.Relaid.{FilePart, part_stream, silent_lead_in, stream_with_lead_ins}
+use Rattle.seam_plan.proofs.{FitLemmas.fits-tested, FollowLemmas.sounds}
+use Rattle.seam_plan.proofs.RunSoundLemmas.{run-class, run-fits, run-sounds, sounds_left}
+use Rattle.seam_plan.specs.{Frames.{Brought, needs_of, RunFrame}, Joins.{fits_behind, has_lead_in}}
+use Rattle.seam_plan.specs.Seams.{front_left_out_count, JointFrames, joints_of, left_out_count}
+use Rattle.seam_plan.specs.Seams.{run_of, run_with, seamless_join, SeamlessJoin}
+use Rattle.slot_plan.proofs.{FreeByteLemmas.fits-drop, LeastPlanLemmas.least-plan-is}
+use Rattle.slot_plan.proofs.{OwnLeadInLemmas.lead-where-wanted, PartLemmas.class-drop}
+use Rattle.slot_plan.specs.FreeBytes.{FitsBehind}
+use Rattle.slot_plan.specs.Laws.{AreInOwnSlots, AreLedInOwnSlots, ChoosesInOrder}
+use Rattle.slot_plan.specs.LeastPlan.{least_plan}
+use Rattle.slot_plan.specs.Parts.{AreNeedsOfClass, ArePartsFeasible, need_item}
+use Rattle.slot_plan.specs.{Plans.{AreItemSlots, IsPlan}, declared.needs.{Need.Need, Placed.Placed}}
+use Rattle.sync_survey.specs.MainData.{StreamFrame}
+use Rattle.theorems.proofs.ExactLemmas.{frames-on, no-frames, one-on}
+use Rattle.theorems.proofs.SeamlessInputLemmas.{AreInputs, brought-fit, brought-many}
+use Rattle.theorems.proofs.SeamlessInputLemmas.{brought-sounds, inputs-fit, stream-from}
+use Rattle.theorems.proofs.SeamlessInputLemmas.{whole_stream}
+
+-- ---- the plan of frames of a class that fit behind a whole window, each in its own slot
+
+own-order : (class : ClassFields) → IsClass class → (needs : List Need)
+    → AreNeedsOfClass class needs → All (ChoosesInOrder own_choice) needs
+unfolding AreNeedsOfClass
+own-order class known [] same = All-nil (ChoosesInOrder own_choice)
+own-order class known (need ∷ needs) same =
+    All-cons (ChoosesInOrder own_choice) need needs
+    (record {
+      class = subst IsClass (sym same.0) known;
+      ascending = λ i j d before within. absurd (omega (arith, before, within));
+      own = (0, omega arith, refl);
+    })
+    (own-order class known needs same.1)
+
+one-planned : (class : ClassFields) (needs : List Need) → IsClass class
+    → AreNeedsOfClass class needs
+    → FitsBehind (window_of class.version) (window_of class.version) needs
+    → IsPlan (window_of class.version) own_choice (needs ∷ [])
+    (least_plan (window_of class.version) own_choice (needs ∷ []))
+unfolding ArePartsFeasible
+one-planned class needs known same fits =
+    (least-plan-is class own_choice (needs ∷ [])
+    (least_plan (window_of class.version) own_choice (needs ∷ []))
+    (All-cons (λ part. AreNeedsOfClass class part) needs [] same
+    (All-nil (λ part. AreNeedsOfClass class part)))
+    (All-cons (λ part. All (ChoosesInOrder own_choice) part) needs []
+    (own-order class known needs same)
+    (All-nil (λ part. All (ChoosesInOrder own_choice) part)))
+    (fits, tt)).1 refl
+
+-- ---- its lead-ins
+
+-- These are its lead-ins: none where the frames fit behind no bytes, and else one.
+pub record HasLeads (window : ℕ) (needs : List Need) (placed : List Placed)
+    (stream : List StreamFrame) : Type 0 where
+  pub leads : List StreamFrame
+  pub is : stream_with_lead_ins placed stream ≡ leads ++ stream
+  pub many : length placed - length needs ≡ length leads
+  pub own : fits_behind window 0 needs ≡ true → leads ≡ []
+  pub led : fits_behind window 0 needs ≡ false
+      → (f : StreamFrame) × (fs : List StreamFrame) × (stream ≡ f ∷ fs)
+      × (leads ≡ silent_lead_in f ∷ [])
+
+-- frames in their own slots are all there, and nothing else
+pub own-frames : (needs : List Need) (stream : List StreamFrame) (placed : List Placed)
+    → length stream ≡ length needs → AreInOwnSlots needs placed
+    → stream_with_lead_ins placed stream ≡ stream
+own-frames needs stream placed same own =
+    let for_all =
+    subst (λ l. AreItemSlots l placed) (sym (append-nil (map (need_item own_choice) needs))) own in
+    let on = frames-on own_choice [] needs stream [] placed same for_all in
+    ap (stream_with_lead_ins placed) (sym (append-nil stream)) ∙ on.1
+    ∙ ap (λ (l : List StreamFrame). stream ++ l) (no-frames on.0)
+    ∙ append-nil stream
+
+-- they have as many places
+pub own-many : (needs : List Need) (placed : List Placed) → AreInOwnSlots needs placed
+    → length placed ≡ length needs
+own-many needs placed own = for_length (map (need_item own_choice) needs) placed own
+    ∙ length-map needs (need_item own_choice)
+
+led-leads : (window : ℕ) (needs : List Need) (placed : List Placed) (stream : List StreamFrame)
+    → length stream ≡ length needs
+    → fits_behind window 0 needs ≡ false → AreLedInOwnSlots window needs placed
+    → HasLeads window needs placed stream
+unfolding AreLedInOwnSlots
+led-leads window [] placed stream same lacks led = absurd led
+led-leads window (need ∷ needs) [] stream same lacks led = absurd led
+led-leads window (need ∷ needs) (p ∷ placed) [] same lacks led = absurd (omega (arith, same))
+led-leads window (need ∷ needs) (p ∷ placed) (f ∷ stream) same lacks led = record {
+  leads = silent_lead_in f ∷ [];
+  is = one-on true p placed f stream led.0
+      ∙ ap (λ (l : List StreamFrame). silent_lead_in f ∷ l)
+      (own-frames (need ∷ needs) (f ∷ stream) placed same led.2);
+  many = omega (arith, own-many (need ∷ needs) placed led.2);
+  own = λ fits. absurd (both_ways (fits_behind window 0 (need ∷ needs)) lacks fits);
+  led = λ lacks. (f, stream, refl, refl);
+}
+
+-- a stream with one frame for each need has the lead-ins of a plan of these needs
+pub has-leads : (window : ℕ) (needs : List Need) (placed : List Placed) (stream : List StreamFrame)
+    → IsPlan window own_choice (needs ∷ []) placed
+    → length stream ≡ length needs → HasLeads window needs placed stream
+has-leads window needs placed stream plan same = at (fits_behind window 0 needs) refl
+  where
+    at : (b : Bool) → fits_behind window 0 needs ≡ b → HasLeads window needs placed stream
+    at true fits =
+        let own =
+        (lead-where-wanted window needs placed plan).0 ((fits-tested window 0 needs).0 fits) in
+        record {
+          leads = [];
+          is = own-frames needs stream placed same own;
+          many = omega (arith, own-many needs placed own);
+          own = λ fits. refl;
+          led = λ lacks. absurd (both_ways (fits_behind window 0 needs) lacks fits);
+        }
+    at false lacks =
+        led-leads window needs placed stream same lacks
+        ((lead-where-wanted window needs placed plan).1
+        (λ fits. both_ways (fits_behind window 0 needs) lacks
+        ((fits-tested window 0 needs).1 fits)))
+
+-- ---- the run and its stream
+
+left-sounds : (class : ClassFields) (joints : List JointFrames) (parts : List FilePart)
+    → AreInputs class parts
+    → map (sound_of class) (flat_map part_stream (later_parts joints parts))
+    ≡ sounds_left joints (map part_brought parts)
+left-sounds class [] parts are = refl
+left-sounds class (j ∷ joints) [] are = refl
+left-sounds class (j ∷ joints) (p ∷ parts) are =
+    let k : ℕ = left_out_count j.seam in
+    map-append (sound_of class) (part_stream (part_from k p))
+    (flat_map part_stream (later_parts joints parts))
+    ∙ ap₂ (λ (x y : List (List ℕ)). x ++ y)
+    (ap (map (sound_of class)) (stream-from class p are.0 k)
+    ∙ sym (drop-map (sound_of class) k (whole_stream class p are.0))
+    ∙ ap (drop k) (sym (brought-sounds class p are.0))
+    ∙ drop-map (λ (f : RunFrame). f.sound) k (part_brought p).frames)
+    (left-sounds class joints parts are.1)
+
+cond-few : (b : Bool) → cond b 1 0 ≤ 1
+cond-few true = omega arith
+cond-few false = omega arith
+
+cond-some : (b : Bool) → 0 < cond b 1 0 → b ≡ true
+cond-some true some = refl
+cond-some false some = absurd (omega (arith, some))
+
+module _ (first : FilePart) (parts : List FilePart)
+    (are : AreInputs first.survey.class (first ∷ parts))
+  where
+    abbrev pub class : ClassFields
+    class = first.survey.class
+
+    abbrev pub window : ℕ
+    window = window_of class.version
+
+    abbrev pub brought : Brought
+    brought = part_brought first
+
+    abbrev pub others : List Brought
+    others = map part_brought parts
+
+    abbrev pub joined : SeamlessJoin
+    joined = join_of_parts first parts
+
+    -- all frames of the run, with those that leave it at last
+    abbrev pub all : List RunFrame
+    all = run_with brought (joints_of class brought others)
+
+    abbrev pub run : List RunFrame
+    run = run_of brought joined
+
+    -- its joints are those of the inputs behind the first
+    pub joints-are : joined.joints ≡ joints_of class brought others
+    unfolding seamless_join
+    joints-are = refl
+
+    -- how many frames leave the run at last
+    pub front-is : joined.front ≡ front_left_out_count class brought all
+    unfolding seamless_join
+    front-is = refl
+
+    -- the run is all of these frames but for those that leave it at last
+    pub run-is : run ≡ drop joined.front all
+    run-is =
+        ap (λ (joints : List JointFrames). drop joined.front (run_with brought joints)) joints-are
+
+    -- no more than one frame leaves it
+    pub front-few : joined.front ≤ 1
+    unfolding front_left_out_count
+    front-few =
+        subst (λ n. n ≤ 1) (sym front-is)
+        (cond-few (has_lead_in window brought
+        && not (fits_behind window 0 (needs_of (drop 1 all)))))
+
+    -- where a frame leaves it, the first input has a lead-in in front, and the others want one
+    pub front-parts : 0 < joined.front
+        → (has_lead_in window brought ≡ true) × (fits_behind window 0 (needs_of run) ≡ false)
+    unfolding front_left_out_count
+    front-parts some =
+        let lacks : Bool = not (fits_behind window 0 (needs_of (drop 1 all))) in
+        let both = and_parts (has_lead_in window brought) lacks
+        (cond-some (has_lead_in window brought && lacks) (subst (λ n. 0 < n) front-is some)) in
+        let one : joined.front ≡ 1 = omega (arith, some, front-few) in (
+          both.0,
+          ap (λ (l : List RunFrame). fits_behind window 0 (needs_of l))
+              (run-is ∙ ap (λ n. drop n all) one) ∙ not-true _ both.1,
+        )
+      where
+        not-true : (b : Bool) → not b ≡ true → b ≡ false
+        not-true true is = absurd cc
+        not-true false is = refl
+
+    first-fit : FitsBehind window window (needs_of run)
+    first-fit =
+        subst (FitsBehind window window)
+        (sym (ap needs_of run-is ∙ sym (drop-map (λ (f : RunFrame). f.need) joined.front all)))
+        (fits-drop window window joined.front (needs_of all)
+        (run-fits class brought others (brought-fit class first are.0)
+        (inputs-fit class parts are.1)))
+
+    run-same : AreNeedsOfClass class (needs_of run)
+    run-same =
+        subst (AreNeedsOfClass class)
+        (sym (ap needs_of run-is ∙ sym (drop-map (λ (f : RunFrame). f.need) joined.front all)))
+        (class-drop class (needs_of all) joined.front
+        (run-class class brought others (brought-fit class first are.0)
+        (inputs-fit class parts are.1)))
+
+    class-known : IsClass class
+    class-known =
+        let row = first-there first.survey.frames 0 are.0.some in
+        let placed = are.0.has.placed 0 row.0 row.1 in
+        subst IsClass placed.class_is (IsClass-class_of row.0.header placed.known)
+
+    -- its plan
+    pub run-planned : IsPlan window own_choice (needs_of run ∷ []) (run_plan first parts)
+    run-planned = one-planned class (needs_of run) class-known run-same first-fit
+
+    abbrev pub stream : List StreamFrame
+    stream = flat_map part_stream (run_parts first parts)
+
+    first-many : 1 ≤ length brought.frames
+    first-many = omega (arith, brought-many class first are.0, are.0.some)
+
+    -- the stream sounds as the run does
+    pub stream-sounds : map (sound_of class) stream ≡ sounds run
+    stream-sounds =
+        let k : ℕ = joined.front in
+        map-append (sound_of class) (part_stream (part_from k first))
+        (flat_map part_stream (later_parts joined.joints parts))
+        ∙ ap₂ (λ (x y : List (List ℕ)). x ++ y)
+        (ap (map (sound_of class)) (stream-from class first are.0 k)
+        ∙ sym (drop-map (sound_of class) k (whole_stream class first are.0))
+        ∙ ap (drop k) (sym (brought-sounds class first are.0)))
+        (left-sounds class joined.joints parts are.1
+        ∙ ap (λ (js : List JointFrames). sounds_left js others) joints-are)
+        ∙ sym (drop-append-le k (sounds brought.frames)
+        (sounds_left (joints_of class brought others) others)
+        (omega
+        (arith, front-few, first-many, length-map brought.frames (λ (f : RunFrame). f.sound))))
+        ∙ ap (drop k)
+        (sym (run-sounds class brought others (brought-fit class first are.0)
+        (inputs-fit class parts are.1)))
+        ∙ drop-map (λ (f : RunFrame). f.sound) k all
+        ∙ ap sounds (sym run-is)
+
+    -- the stream is as long as the run
+    pub stream-length : length stream ≡ length (needs_of run)
+    stream-length =
+        sym (length-map stream (sound_of class))
+        ∙ ap (λ (l : List (List ℕ)). length l) stream-sounds
+        ∙ length-map run (λ (f : RunFrame). f.sound)
+        ∙ sym (length-map run (λ (f : RunFrame). f.need))
+
+    -- the lead-ins that the plan of the run puts in front of the stream
+    pub run-leads : HasLeads window (needs_of run) (run_plan first parts) stream
+    run-leads =
+        has-leads window (needs_of run) (run_plan first parts) stream run-planned stream-length
+
+    -- the stream of the join is these lead-ins, and then the stream of the run
+    pub seamless-is : seamless_stream (first ∷ parts) ≡ run-leads.leads ++ stream
+    unfolding seamless_stream
+    seamless-is = run-leads.is
+
+    -- the run has as many lead-ins as these
+    pub leads-many : run_lead_ins first parts ≡ length run-leads.leads
+    leads-many =
+        ap (λ n. length (run_plan first parts) - n)
+        (sym (length-map run (λ (f : RunFrame). f.need)))
+        ∙ run-leads.many

@@ -1,0 +1,147 @@
+-- Exact pieces: the frames of their spans, by the survey whose head is set apart.
+use Rattle.std.proofs.Common.{ap, arith, Bool, false, inl, length, List, None, Ok, Option, refl}
+use Rattle.std.proofs.Common.{Some, subst, sym, true, ℕ, [], ◌+◌, ◌∙◌, ◌∷◌, ◌≡◌}
+use Rattle.std.specs.Prelude.{slice_get, slice_range, unwrap_or}
+use Rattle.commands.proofs.{MadeLemmas.{made-of, makes-parts}, RefusingLemmas.unless_ok}
+use Rattle.commands.specs.SingleOutput.{most_frames}
+use Rattle.cut_edits.proofs.PieceLemmas.{apart_had, piece-parts, span-there, span_apart}
+use Rattle.cut_edits.proofs.SpanLemmas.{led-is}
+use Rattle.cut_edits.specs.Chosen.{Chosen, chosen_file_part, chosen_needs}
+use Rattle.cut_edits.specs.Exact.{exact_command, exact_making, exact_stream, exact_stream_or_none}
+use Rattle.cut_edits.specs.Exact.{exact_surveyed_stream, exact_task, file_span, IsSpanIn}
+use Rattle.cut_edits.specs.Exact.{row_sealed_part, samples_fault, span_needs, span_part, span_piece}
+use Rattle.cut_edits.specs.Exact.{span_plan, survey_without_head}
+use Rattle.exact_span.specs.{Places.sample_at, PlayedPositions.{length_of_played, played_of}}
+use Rattle.exact_span.specs.{Spans.span_of, declared.exact_place.ExactPlace.ExactPlace}
+use Rattle.exact_span.specs.declared.{played.Played.Played, span.Span.Span}
+use Rattle.frame_header.specs.{Slots.all_slots, Tables.{class_of, window_of}}
+use Rattle.info_header.specs.declared.fields.Info.{Info}
+use Rattle.job_words.specs.Request.{CutExact}
+use Rattle.laying.specs.{KeptFields.fields_of_head, Laid.{LaidPart, stream_laid}}
+use Rattle.laying.specs.{NeedsFit.own_choice, Relaid.{part_stream, stream_with_lead_ins}}
+use Rattle.laying.specs.Surveys.{CanBeRelaid}
+use Rattle.slot_plan.specs.{LeastPlan.led_plan, Parts.{lead_in_item, led_items}, Plans.AreItemSlots}
+use Rattle.slot_plan.specs.declared.needs.{Need.Need, Placed.Placed}
+use Rattle.sync_survey.proofs.SurveyPartsLemmas.{surveyed-allowed}
+use Rattle.sync_survey.proofs.SurveyedFileLemmas.{survey_of-parts}
+use Rattle.sync_survey.specs.Faults.{stream_of_survey, SurveyFields, unbounded_survey}
+use Rattle.sync_survey.specs.{MainData.StreamFrame, Row.Row, Survey.survey_of}
+use Rattle.theorems.proofs.CaseLemmas.{had-exact, had-part}
+use Rattle.theorems.proofs.ExactLemmas.{IsSized, led-exact, part-sized}
+use Rattle.theorems.specs.Chosen.{file_bytes_of, frames_needed, span_frames, surveyed_span_frames}
+use Rattle.theorems.specs.{Exact.IsExactly, Laws.HoldsChosen}
+
+-- ---- in the slots of their plan
+
+-- frames after a lead-in
+led-frames : (needs : List Need) (fs : List StreamFrame) (placed : List Placed) → IsSized needs fs
+    → AreItemSlots (led_items own_choice needs) placed
+    → IsExactly (fs ∷ []) (stream_with_lead_ins placed fs)
+unfolding led_items
+led-frames [] fs placed sized for_items = absurd (omega (arith, sized.some))
+led-frames (first ∷ needs) fs placed sized for_items = led-exact own_choice (first ∷ needs)
+    (lead_in_item (class_of first.header) all_slots) refl fs placed sized for_items
+
+-- the plan is that of the frames from one to before another
+abbrev frames_chosen : Span → Chosen
+frames_chosen span = record { from = span.first; to = span.last; quality = None; extension = [] }
+
+module _ (span : Span) (file : List ℕ) (s : SurveyFields) (had : CanBeRelaid file s)
+    (there : IsSpanIn s span) where
+  abbrev chosen : Chosen
+  chosen = frames_chosen span
+
+  abbrev fs : List StreamFrame
+  fs = part_stream (chosen_file_part chosen file s)
+
+  span-exact : (led : Bool)
+      → IsExactly (fs ∷ []) (stream_with_lead_ins (span_plan led s.class (span_needs span s)) fs)
+  span-exact false = had-exact chosen file s had there.some there.within own_choice (inl refl)
+  span-exact true =
+      let needs = chosen_needs chosen s in
+      let plan = led_plan (window_of s.class.version) own_choice needs in
+      led-frames needs fs plan (part-sized s.class (chosen_file_part chosen file s)
+      (had-part chosen file s had there.some there.within))
+      ((led-is chosen s had.placed there.some there.within plan).1 refl).slots
+
+  -- music length and tag CRC leave the stream as it is
+  sealed-stream : (o : Option Row) (laid : LaidPart)
+      → stream_laid (row_sealed_part o laid file s) file s ≡ stream_laid laid file s
+  sealed-stream None laid = refl
+  sealed-stream (Some first) laid = refl
+
+  -- the stream of a piece is exactly the frames of its span
+  pub piece-exact : (head : Option Info)
+      → IsExactly (slice_range (stream_of_survey file s) span.first span.last ∷ [])
+      (stream_laid (span_piece head span file s) file s)
+  unfolding span_piece
+  piece-exact head = subst (λ (l : List StreamFrame). IsExactly (fs ∷ []) l)
+      (sym (sealed-stream (slice_get s.frames span.first) (span_part head span s)))
+      (span-exact span.led)
+
+-- ---- the span of the samples
+
+module _ (from to : ExactPlace) (file : List ℕ) (s : SurveyFields) where
+  abbrev head : Option Info
+  head = fields_of_head file s.head
+
+  abbrev played : Played
+  played = played_of head s.class (length s.frames)
+
+  abbrev number : ExactPlace → ℕ
+  number place = sample_at s.class (length_of_played played) place
+
+  span-is : (span : Span) → file_span from to head s ≡ Ok span
+      → span_of s.class (played.start + number from) (played.start + number to) ≡ span
+  unfolding file_span
+  span-is span e = (unless_ok (samples_fault (number from) (number to) (length_of_played played))
+      (span_of s.class (played.start + number from) (played.start + number to)) span e).1
+
+  -- the frames of the job are those of the span
+  pub frames-are : (span : Span) → file_span from to head s ≡ Ok span → span_frames from to file s
+      ≡ slice_range (stream_of_survey file (survey_without_head s)) span.first span.last
+  frames-are span e = ap
+      (λ (p : Span). slice_range (stream_of_survey file (survey_without_head s)) p.first p.last)
+      (span-is span e)
+
+  -- and are those that are needed by the file's survey
+  pub needed-is : survey_of file most_frames ≡ Ok s
+      → frames_needed from to file ≡ span_frames from to file s
+  needed-is is =
+      let freely : unbounded_survey file ≡ Ok s = surveyed-allowed file most_frames
+      (length file + 1) s (omega arith) (survey_of-parts file most_frames s is).1 in
+      ap (surveyed_span_frames from to file) freely
+
+-- ---- the command
+
+-- an exact cut holds the frames of its span
+pub exact-holds : (input : List ℕ) (from to : ExactPlace) (output : List ℕ)
+    → HoldsChosen (CutExact input from to output) (exact_command from to input output)
+exact-holds input from to output files made e =
+    let bytes = makes-parts (exact_task from to input) output files made e in
+    let is = made-of (exact_making from to) files input bytes.1 bytes.2 in
+    let by = piece-parts from to is.file is.survey is.bytes is.made in
+    let head = fields_of_head is.file is.survey.head in
+    let own = survey_without_head is.survey in
+    let there =
+    span_apart is.survey by.span (span-there from to head is.survey by.span by.span_is) in
+    let exact =
+    piece-exact by.span is.file own (apart_had is.file is.survey is.surveyed) there head in
+    let stream : (exact_task from to input).stream files
+    ≡ stream_laid (span_piece head by.span is.file own) is.file own =
+    ap (λ (o : Option (List ℕ)). exact_stream from to (unwrap_or o [])) is.there
+    ∙ ap (exact_surveyed_stream from to is.file) is.surveyed
+    ∙ ap (exact_stream_or_none is.file is.survey) by.laid in
+    let frames : slice_range (stream_of_survey is.file own) by.span.first by.span.last
+    ≡ frames_needed from to (file_bytes_of files input) =
+    sym (
+    ap (λ (o : Option (List ℕ)). frames_needed from to (unwrap_or o [])) is.there
+    ∙ needed-is from to is.file is.survey is.surveyed
+    ∙ frames-are from to is.file is.survey by.span by.span_is
+    ) in (
+      subst (λ (l : List StreamFrame). IsExactly (l ∷ []) ((exact_task from to input).stream files))
+          frames
+          (subst (λ (l : List StreamFrame). IsExactly (slice_range (stream_of_survey is.file own)
+          by.span.first by.span.last ∷ []) l) (sym stream) exact),
+      tt,
+    )

@@ -1,0 +1,197 @@
+-- The pieces of a split, at positions or at places among the samples.
+use Rattle.std.proofs.Common.{ap, ap₂, false, List, map, Ok, Option, refl, Result, Some, subst, sym}
+use Rattle.std.{proofs.Common.{true, ℕ, [], ◌∙◌, ◌∷◌, ◌≡◌}, specs.Prelude.unwrap_or}
+use Rattle.commands.{proofs.RefusingLemmas.then_ok, specs.SingleOutput.most_frames}
+use Rattle.commands.specs.declared.fault.EditFault.{EditFault}
+use Rattle.cue_sheet.specs.declared.place.Place.{Place}
+use Rattle.cut_edits.proofs.PieceLemmas.{apart_had, span-there, span_apart}
+use Rattle.cut_edits.specs.Chosen.{cut_choice, first_planning, laying_part, own_slots_part}
+use Rattle.cut_edits.specs.Chosen.{planned_part}
+use Rattle.cut_edits.specs.Exact.{exact_part, file_span, span_piece, survey_without_head}
+use Rattle.exact_span.specs.declared.exact_place.ExactPlace.{ExactPlace}
+use Rattle.exact_span.specs.declared.exact_place.ExactPlace.TheVariants.{Place as Position}
+use Rattle.job_words.specs.Request.{SplitAt, SplitBy, SplitExact}
+use Rattle.laying.specs.{KeptFields.fields_of_head, Laid.{LaidPart, stream_laid}}
+use Rattle.laying.specs.NeedsFit.{own_choice}
+use Rattle.outside.specs.Files.{Contents}
+use Rattle.split_edits.proofs.CommandLemmas.{first-parts}
+use Rattle.split_edits.proofs.PartsLemmas.{cue-parts, IsSplit, split-parts}
+use Rattle.split_edits.specs.Cutting.{Cutting, input_streams, laid_streams, piece_parts}
+use Rattle.split_edits.specs.Cutting.{piece_parts_from, split_command, surveyed_streams, with_first}
+use Rattle.split_edits.specs.Split.{cue_sheet_places, cut_part, given_cutting, given_exact_cutting}
+use Rattle.split_edits.specs.Split.{sheet_cutting, sheet_exact_cutting}
+use Rattle.sync_survey.specs.{Faults.{stream_of, SurveyFields}, MainData.StreamFrame}
+use Rattle.sync_survey.specs.Survey.{survey_of}
+use Rattle.theorems.proofs.ChosenCaseLemmas.{cut-exact, frames-are}
+use Rattle.theorems.proofs.SpanCaseLemmas.{frames-are as span-frames, needed-is, piece-exact}
+use Rattle.theorems.specs.Chosen.{AllConsistOf, cue_positions, file_bytes_of, frames_between}
+use Rattle.theorems.specs.Chosen.{frames_needed, frames_needed_between, named_frames, piece_frames}
+use Rattle.theorems.specs.{Chosen.{piece_frames_from, positions_in}, Exact.IsExactly}
+use Rattle.theorems.specs.Laws.{HoldsChosen}
+
+-- ---- whatever is cut
+
+module _ {P : Type 0} (cut : Cutting P) (file : List ℕ) (s : SurveyFields)
+    (frames : P → P → List StreamFrame)
+    (exact : (from to : P) (laid : LaidPart) → cut.between from to file s ≡ Ok laid
+    → IsExactly (frames from to ∷ []) (stream_laid laid file (cut.survey s))) where
+  abbrev stream : LaidPart → List StreamFrame
+  stream laid = stream_laid laid file (cut.survey s)
+
+  from-consist : (from : P) (places : List P) (all : List LaidPart)
+      → piece_parts_from cut file s from places
+      ≡ Ok all → AllConsistOf (piece_frames_from frames from places) (map stream all)
+  from-consist from [] all e = let none : [] ≡ all = cc in
+      subst (λ (l : List LaidPart). AllConsistOf [] (map stream l)) none tt
+  from-consist from (to ∷ places) all e =
+      let one = then_ok (cut.between from to file s)
+      (λ first. with_first first (piece_parts_from cut file s to places)) all e in
+      let more = first-parts one.0 (piece_parts_from cut file s to places) all one.2 in
+      subst (λ (l : List LaidPart). AllConsistOf (piece_frames_from frames from (to ∷ places))
+      (map stream l))
+      more.2 (exact from to one.0 one.1, from-consist to places more.0 more.1)
+
+  pieces-consist : (places : List P) (all : List LaidPart) → piece_parts cut file s places ≡ Ok all
+      → AllConsistOf (piece_frames frames places) (map stream all)
+  pieces-consist [] all e = let none : [] ≡ all = cc in
+      subst (λ (l : List LaidPart). AllConsistOf [] (map stream l)) none tt
+  pieces-consist (place ∷ places) all e = from-consist place places all e
+
+module _ {P : Type 0} (cut : Cutting P) (files : Contents) (input : List ℕ)
+    (is : IsSplit cut files input) where
+  streams-are : input_streams cut (cut.places files) (files input)
+      ≡ map (λ (l : LaidPart). stream_laid l is.file (cut.survey is.survey)) is.laid
+  unfolding input_streams
+  streams-are = ap₂ (input_streams cut) is.placed is.there
+      ∙ ap (surveyed_streams cut (Ok is.found) is.file) is.surveyed
+      ∙ ap (laid_streams is.file (cut.survey is.survey)) is.picked
+
+  pieces-hold : (frames : P → P → List StreamFrame)
+      → ((from to : P) (laid : LaidPart) → cut.between from to is.file is.survey ≡ Ok laid
+      → IsExactly (frames from to ∷ []) (stream_laid laid is.file (cut.survey is.survey))) →
+      AllConsistOf (piece_frames frames is.found)
+      (input_streams cut (cut.places files) (files input))
+  pieces-hold frames exact =
+      subst (λ (l : List (List StreamFrame)). AllConsistOf (piece_frames frames is.found) l)
+      (sym streams-are)
+      (pieces-consist cut is.file is.survey frames exact is.found is.laid is.picked)
+
+-- ---- at positions
+
+module _ (file : List ℕ) (s : SurveyFields) (surveyed : survey_of file most_frames ≡ Ok s) where
+  range-exact : (from to : Place) (laid : LaidPart) → cut_part from to file s ≡ Ok laid
+      → IsExactly (frames_between (stream_of file) from to ∷ []) (stream_laid laid file s)
+  unfolding laying_part
+  range-exact from to laid e =
+      let one =
+      then_ok (cut_choice from to file s) (planned_part (first_planning own_choice) s) laid e in
+      let same : own_slots_part one.0 s ≡ laid = cc in
+      subst (λ (l : LaidPart). IsExactly (frames_between (stream_of file) from to ∷ [])
+      (stream_laid l file s)) same
+      (cut-exact file s surveyed from to false one.0 (own_slots_part one.0 s).placed one.1 refl)
+
+  -- ---- at places among the samples
+
+  samples-exact : (from to : ExactPlace) (laid : LaidPart) → exact_part from to file s ≡ Ok laid
+      → IsExactly (frames_needed from to file ∷ []) (stream_laid laid file (survey_without_head s))
+  unfolding exact_part
+  samples-exact from to laid e =
+      let head = fields_of_head file s.head in
+      let one =
+      then_ok (file_span from to head s)
+      (λ span. Ok (span_piece head span file (survey_without_head s))) laid e in
+      let same : span_piece head one.0 file (survey_without_head s) ≡ laid = cc in
+      let frames = needed-is from to file s surveyed ∙ span-frames from to file s one.0 one.1 in
+      subst (λ (l : LaidPart). IsExactly (frames_needed from to file ∷ [])
+      (stream_laid l file (survey_without_head s))) same
+      (subst (λ (l : List StreamFrame). IsExactly (l ∷ [])
+      (stream_laid (span_piece head one.0 file (survey_without_head s)) file
+      (survey_without_head s))) (sym frames)
+      (piece-exact one.0 file (survey_without_head s) (apart_had file s surveyed)
+      (span_apart s one.0 (span-there from to head s one.0 one.1)) head))
+
+-- ---- the commands
+
+abbrev ok_places : {P : Type 0} → List P → Result (List P) EditFault
+ok_places places = Ok places
+
+same-places : {P : Type 0} (a b : List P) → ok_places a ≡ ok_places b → a ≡ b
+same-places a b e = cc
+
+bytes-are : (files : Contents) (input file : List ℕ) → files input ≡ Some file
+    → file_bytes_of files input ≡ file
+bytes-are files input file there = ap (λ (o : Option (List ℕ)). unwrap_or o []) there
+
+-- the pieces at positions hold the frames between these
+pub split_at-holds : (input prefix : List ℕ) (places : List Place)
+    → HoldsChosen (SplitAt input prefix places) (split_command (given_cutting places) input prefix)
+split_at-holds input prefix places files made e =
+    let is = (split-parts (given_cutting places) files prefix input made e).1.0 in
+    subst
+    (λ (l : List Place). AllConsistOf (piece_frames (frames_between (named_frames files input)) l)
+    (input_streams (given_cutting places) (Ok places) (files input)))
+    (sym (same-places places is.found is.placed))
+    (pieces-hold (given_cutting places) files input is (frames_between (named_frames files input))
+    (λ from to laid e.
+    subst (λ (l : List StreamFrame). IsExactly (frames_between l from to ∷ [])
+    (stream_laid laid is.file is.survey)) (sym (frames-are files input is.file is.there))
+    (range-exact is.file is.survey is.surveyed from to laid e)))
+
+-- so do those by a sheet
+pub split_by-holds : (input prefix sheet : List ℕ) → HoldsChosen (SplitBy false input prefix sheet)
+    (split_command (sheet_cutting sheet) input prefix)
+split_by-holds input prefix sheet files made e =
+    let is = (split-parts (sheet_cutting sheet) files prefix input made e).1.0 in
+    let cue = cue-parts (files sheet) is.found is.placed in
+    let found : is.found ≡ positions_in (file_bytes_of files sheet) =
+    sym cue.all ∙ sym (ap (λ (o : Option (List ℕ)). positions_in (unwrap_or o [])) cue.there
+    ∙ ap cue_positions cue.read) in
+    subst
+    (λ (l : List Place). AllConsistOf (piece_frames (frames_between (named_frames files input)) l)
+    (input_streams (sheet_cutting sheet) (cue_sheet_places (files sheet)) (files input))) found
+    (pieces-hold (sheet_cutting sheet) files input is (frames_between (named_frames files input))
+    (λ from to laid e.
+    subst (λ (l : List StreamFrame). IsExactly (frames_between l from to ∷ [])
+    (stream_laid laid is.file is.survey)) (sym (frames-are files input is.file is.there))
+    (range-exact is.file is.survey is.surveyed from to laid e)))
+
+-- exact pieces hold the frames of their spans
+pub split_exact-holds : (input prefix : List ℕ) (places : List ExactPlace) → HoldsChosen
+    (SplitExact input prefix places) (split_command (given_exact_cutting places) input prefix)
+split_exact-holds input prefix places files made e =
+    let is = (split-parts (given_exact_cutting places) files prefix input made e).1.0 in
+    subst (λ (l : List ExactPlace).
+    AllConsistOf (piece_frames (frames_needed_between (file_bytes_of files input)) l)
+    (input_streams (given_exact_cutting places) (Ok places) (files input)))
+    (sym (same-places places is.found is.placed))
+    (pieces-hold (given_exact_cutting places) files input is
+    (frames_needed_between (file_bytes_of files input))
+    (λ from to laid e.
+    subst (λ (n : List ℕ). IsExactly (frames_needed from to n ∷ [])
+    (stream_laid laid is.file (survey_without_head is.survey)))
+    (sym (bytes-are files input is.file is.there))
+    (samples-exact is.file is.survey is.surveyed from to laid e)))
+
+-- so do those by a sheet
+pub split_exact_by-holds : (input prefix sheet : List ℕ) → HoldsChosen
+    (SplitBy true input prefix sheet) (split_command (sheet_exact_cutting sheet) input prefix)
+split_exact_by-holds input prefix sheet files made e =
+    let is = (split-parts (sheet_exact_cutting sheet) files prefix input made e).1.0 in
+    let one = then_ok (cue_sheet_places (files sheet))
+    (λ (list : List Place). ok_places (map Position list)) is.found is.placed in
+    let cue = cue-parts (files sheet) one.0 one.1 in
+    let found : is.found ≡ map Position (positions_in (file_bytes_of files sheet)) =
+    sym (same-places (map Position one.0) is.found one.2) ∙ ap (map Position)
+    (sym cue.all ∙ sym (ap (λ (o : Option (List ℕ)). positions_in (unwrap_or o [])) cue.there
+    ∙ ap cue_positions cue.read)) in
+    subst (λ (l : List ExactPlace).
+    AllConsistOf (piece_frames (frames_needed_between (file_bytes_of files input)) l)
+    (input_streams (sheet_exact_cutting sheet) ((sheet_exact_cutting sheet).places files)
+    (files input))) found
+    (pieces-hold (sheet_exact_cutting sheet) files input is
+    (frames_needed_between (file_bytes_of files input))
+    (λ from to laid e.
+    subst (λ (n : List ℕ). IsExactly (frames_needed from to n ∷ [])
+    (stream_laid laid is.file (survey_without_head is.survey)))
+    (sym (bytes-are files input is.file is.there))
+    (samples-exact is.file is.survey is.surveyed from to laid e)))
