@@ -8,50 +8,50 @@ use std::test::Fail;
 use test_files::table;
 
 const USAGE: &[u8] = b"usage: mp3edit COMMAND
-  list IN                say what stands in the MP3 file IN: tags, junk, head and frames
-  info IN                say in a few lines what IN is, and how many steps down and up its gains can move
+  list IN                list what is in the MP3 file IN: tags, junk, the Xing or Info frame (head), and frames
+  info IN                describe IN in a few lines, including how many steps down and up its gains can go
   gain [-s s] [-w] -g N IN OUT
-                         write IN to OUT, louder by N steps of 1.5 dB (quieter below 0)
+                         write IN to OUT, N steps of 1.5 dB louder (quieter if N is negative)
   gain [-s s] [-w] -l C N IN OUT
-                         the same of the left (C is 0) or right (C is 1) channel alone
-                         -s s: keep no note of the change in the tag of OUT
-                         -w: let gains wrap around from 255 to 0 and back, which else is refused
-  gain -u IN OUT         write IN to OUT, with all changes taken back that its tag has a note of
+                         the same for one channel: C is 0 for left, 1 for right
+                         -s s: leave tags alone, and don't record the change
+                         -w: wrap gains that would leave the range 0 to 255, instead of refusing the file
+  gain -u IN OUT         write IN to OUT, undoing all changes that its tag records
   cut [--least] IN FROM TO OUT
-                         write the frames of IN from FROM on and before TO to OUT, with all main data
-                         FROM, TO: a frame's number from 0, a time (M.S or M.S.H) or EOF
-                         --least: each frame with the least bit rate that has room for it
+                         write to OUT the frames of IN from FROM up to but not including TO, with all main data
+                         FROM, TO: a frame number (from 0), a time (M.S or M.S.H), or EOF
+                         --least: give each frame the lowest bit rate at which all main data fit
   cut --exact IN FROM TO OUT
-                         write the frames that hold the samples of IN from FROM on and before TO to OUT, with
-                         the numbers by which players play exactly these samples; FROM, TO: also a sample (Ns),
-                         a time M.S.MMM, or EOF- and a time, which is so long before the end
-  pack IN OUT            write all frames of IN to OUT, each with the least bit rate that has room for it
+                         write to OUT the frames of IN needed for its samples from FROM up to but not including
+                         TO, with an Info frame that tells players to play exactly these samples;
+                         FROM, TO: also a sample Ns, a time M.S.TTT, or EOF- and a time (that long before EOF)
+  pack IN OUT            write all frames of IN to OUT, each at the lowest bit rate at which all main data fit
   pack --constant B IN OUT
-                         the same with the bit rate of B kbit/s alone, which may be too low for some frame
-  pack --floor B IN OUT  the same with bit rates of B kbit/s and more
+                         the same with every frame at B kbit/s; refused if that is too low for some frame
+  pack --floor B IN OUT  the same with no frame below B kbit/s
   pack --best IN OUT     the same with the bit rates that take the fewest bytes in all
   split IN PREFIX P1 P2 [P3 to P100]
-                         write the frames of IN from P1 on and before P2 to PREFIX01.mp3, those from P2 on and
-                         before P3 to PREFIX02.mp3, and so on; places as FROM and TO of cut
-  split IN PREFIX -c CUE the same at the starts of the tracks in the cue sheet CUE, the last to the end of IN
+                         write to PREFIX01.mp3 the frames of IN from P1 up to P2, to PREFIX02.mp3 those from P2
+                         up to P3, and so on; P1 to P100 are written like FROM and TO of cut
+  split IN PREFIX -c CUE the same at the starts of the tracks in the cue sheet CUE; the last piece ends with IN
   split --exact IN PREFIX P1 P2 [P3 to P100]
-                         the same with the samples between the places, as cut --exact writes them
+                         the same with samples instead of frames; each piece is what cut --exact writes
   split --exact IN PREFIX -c CUE
                          the same with the samples of each track
   join [--seamless] OUT IN1 [IN2 to IN64]
-                         write the frames of IN1 to IN64, one file after another, to OUT
-                         --seamless: leave out the frames that only a piece needs, so that pieces in order are
-                         the whole again, and say of each input but the first what was left out
-  drill SEED COUNT       make COUNT frames from the number SEED, pack them in memory, and say how long both are
+                         write to OUT the frames of IN1 to IN64, in order
+                         --seamless: leave out the frames that only a piece on its own needs, so that pieces in
+                         order are the whole again, and say what was left out of each input but the first
+  drill SEED COUNT       generate COUNT frames from the seed SEED, pack them in memory, and print both lengths
   fade [--back] IN OUT SHEET
-                         write IN to OUT, each frame louder or quieter by the steps of 1.5 dB at its place
-                         SHEET: lines of a place and steps, between which the steps go evenly
-                         --back: by as many steps the other way, so that such a fade is taken back
+                         write IN to OUT, with a volume that changes from frame to frame as SHEET says
+                         SHEET: lines of a position and steps of 1.5 dB; between lines the steps change evenly
+                         --back: change by the same steps the other way, which undoes a fade by the same SHEET
   salvage IN OUT         write what can be read of the damaged file IN to OUT, and say what is missing;
-                         a frame that has lost its main data becomes an empty one
-  --help, -h             say this
-  --version              say which version this is
-status: 0 done; 1 refused; 2 bad word; 3 a file is absent, or reading or writing failed;
+                         a frame whose main data can't be read becomes empty
+  --help, -h             print this help
+  --version              print the version
+status: 0 done; 1 refused; 2 bad arguments; 3 a file is absent, or reading or writing failed;
         4 out of memory
 ";
 
