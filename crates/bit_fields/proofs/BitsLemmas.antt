@@ -15,7 +15,7 @@ use Rattle.bit_fields.specs.Bits.{AreBelow, AreBits, AreBytes, bits, bits_of, by
 use mir.{Syntax.w8, Val.Fits}
 
 -- ---- lengths
--- a number in so many bits has that many bits
+-- a number in `width` bits has `width` bits
 pub length-bits_of : (width n : ℕ) → length (bits_of width n) ≡ width
 unfolding bits_of
 length-bits_of zero n = refl
@@ -48,13 +48,13 @@ AreBelow-drop limit (suc n) [] h = tt
 AreBelow-drop limit (suc n) (x ∷ xs) h = AreBelow-drop limit n xs h.1
 
 -- ---- each is 0 or 1
--- a number in so many bits is spelled by zeros and ones
+-- the bits of a number are zeros and ones
 pub AreBits-bits_of : (width n : ℕ) → AreBits (bits_of width n)
 unfolding bits_of
 AreBits-bits_of zero n = tt
 AreBits-bits_of (suc width) n = (bit_at-lt n width, AreBits-bits_of width n)
 
--- so are bytes
+-- the bits of bytes are zeros and ones
 pub AreBits-bits : (xs : List ℕ) → AreBits (bits xs)
 unfolding bits
 AreBits-bits [] = tt
@@ -74,8 +74,8 @@ number-below [] h = omega arith
 number-below (b ∷ bs) h =
     rw pow-suc (mul-add-lt b (2 ^ length bs) (number bs) 2 h.0 (number-below bs h.1))
 
--- the number of bits and others behind them is that of the first, shifted left by the others, and
--- that of the others
+-- bits followed by others spell the number of the first, shifted left by the count of the others,
+-- plus the number of the others
 pub number-append : (cs bs : List ℕ) → number (cs ++ bs) ≡ number cs * 2 ^ length bs + number bs
 unfolding number
 number-append [] bs = omega arith
@@ -132,7 +132,8 @@ bits_of-add (suc high) low n =
     (ap (λ m. m % 2) (ap (λ w. n / 2 ^ w) (add_comm high low) ∙ sym (shr-shr n low high)))
     (bits_of-add high low n))
 
--- the bits of two numbers put side by side are those of the one and then those of the other
+-- the bits of two numbers put side by side are the bits of the one followed by the bits of the
+-- other
 pub bits_of-cat : (high low a n : ℕ) → n < 2 ^ low
     → bits_of (high + low) (a * 2 ^ low + n) ≡ bits_of high a ++ bits_of low n
 bits_of-cat high low a n h =
@@ -140,7 +141,7 @@ bits_of-cat high low a n h =
     ∙ ap₂ (λ xs ys. xs ++ ys) (ap (bits_of high) (shr_high a low n h))
     (bits_of-cat_low low low a n (omega arith))
 
--- the high bits of a number are those of the number shifted right by the low ones
+-- the high bits of a number are the bits of the number shifted right by the low ones
 pub take-bits_of : (high low n : ℕ)
     → take high (bits_of (high + low) n) ≡ bits_of high (n / 2 ^ low)
 take-bits_of high low n =
@@ -153,21 +154,21 @@ drop-bits_of high low n =
     ap (drop high) (bits_of-add high low n)
     ∙ drop_at (bits_of high (n / 2 ^ low)) (bits_of low n) high (length-bits_of high (n / 2 ^ low))
 
--- so many bits in the middle of the bits of a number are those of the number shifted right
+-- `width` bits in the middle of the bits of a number are the bits of the number shifted right
 pub middle-bits_of : (before width after n : ℕ)
     → take width (drop before (bits_of (before + (width + after)) n))
     ≡ bits_of width (n / 2 ^ after)
 middle-bits_of before width after n =
     ap (take width) (drop-bits_of before (width + after) n) ∙ take-bits_of width after n
 
--- these bits spell that shift's remainder
+-- bits in the middle spell the remainder of the shifted number
 pub number-middle : (before width after n : ℕ)
     → number (take width (drop before (bits_of (before + (width + after)) n)))
     ≡ n / 2 ^ after % 2 ^ width
 number-middle before width after n =
     ap number (middle-bits_of before width after n) ∙ number-bits_of width (n / 2 ^ after)
 
--- so they do by the width of the whole
+-- the same, by the width of the whole number
 pub number-middle_of : (whole before width n : ℕ) → before + width ≤ whole
     → number (take width (drop before (bits_of whole n)))
     ≡ n / 2 ^ (whole - before - width) % 2 ^ width
@@ -182,7 +183,7 @@ pub bits-nil : bits [] ≡ []
 unfolding bits
 bits-nil = refl
 
--- the bits of bytes are the eight of the first, and then those of the rest
+-- the bits of bytes are the eight of the first, followed by the bits of the rest
 pub bits-cons : (x : ℕ) (xs : List ℕ) → bits (x ∷ xs) ≡ bits_of 8 x ++ bits xs
 unfolding bits
 bits-cons x xs = refl
@@ -191,7 +192,7 @@ bits-cons x xs = refl
 pub bits-one : (x : ℕ) → bits (x ∷ []) ≡ bits_of 8 x
 bits-one x = bits-cons x [] ∙ ap (λ bs. bits_of 8 x ++ bs) bits-nil ∙ append-nil (bits_of 8 x)
 
--- the bits of bytes and more bytes are those of the one and then those of the other
+-- the bits of joined bytes are the bits of the one part followed by the bits of the other
 pub bits-append : (xs ys : List ℕ) → bits (xs ++ ys) ≡ bits xs ++ bits ys
 unfolding bits
 bits-append [] ys = refl
@@ -201,7 +202,7 @@ bits-append (x ∷ xs) ys = ap (λ bs. bits_of 8 x ++ bs) (bits-append xs ys)
 eights : (k : ℕ) (x : ℕ) → 8 * suc k ≡ length (bits_of 8 x) + 8 * k
 eights k x = omega (arith, length-bits_of 8 x)
 
--- eight times as many bits, taken of bytes, are the bits of so many bytes
+-- the first 8 * k bits of bytes are the bits of the first k bytes
 pub take-bits : (k : ℕ) (xs : List ℕ) → take (8 * k) (bits xs) ≡ bits (take k xs)
 unfolding bits
 take-bits zero xs = refl
@@ -211,7 +212,7 @@ take-bits (suc k) (x ∷ xs) =
     ∙ take-append-add (bits_of 8 x) (bits xs) (8 * k)
     ∙ ap (λ bs. bits_of 8 x ++ bs) (take-bits k xs)
 
--- eight times as many bits, dropped from bytes, leave the bits of the other bytes
+-- dropping the first 8 * k bits of bytes leaves the bits of the bytes after the first k
 pub drop-bits : (k : ℕ) (xs : List ℕ) → drop (8 * k) (bits xs) ≡ bits (drop k xs)
 unfolding bits
 drop-bits zero xs = refl
@@ -221,7 +222,7 @@ drop-bits (suc k) (x ∷ xs) =
     ∙ drop-append-add (bits_of 8 x) (bits xs) (8 * k)
     ∙ drop-bits k xs
 
--- bits in the middle of any bits spell a shift and a remainder of the number of all
+-- bits in the middle of others spell a shift and a remainder of the number of all
 pub number-within : (from width : ℕ) (bs : List ℕ) → AreBits bs → from + width ≤ length bs
     → number (take width (drop from bs)) ≡ number bs / 2 ^ (length bs - from - width) % 2 ^ width
 number-within from width bs h l =
@@ -242,7 +243,7 @@ length-left place xs = length-drop place (bits xs) ∙ ap (λ n. n - place) (len
 pub number-bits-below : (xs : List ℕ) → number (bits xs) < 2 ^ (8 * length xs)
 number-bits-below xs = rw (← length-bits xs) (number-below (bits xs) (AreBits-bits xs))
 
--- with one byte more the number is 256 times as great, and the byte
+-- with one byte more the number is 256 times as great, plus the byte
 pub number-bits-push : (xs : List ℕ) (x : ℕ) → x < 256
     → number (bits (xs ++ x ∷ [])) ≡ number (bits xs) * 256 + x
 number-bits-push xs x h =
@@ -256,7 +257,7 @@ pub bytes-nil : bytes [] ≡ []
 unfolding bytes
 bytes-nil = refl
 
--- eight bits are one byte, before the bytes of the others
+-- eight bits are one byte, followed by the bytes of the other bits
 pub bytes-eight : (cs bs : List ℕ) → length cs ≡ 8 → bytes (cs ++ bs) ≡ number cs ∷ bytes bs
 unfolding bytes
 bytes-eight (a ∷ b ∷ c ∷ d ∷ e ∷ f ∷ g ∷ h ∷ []) bs l = refl
@@ -268,7 +269,7 @@ bytes-front bs h =
     ap bytes (sym (take-append-drop 8 bs))
     ∙ bytes-eight (take 8 bs) (drop 8 bs) (length-take-le 8 bs h)
 
--- bits have an eighth as many bytes
+-- 8 * k bits spell k bytes
 pub length-bytes : (k : ℕ) (bs : List ℕ) → length bs ≡ 8 * k → length (bytes bs) ≡ k
 length-bytes zero bs h = ap (λ cs. length (bytes cs)) (nil_from_length bs h) ∙ ap length bytes-nil
 length-bytes (suc k) bs h =
@@ -285,7 +286,7 @@ AreBytes-bytes (a ∷ b ∷ c ∷ d ∷ e ∷ f ∷ g ∷ h ∷ bs) all = (
 )
 AreBytes-bytes bs all = tt
 
--- whole bytes and more bits spell these bytes and then those of the other bits
+-- the bits of whole bytes followed by more bits spell these bytes, then the bytes of the other bits
 pub bytes-append : (k : ℕ) (cs bs : List ℕ) → length cs ≡ 8 * k
     → bytes (cs ++ bs) ≡ bytes cs ++ bytes bs
 bytes-append zero cs bs h = rw (nil_from_length cs h, bytes-nil)
@@ -298,7 +299,7 @@ bytes-append (suc k) cs bs h =
     ∙ ap (λ ys. number (take 8 cs) ∷ ys) (bytes-append k (drop 8 cs) bs l)
     ∙ ap (λ ys. ys ++ bytes bs) (sym (bytes-front cs m))
 
--- bytes dropped from those that bits spell leave the bytes of the bits behind them
+-- dropping the first k bytes that bits spell leaves the bytes of the bits after the first 8 * k
 pub drop-bytes : (k : ℕ) (bs : List ℕ) → 8 * k ≤ length bs
     → drop k (bytes bs) ≡ bytes (drop (8 * k) bs)
 drop-bytes k bs h =
@@ -337,7 +338,7 @@ pub bits-injective : (xs ys : List ℕ) → AreBytes xs → AreBytes ys → bits
 bits-injective xs ys hx hy e = sym (bytes-bits xs hx) ∙ ap bytes e ∙ bytes-bits ys hy
 
 -- ---- each is below 256
--- if the bytes of a slice of `u8` are below 256 place by place, all are
+-- if the bytes of a slice of `u8` are below 256 at each place, all are
 pub AreBytes-from_places : (xs : List ℕ) → ((i : ℕ) → get_or xs i 0 < 256) → AreBytes xs
 AreBytes-from_places [] h = tt
 AreBytes-from_places (x ∷ xs) h = (h 0, AreBytes-from_places xs (λ i. h (suc i)))
@@ -432,7 +433,7 @@ bits-to_be_bytes_8 n h =
     ∙ ap (bits_of 64) (number-bits-be_bytes_8 (to_be_bytes w64 n) refl (AreBytes-to_be_bytes_8 n)
     ∙ from_be_bytes-to_be_bytes_8 n h)
 
--- bits that are in the front of bytes
+-- bits that lie within the first of two lists of bytes are the same with the second list after it
 pub bits-front : (main rest : List ℕ) (start count : ℕ) → 8 * start + count ≤ 8 * length main
     → take count (drop (8 * start) (bits (main ++ rest)))
     ≡ take count (drop (8 * start) (bits main))

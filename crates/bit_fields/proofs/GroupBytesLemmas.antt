@@ -45,7 +45,8 @@ left_none xs window =
     sym (div-one window) ∙ ap (λ w. window / 2 ^ w) e
 
 module _ (xs : List ℕ) (i window rest : ℕ) (within : i < length xs) where
-  -- to write the lowest byte of what is left, back to front, is to have written one byte more
+  -- after the lowest byte of what is left is written at place i, all bytes from there on are
+  -- written
   pub write_more : bits (drop (i + 1) xs) ≡ bits_of (8 * (length xs - (i + 1))) window
       → rest ≡ window / 2 ^ (8 * (length xs - (i + 1)))
       → bits (drop i (set xs i (rest % 256))) ≡ bits_of (8 * (length xs - i)) window
@@ -57,7 +58,7 @@ module _ (xs : List ℕ) (i window rest : ℕ) (within : i < length xs) where
       ∙ sym (bits_of-add 8 (8 * (length xs - (i + 1))) window)
       ∙ ap (λ w. bits_of w window) e
 
-  -- what is left then is what is above that byte
+  -- what is left after that is the number above that byte
   pub left_more : rest ≡ window / 2 ^ (8 * (length xs - (i + 1)))
       → rest / 256 ≡ window / 2 ^ (8 * (length xs - i))
   left_more left =
@@ -122,7 +123,7 @@ module _ (total window n low value : ℕ) (small : window < 2 ^ total) (room : n
       (mul-add-lt (window / 2 ^ (n + low) * 2 ^ n + value) (2 ^ low) (window % 2 ^ low)
       (2 ^ (total - low)) upper_small (mod_below window (2 ^ low) (pow_pos low)))
 
--- a group of bits changed in a number is one changed in its bits
+-- changing a group of bits in a number changes the same group in its bits
 put_bits : (offset n low window value : ℕ) → value < 2 ^ n
     → bits_of (offset + n + low) ((window / 2 ^ (n + low) * 2 ^ n + value) * 2 ^ low
     + window % 2 ^ low) ≡ take offset (bits_of (offset + n + low) window) ++ bits_of n value
@@ -140,7 +141,7 @@ put_bits offset n low window value fits =
     ∙ ap₂ (λ cs ds. cs ++ ds) (bits_of-cat offset n (window / 2 ^ (n + low)) value fits
     ∙ ap (λ cs. cs ++ bits_of n value) front) back
 
--- what is changed in a part of a list is changed in the list
+-- what is changed in a part of a list is changed at the same place in the list
 put_in_part : (bs : List ℕ) (start size offset n : ℕ) (vs : List ℕ) → offset + n ≤ size
     → start + size ≤ length bs → take start bs ++ ((take offset (take size (drop start bs)) ++ vs
     ++ drop (offset + n) (take size (drop start bs))) ++ drop size (drop start bs))
@@ -171,11 +172,11 @@ put_in_part bs start size offset n vs h l =
 module _ (xs ys : List ℕ) (from n first last window value : ℕ) (low : 8 * first ≤ from)
     (high : from + n ≤ 8 * last) (ordered : first ≤ last) (within : last ≤ length xs)
     (fits : value < 2 ^ n) where
-  -- as many bytes are there as the group is in
+  -- there are as many bytes as the group is in
   pub reached : length (take (last - first) (drop first xs)) ≡ last - first
   reached = length-take-le (last - first) (drop first xs) (simp length-drop (omega arith))
 
-  -- their number with the other value in the group, written back, is that value put in place
+  -- writing back their number with the other value in the group puts that value in place
   pub write_group : window ≡ number (bits (take (last - first) (drop first xs)))
       → bits ys ≡ bits_of (8 * length (take (last - first) (drop first xs)))
       ((window / 2 ^ (n + (8 * last - (from + n))) * 2 ^ n + value) * 2 ^ (8 * last - (from + n))

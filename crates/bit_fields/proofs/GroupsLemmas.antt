@@ -16,24 +16,24 @@ use Rattle.bit_fields.specs.Bits.{AreBits, bits, bits_of, number}
 use Rattle.bit_fields.specs.Groups.{group, group_bits, numbers_at, NumbersFit}
 
 -- ---- how many bits
--- widths take as many bits as the first and the rest
+-- the sum of widths is the first width plus the sum of the rest
 pub sum-cons : (width : ℕ) (widths : List ℕ) → sum (width ∷ widths) ≡ width + sum widths
 sum-cons width widths = sum_by-cons (λ n. n) width widths
 
--- numbers in groups are spelled by the first in its width, and then by the rest
+-- the bits of numbers in groups are the first number in its width, followed by the bits of the rest
 pub spelled-cons : (width n : ℕ) (widths ns : List ℕ)
     → group_bits (width ∷ widths) (n ∷ ns) ≡ bits_of width n ++ group_bits widths ns
 unfolding group_bits
 spelled-cons width n widths ns = refl
 
--- numbers that fit in groups are as many as the groups
+-- there are as many numbers that fit in groups as there are groups
 pub length-Fits : (widths ns : List ℕ) → NumbersFit widths ns → length ns ≡ length widths
 length-Fits [] [] h = refl
 length-Fits [] (n ∷ ns) h = absurd h
 length-Fits (width ∷ widths) [] h = absurd h
 length-Fits (width ∷ widths) (n ∷ ns) h = ap suc (length-Fits widths ns h.1)
 
--- as many numbers as groups are spelled in as many bits as the groups have in all
+-- as many numbers as groups are spelled in as many bits as the groups have together
 pub length-spelled : (widths ns : List ℕ) → length ns ≡ length widths
     → length (group_bits widths ns) ≡ sum widths
 unfolding group_bits
@@ -45,7 +45,7 @@ length-spelled (width ∷ widths) (n ∷ ns) h =
     let both : sum (width ∷ widths) ≡ width + sum widths = sum-cons width widths in
     omega (arith, length-append (bits_of width n) (group_bits widths ns), length-bits_of width n)
 
--- ---- what numbers and bits are
+-- ---- zeros and ones, and numbers that fit
 -- numbers in groups are spelled by zeros and ones
 pub AreBits-spelled : (widths ns : List ℕ) → AreBits (group_bits widths ns)
 unfolding group_bits
@@ -55,7 +55,7 @@ AreBits-spelled (width ∷ widths) (n ∷ ns) =
     AreBelow-append 2 (bits_of width n) (group_bits widths ns) (AreBits-bits_of width n)
     (AreBits-spelled widths ns)
 
--- a group of so many bits is below the power of 2 of its width
+-- a group of `width` bits is below 2 ^ width
 pub group-below : (from width : ℕ) (bs : List ℕ) → AreBits bs → group from width bs < 2 ^ width
 unfolding group
 group-below from width bs h =
@@ -116,8 +116,9 @@ pub spelled-numbers_at : (widths bs : List ℕ) → AreBits bs → length bs ≡
 spelled-numbers_at widths bs all h =
     spelled-numbers_at_front widths bs all (omega arith) ∙ take_all (sum widths) bs (omega arith)
 
--- ---- groups one after another
--- groups and then others have the numbers of the first, and those of the others behind them
+-- ---- groups that follow others
+-- the numbers of joined groups are the numbers of the first, followed by those of the groups after
+-- them
 pub numbers_at-append : (widths more bs : List ℕ) → numbers_at (widths ++ more) bs
     ≡ numbers_at widths bs ++ numbers_at more (drop (sum widths) bs)
 unfolding numbers_at
@@ -128,7 +129,7 @@ numbers_at-append (width ∷ widths) more bs =
     ∙ ap (λ ds. numbers_at widths (drop width bs) ++ numbers_at more ds)
     (drop-drop (sum widths) width bs ∙ ap (λ n. drop n bs) (sym (sum-cons width widths))))
 
--- groups and then others are spelled one after the other
+-- the bits of joined groups are the bits of the first followed by the bits of the others
 pub spelled-append : (widths more ns ms : List ℕ) → length ns ≡ length widths
     → group_bits (widths ++ more) (ns ++ ms) ≡ group_bits widths ns ++ group_bits more ms
 unfolding group_bits
@@ -161,7 +162,7 @@ numbers_at-take widths bs n h l =
     sym (numbers_at-front widths (take n bs) (drop n bs) m)
     ∙ ap (numbers_at widths) (take-append-drop n bs)
 
--- a group within the first bits is the same in them alone
+-- a group within the first n bits is the same in these n bits alone
 pub group-take : (from width n : ℕ) (bs : List ℕ) → from + width ≤ n
     → group from width (take n bs) ≡ group from width bs
 unfolding group
@@ -171,7 +172,7 @@ group-take from width n bs h =
     ∙ ap (λ ds. number (take width ds)) (drop-take from (n - from) bs)
     ∙ ap number (take-take width (n - from) (drop from bs) (omega arith))
 
--- a group of what is behind some bits is the group that much further on in all of them
+-- a group of the bits after `more` bits is the group of all bits that begins `more` bits later
 pub group-drop : (more from width : ℕ) (bs : List ℕ)
     → group from width (drop more bs) ≡ group (more + from) width bs
 unfolding group
@@ -197,7 +198,7 @@ group-number from width bs h l = number-within from width bs h l
 
 -- ---- a group put in place
 module _ (bs : List ℕ) (at width value : ℕ) (room : at + width ≤ length bs) where
-  -- bits with a group put in place are as many as before
+  -- putting a group in place doesn't change how many bits there are
   pub length-put : length (take at bs ++ bits_of width value ++ drop (at + width) bs) ≡ length bs
   length-put =
       let front : length (take at bs) ≡ at = length-take-le at bs (omega arith) in
@@ -218,7 +219,7 @@ module _ (bs : List ℕ) (at width value : ℕ) (room : at + width ≤ length bs
       ∙ ap₂ (λ m n. m + n) (length-take-le at bs (omega arith)) (length-bits_of width value))
 
 -- ---- groups as parts of one number
--- the numbers of successive groups of a number of so many bits
+-- the numbers of successive groups of a number of `sum widths` bits
 unfoldable pub sliced : List ℕ → ℕ → List ℕ
 sliced [] n = []
 sliced (width ∷ widths) n = n / 2 ^ sum widths % 2 ^ width ∷ sliced widths n
@@ -247,7 +248,8 @@ sliced-cat (width ∷ widths) place high n h =
     ap₂ (λ m ms. m ∷ ms) (sliced_one width (sum widths) place high n (omega arith))
     (sliced-cat widths place high n (omega arith))
 
--- groups that are all bits have the numbers that division and remainder make of the number of all
+-- groups that take up all bits have the numbers that division and remainder make of the number of
+-- all bits
 pub numbers_at-number : (widths bs : List ℕ) → AreBits bs → length bs ≡ sum widths
     → numbers_at widths bs ≡ sliced widths (number bs)
 unfolding numbers_at sliced

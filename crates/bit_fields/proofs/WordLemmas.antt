@@ -1,4 +1,4 @@
--- Words of 64 bits, put in place and put together of parts of numbers.
+-- Words of 64 bits, put in place, and put together from parts of numbers.
 use Rattle.std.proofs.Common.{ap, append-nil, append_assoc, ap₂, arith, drop, length, List, set}
 use Rattle.std.proofs.Common.{sym, take, take-append-drop, ℕ, [], ◌%◌, ◌*◌, ◌++◌, ◌+◌, ◌-◌, ◌/◌}
 use Rattle.std.proofs.{Common.{◌<◌, ◌^◌, ◌∙◌, ◌≡◌, ◌≤◌}, lemmas.List.{drop-set, take-set}}
@@ -8,7 +8,7 @@ use Rattle.bit_fields.proofs.BitsLemmas.{bits-append, bits-cons, bits_of-add, bi
 use Rattle.bit_fields.proofs.BitsLemmas.{bits_of-mod, drop-bits, take-bits}
 use Rattle.bit_fields.{proofs.GroupsLemmas.{length-put, take-put}, specs.Bits.{bits, bits_of}}
 
--- whole bytes put in place of others put their bits in place of those
+-- putting whole bytes in place puts their bits in place
 pub put_bytes : (xs ys vs : List ℕ) (place count : ℕ) → bits ys ≡ vs
     → bits (take place xs ++ (ys ++ drop (place + count) xs))
     ≡ take (8 * place) (bits xs) ++ vs ++ drop (8 * place + 8 * count) (bits xs)
@@ -20,7 +20,7 @@ put_bytes xs ys vs place count e =
     (sym (drop-bits (place + count) xs) ∙ ap (λ k. drop k (bits xs)) behind))
     ∙ sym (append_assoc (take (8 * place) (bits xs)) vs (drop (8 * place + 8 * count) (bits xs)))
 
--- one byte that is set has its eight bits set
+-- setting one byte sets its eight bits
 pub bits-set : (xs : List ℕ) (place word : ℕ) → place < length xs → bits (set xs place (word % 256))
     ≡ take (8 * place) (bits xs) ++ bits_of 8 word ++ drop (8 * place + 8) (bits xs)
 bits-set xs place word within =
@@ -51,7 +51,7 @@ module _ (above kept below left : ℕ) (few : kept < 64) (fits : below < 2 ^ (64
   lower : below / 2 ^ left < 2 ^ (64 - kept)
   lower = shr_below below (64 - kept) left fits
 
-  -- both parts fit in 64 bits
+  -- the two parts together fit in 64 bits
   pub spanned_below : above * 2 ^ (64 - kept) % 2 ^ 64 + below / 2 ^ left < 2 ^ 64
   spanned_below =
       let whole : 64 - kept + kept ≡ 64 = omega arith in
@@ -60,7 +60,7 @@ module _ (above kept below left : ℕ) (few : kept < 64) (fits : below < 2 ^ (64
       rw (upper, ← product) (mul-add-lt (above % 2 ^ kept) (2 ^ (64 - kept)) (below / 2 ^ left)
       (2 ^ kept) (mod_below above (2 ^ kept) (pow_pos kept)) lower)
 
-  -- the word has the lowest bits of the one number, and then the highest of the other
+  -- the word has the lowest bits of the one number, followed by the highest of the other
   pub spanned_bits : bits_of 64 (above * 2 ^ (64 - kept) % 2 ^ 64 + below / 2 ^ left)
       ≡ bits_of kept above ++ bits_of (64 - kept) (below / 2 ^ left)
   spanned_bits =
@@ -70,7 +70,7 @@ module _ (above kept below left : ℕ) (few : kept < 64) (fits : below < 2 ^ (64
       ∙ ap (λ cs. cs ++ bits_of (64 - kept) (below / 2 ^ left)) (bits_of-mod kept above)
 
 module _ (word size high low n : ℕ) (cs : List ℕ) where
-  -- a number whose highest bits end one word goes on in the next
+  -- a number whose highest bits end one word continues in the next
   pub into_word : (bs : List ℕ) → size ≡ high + low
       → bits_of 64 word ≡ cs ++ bits_of high (n / 2 ^ low)
       → cs ++ (bits_of size n ++ bs) ≡ bits_of 64 word ++ (bits_of low n ++ bs)
@@ -89,7 +89,7 @@ module _ (word size high low n : ℕ) (cs : List ℕ) where
       ∙ into_word [] e is
       ∙ ap (λ ds. bits_of 64 word ++ ds) (append-nil (bits_of low n))
 
--- what was put follows what is before it
+-- what was put in place follows what is before it
 pub put_next : (b0 b1 done : List ℕ) (at width value : ℕ) → take at b0 ≡ done
     → at + width ≤ length b0 → b1 ≡ take at b0 ++ bits_of width value ++ drop (at + width) b0
     → (take (at + width) b1 ≡ done ++ bits_of width value) × (length b1 ≡ length b0)

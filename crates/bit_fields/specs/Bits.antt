@@ -2,7 +2,7 @@
 use Rattle.std.specs.Int.{bit_at}
 use Rattle.std.specs.Prelude.{length, List, suc, zero, ℕ, [], ◌*◌, ◌++◌, ◌+◌, ◌<◌, ◌^◌, ◌∷◌}
 
--- a number in so many bits
+-- the lowest `width` bits of a number, the most significant first
 unfoldable pub bits_of : ℕ → ℕ → List ℕ
 bits_of zero n = []
 bits_of (suc width) n = bit_at n width ∷ bits_of width n

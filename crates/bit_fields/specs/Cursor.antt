@@ -8,11 +8,11 @@ pub record Cursor : Type 0 where
   pub place : ℕ
   pub left : List ℕ
 
--- the same, n bits further on
+-- the same place n bits further on
 abbrev pub advanced_cursor : Cursor → ℕ → Cursor
 advanced_cursor c n = record { place = c.place + n; left = drop n c.left }
 
--- the next n bits are taken, or fewer are left
+-- taking the next n bits gives their number, or nothing where fewer are left
 pub record TakeAnswer (n : ℕ) (old new : Cursor) (result : Option ℕ) : Type 0 where
   -- it fails exactly where fewer are left
   pub short : IsNone result ↔ (length old.left < n)
@@ -20,5 +20,5 @@ pub record TakeAnswer (n : ℕ) (old new : Cursor) (result : Option ℕ) : Type 
   pub value : IfSome result (λ v. v ≡ number (take n old.left))
   pub below : IfSome result (λ v. v < 2 ^ n)
   pub moves : IfSome result (λ v. new ≡ advanced_cursor old n)
-  -- and then stays
+  -- and then the place doesn't change
   pub stays : IfNone result (new ≡ old)

@@ -1,25 +1,26 @@
--- A format as a list of widths: successive groups of so
--- many bits each, as the tables of a standard give them.
+-- A format as a list of widths: successive groups of bits, each with its width, as the tables of a
+-- standard give them.
 use Rattle.std.specs.Prelude.{drop, length, List, take, ℕ, [], ◌*◌, ◌++◌, ◌+◌, ◌/◌, ◌<◌, ◌^◌, ◌∷◌}
 use Rattle.std.specs.Prelude.{◌≡◌, ◌≤◌}
 use Rattle.bit_fields.specs.Bits.{bits, bits_of, number}
 
--- the number of the group of so many bits that begins at a bit
+-- the number of the group of `width` bits that begins at bit `from`
 unfoldable pub group : ℕ → ℕ → List ℕ → ℕ
 group from width bs = number (take width (drop from bs))
 
--- up to 32 bits from this one on are bits of these bytes, of which there are at most 2^28
+-- n bits from bit `at` on, at most 32, are bits of these bytes, and there are at most 2^28 bytes
 pub record IsGroupIn (xs : List ℕ) (at n : ℕ) : Type 0 where
   pub few : n ≤ 32
   pub room : at + n ≤ 8 * length xs
   pub short : length xs ≤ 2 ^ 28
 
--- the number of so many bits of these bytes
+-- v is the number of the n bits from bit `at` on
 pub record IsNumberOf (xs : List ℕ) (at n v : ℕ) : Type 0 where
   pub value : v ≡ group at n (bits xs)
   pub below : v < 2 ^ n
 
--- the bytes before this one hold the group, which is in the last five of them
+-- the group ends before byte `last`, which is at most five bytes after the byte in which the group
+-- begins
 pub record IsGroupReached (at n last : ℕ) : Type 0 where
   pub reached : at + n ≤ 8 * last
   pub near : last ≤ at / 8 + 5
@@ -36,11 +37,11 @@ group_bits [] ns = []
 group_bits (width ∷ widths) [] = []
 group_bits (width ∷ widths) (n ∷ ns) = bits_of width n ++ group_bits widths ns
 
--- the bits with a value in place of the group of so many bits that begins at bit `at`
+-- the bits with `value` instead of the group of `width` bits that begins at bit `at`
 abbrev pub with_value : ℕ → ℕ → ℕ → List ℕ → List ℕ
 with_value at width value bs = take at bs ++ bits_of width value ++ drop (at + width) bs
 
--- there is a number for each group, and it fits
+-- there is one number for each group, and each fits in its group
 abbrev pub NumbersFit : List ℕ → List ℕ → Type 0
 NumbersFit [] [] = Unit {0}
 NumbersFit [] (n ∷ ns) = ⊥

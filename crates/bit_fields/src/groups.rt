@@ -15,7 +15,7 @@ pub(crate) fn number_of(bytes: &[u8]) -> u64
     window
 }
 
-/// The bytes become those of the number, the most significant first.
+/// Writes the number into the bytes, the most significant byte first.
 pub(crate) fn set_number(bytes: &mut [u8], window: u64)
     requires few { length bytes.old ≤ 5 }
     requires fits { window < 2 ^ (8 * length bytes.old) }
@@ -28,7 +28,7 @@ pub(crate) fn set_number(bytes: &mut [u8], window: u64)
     }
 }
 
-/// The number with the value in place of the n bits above its lowest `low` bits.
+/// The number with `value` instead of the n bits above its lowest `low` bits.
 #[inline]
 pub(crate) fn with_group(window: u64, n: u32, low: u32, value: u32) -> u64
     requires few { n ≤ 32 }
@@ -54,7 +54,7 @@ pub(crate) fn word_at(bytes: &[u8], first: usize) -> u64
     ])
 }
 
-/// The number of a group of bits, by one load of eight bytes that hold it, so there have to be eight.
+/// The number of a group of bits, by one load of eight bytes that hold it, so there have to be at least eight.
 #[inline]
 fn number_in_word(bytes: &[u8], at: usize, n: u32) -> u32
     requires some { 1 ≤ n }

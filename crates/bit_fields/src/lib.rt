@@ -1,4 +1,4 @@
-//! The bits of a byte slice, read in turn as numbers and written in place.
+//! The bits of a byte slice, read in order as numbers and written in place.
 #![tactic(auto)]
 
 mod groups;

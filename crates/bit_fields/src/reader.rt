@@ -26,7 +26,7 @@ impl<'a> Model for Bits<'a> {
 }
 
 impl<'a> Bits<'a> {
-    /// Begins at the first bit of the bytes, of which there are at most 2^28.
+    /// Begins at the first bit of the bytes; there have to be at most 2^28 bytes.
     pub fn new(bytes: &'a [u8]) -> Self
         requires { length bytes.now ≤ 2 ^ 28 }
         ensures place { result.place ≡ 0 }
@@ -35,7 +35,7 @@ impl<'a> Bits<'a> {
         Bits { bytes, place: 0 }
     }
 
-    /// How many bits were taken.
+    /// How many bits have been taken.
     pub fn place(&self) -> usize
         ensures { result ≡ self.now.place }
     {
@@ -49,8 +49,8 @@ impl<'a> Bits<'a> {
         8 * self.bytes.len() - self.place
     }
 
-    /// The number of the next n bits, at most 32 of them, the most significant first. `None` exactly
-    /// where fewer are left; the place then stays.
+    /// The number of the next n bits, at most 32 of them, the most significant first. `None` exactly where fewer are
+    /// left; then the place doesn't change.
     pub fn take(&mut self, n: u32) -> Option<u32>
         requires { n ≤ 32 }
         ensures { TakeAnswer n self.old self.new result }

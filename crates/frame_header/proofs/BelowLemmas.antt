@@ -1,4 +1,4 @@
--- What a test that all numbers below a bound pass says of each of them.
+-- A test that passes for all numbers below a bound passes for each of them.
 use Rattle.std.proofs.Common.{arith, Bool, inl, inr, subst, suc, true, zero, ℕ, ◌&&◌, ◌<◌, ◌≡◌, ◌≤◌}
 use Rattle.std.proofs.lemmas.Bool.{and_parts, cases_lt}
 
@@ -9,7 +9,7 @@ all_below (suc n) p = p n && all_below n p
 same : (k n : ℕ) → k < suc n → n ≤ k → n ≡ k
 same k n lt at = omega arith
 
--- what a test says of all numbers below a bound it says of each of them
+-- if a test passes for all numbers below n, it passes for each of them
 pub all_below-pass : (n : ℕ) (p : ℕ → Bool) (k : ℕ) → all_below n p ≡ true → k < n → p k ≡ true
 all_below-pass zero p k h lt = absurd (omega arith)
 all_below-pass (suc n) p k h lt =

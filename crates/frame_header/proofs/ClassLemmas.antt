@@ -1,4 +1,4 @@
--- When two classes are the same, and the header of a class among all bits.
+-- When two classes are the same, and when bits are a header of a class.
 use Rattle.std.proofs.Common.{ap, Bool, Err, false, if◌then◌else◌, None, Ok, refl, Result, Some}
 use Rattle.std.proofs.{Common.{sym, true, ◌==◌, ◌∙◌, ◌≡◌}, lemmas.Bool.{and_parts, eqb-true}}
 use Rattle.std.specs.Prelude.{unwrap_or}
@@ -22,7 +22,7 @@ class-parts c d version frequency channels =
     ∙ ap (λ n. record { version = d.version; frequency_index = d.frequency_index; channels = n })
     channels
 
--- two classes that are compared as the same are equal
+-- classes that compare as the same are equal
 pub same_class-is : (c d : ClassFields) → same_class c d ≡ true → c ≡ d
 unfolding same_class
 same_class-is c d e =
@@ -31,7 +31,7 @@ same_class-is c d e =
     class-parts c d (version-same c.version d.version (eqb-true _ _ front.0)) (eqb-true _ _ front.1)
     (eqb-true _ _ all.1)
 
--- bits without a header of this version and frequency have none of the class
+-- bits that aren't a header of this version and frequency aren't a header of the class
 pub none_of_class : (class : ClassFields) (read : Result HeaderFields NotHeader)
     → ((h : HeaderFields) → read ≡ Ok h → h.version ≡ class.version
     → h.frequency_index ≡ class.frequency_index → ⊥) → header_of_class class read ≡ None

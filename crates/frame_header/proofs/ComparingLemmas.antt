@@ -13,7 +13,7 @@ last true false false = refl
 last false s true = refl
 last false s false = refl
 
--- version and slot, compared last, as if they were compared in their places
+-- comparing version and slot last gives the same result as comparing them in their places
 reorder : (v p s f r m x y z w : Bool)
     → ((((((((((p && f) && r) && m) && x) && y) && z) && w)) && v) && s)
     ≡ (v && (p && (s && (f && (r && (m && (x && (y && (z && w)))))))))
@@ -21,8 +21,7 @@ reorder v false s f r m x y z w = sym (stuck v true)
 reorder v true s true true true true true true w = last v s w
 reorder v true s _ _ _ _ _ _ w = sym (stuck v s)
 
--- fields compared one after the other are all equal exactly if they are in the order of the
--- definition
+-- comparing the fields in this order gives the same result as in the order of the definition
 pub compared_last : (v p s f r m x y z w : Bool) {a b c d e g h i j k : Bool} → a ≡ p → b ≡ (a && f)
     → c ≡ (b && r) → d ≡ (c && m) → e ≡ (d && x) → g ≡ (e && y) → h ≡ (g && z) → i ≡ (h && w) → j
     ≡ (i && v) → k ≡ (j && s) → k ≡ (v && (p && (s && (f && (r && (m && (x && (y && (z && w)))))))))

@@ -43,7 +43,7 @@ pub header_in-no : (h : List ℕ) → is_readable h ≡ false → header_in h �
 unfolding header_in
 header_in-no h fails = rw fails refl
 
--- a record of the groups is the header's fields
+-- the header's fields, made of its groups
 pub header_fields-groups : (h : List ℕ) (v : Version) (p : Bool) (rate : ℕ) (padding : Bool)
     (frequency : ℕ) (private : Bool) (mode extension : ℕ) (copyright original : Bool) (emphasis : ℕ)
     → v ≡ version_of h → p ≡ eqb (protection_bit h) 0 → rate ≡ rate_bits h
@@ -94,7 +94,7 @@ header_in-ok h fields is = by_cases (is_readable h) (eqb (rate_bits h) 0) refl r
         (readable, (λ none. true≢false (sym (eq-eqb _ _ none) ∙ some)), ok_is _ _ e)
     by_cases _ _ readable none e = absurd cc
 
--- the tests of a readable header, as facts
+-- the single tests of a readable header
 record IsReadable (h : List ℕ) : Type 0 where
   pub sync : group 0 11 h ≡ 2047
   pub version : group 11 2 h ≢ 1
@@ -141,7 +141,7 @@ version_again (suc zero) h some = absurd (omega arith)
 version_again (suc (suc (suc (suc n)))) h some = absurd (omega arith)
 version_again _ h some = refl
 
--- what the bits of a header say of its version, its frequency and its bit rate
+-- the bits of a header give its version, its frequency and its bit rate
 pub record SaysClass (h : List ℕ) (fields : HeaderFields) : Type 0 where
   pub sync : group 0 11 h ≡ 2047
   pub layer : group 13 2 h ≡ 1
@@ -150,7 +150,7 @@ pub record SaysClass (h : List ℕ) (fields : HeaderFields) : Type 0 where
   pub some : 1 ≤ rate_bits h
   pub most : rate_bits h ≤ 14
 
--- the bits of a header that is read say its version, its frequency and its bit rate
+-- the bits of a header that was read give its version, its frequency and its bit rate
 pub says_class : (h : List ℕ) (fields : HeaderFields) → AreBits h → header_in h ≡ good fields
     → SaysClass h fields
 unfolding header_fields
@@ -189,7 +189,7 @@ IsClass-class_of h is = let channels = channels_in_range (eqb h.mode 3) in
     (is.frequency_index, channels.0, channels.1)
 
 -- ---- the bits that a header is written as
--- the numbers of groups that follow each other, from a bit on
+-- the numbers of groups that follow each other from a bit on
 abbrev groups_from : ℕ → List ℕ → List ℕ → List ℕ
 groups_from at [] bs = []
 groups_from at (width ∷ widths) bs = group at width bs ∷ groups_from (at + width) widths bs
@@ -321,7 +321,7 @@ protection_back : (protected : Bool) → protected ≡ eqb (protection_of protec
 protection_back true = refl
 protection_back false = refl
 
--- the bits of a header read as the header
+-- the bits of a header are read as that header
 pub header_in-header_bits : (h : HeaderFields) → IsHeader h → header_in (header_bits h) ≡ good h
 unfolding is_readable header_numbers
 header_in-header_bits h is =
@@ -383,7 +383,7 @@ header_bits-header_in bs fields all l is =
     ∙ spelled-numbers_at header_widths bs all l
 
 -- ---- the four bytes
--- the bytes of a header read as the header
+-- the bytes of a header are read as that header
 pub header_at-bytes : (four : List ℕ) (h : HeaderFields) → IsHeader h → bits four ≡ header_bits h
     → header_at four ≡ good h
 unfolding header_at
@@ -396,7 +396,7 @@ unfolding header_at
 header_bits-header_at four h l is =
     header_bits-header_in (bits four) h (AreBits-bits four) (omega (arith, length-bits four)) is
 
--- and bytes with the same bits are these bytes
+-- bytes with these bits are these bytes
 pub header_bytes-same : (xs four : List ℕ) (h : HeaderFields) → bits xs ≡ header_bits h
     → AreBytes xs → AreBytes four → length four ≡ 4 → header_at four ≡ good h → xs ≡ four
 header_bytes-same xs four h e hx hy l is =

@@ -12,15 +12,15 @@ use Rattle.frame_header.specs.declared.{class.TheConstants.LENGTHS, version.Vers
 use Rattle.frame_header.specs.declared.version.Version.TheVariants.{One, Two, TwoFive}
 use mir.Val.{bool_byte}
 
--- the lowest bit rate of a version in kbit/s, which is the
--- first, and its highest frequency in Hz, which is the second
+-- a version's lowest bit rate in kbit/s, the first in its table, and its highest frequency in Hz,
+-- the second in its table
 abbrev pub least_rate : Version → ℕ
 least_rate version = get_or (rates version) 0 0
 
 abbrev pub highest_frequency : Version → ℕ
 highest_frequency version = get_or (frequencies version) 1 0
 
--- what a test says of a whole table holds at each of its places
+-- if a test passes for a whole table, it passes at each of its places
 all_pass : (p : ℕ → Bool) (xs : List ℕ) (i : ℕ) → list_all p xs ≡ true → i < length xs
     → p (get_or xs i 0) ≡ true
 all_pass p xs i all lt = true_from_ne_false (p (get_or xs i 0))
@@ -45,7 +45,7 @@ lowest : (version : Version) → 8 ≤ least_rate version
 lowest One = lit< tt
 lowest _ = lit< tt
 
--- the bit rates of all versions are between 8 and 320 kbit/s
+-- no bit rate is below 8 kbit/s
 pub rate-least : (c : ClassFields) (s : SlotFields) → IsSlot s → 8 ≤ rate_of c s
 unfolding rate_of
 rate-least c s slot = omega
@@ -128,12 +128,12 @@ flag_byte : (flag : Bool) → bool_byte flag ≡ cond flag 1 0
 flag_byte true = refl
 flag_byte false = refl
 
--- an entry of the table, and the padding
+-- an entry of the table, plus the padding
 abbrev pub length_in_table : ClassFields → SlotFields → ℕ
 length_in_table c s = get_or (get_or LENGTHS (3 * version_place c.version + c.frequency_index) [])
     (s.rate_index - 1) 0 + bool_byte s.padding
 
--- the length in the table is that of the rule
+-- the length in the table is the length by the rule
 pub length_in_table-is : (c : ClassFields) (s : SlotFields) → IsClass c → IsSlot s
     → length_in_table c s ≡ length_of c s
 unfolding length_of rate_of frequency_of

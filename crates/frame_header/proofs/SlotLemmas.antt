@@ -1,5 +1,4 @@
--- The slots of a class: which there are, and that
--- their lengths and areas rise from one to the next.
+-- The slots of a class: what they are, and that their lengths and areas rise from one to the next.
 use Rattle.std.proofs.Common.{AllPairs, ap, append_assoc, arith, Bool, cond, Contains, eqb, false}
 use Rattle.std.proofs.Common.{get_or, inl, inr, leb, length, length-append, List, lit≤, ltb, map}
 use Rattle.std.proofs.Common.{refl, suc, sym, true, zero, ℕ, [], ◌&&◌, ◌*◌, ◌++◌, ◌+◌, ◌-◌, ◌<◌}
@@ -16,13 +15,13 @@ use Rattle.frame_header.specs.Tables.{side_bytes_of, side_size_of, window_of}
 use Rattle.frame_header.specs.declared.version.Version.{Version, TheVariants.{One, Two, TwoFive}}
 use mir.Val.{bool_byte}
 
--- ---- which slots there are
--- up to the index 0 there is no slot
+-- ---- what the slots are
+-- up to index 0 there are no slots
 pub slots_to-none : [] ≡ slots_to 0
 unfolding slots_to
 slots_to-none = refl
 
--- up to the index 14 there are all slots
+-- the slots up to index 14 are all slots
 pub slots_to-all : slots_to 14 ≡ all_slots
 unfolding all_slots
 slots_to-all = refl
@@ -102,7 +101,7 @@ get_or-place_of s d slot =
     get_or-slots_to 14 (s.rate_index - 1) s.padding d (omega (arith, slot.0, slot.1))
     ∙ ap (λ k. slot_of k s.padding) index
 
--- each slot is one of the 28
+-- every slot is one of the 28
 pub Contains-all_slots : (s : SlotFields) → IsSlot s → Contains all_slots s
 Contains-all_slots s slot =
     (place_of s, omega (arith, place_of-below s slot, length-all_slots), get_or-place_of s s slot)
@@ -135,7 +134,7 @@ are_slots : all_below 28 (λ i. leb 1 (nth_slot i).rate_index && leb (nth_slot i
 unfolding all_slots slots_to
 are_slots = refl
 
--- at each of the 28 places is a slot
+-- there is a slot at each of the 28 places
 pub IsSlot-nth_slot : (i : ℕ) → i < 28 → IsSlot (nth_slot i)
 IsSlot-nth_slot i within =
     let parts = and_parts _ _ (all_below-pass 28
@@ -158,7 +157,7 @@ length_rises c i j class before within =
     get_or-map (length_of c) all_slots j (slot_of 1 false) 0 (omega (arith, length-all_slots)) in
     omega arith
 
--- a slot that comes before another has the lesser length, and the lesser area
+-- a slot before another has the smaller length and the smaller area
 pub length-before : (c : ClassFields) (s t : SlotFields) → IsClass c → IsSlot s → IsSlot t
     → place_of s < place_of t → length_of c s < length_of c t
 length-before c s t class is it before =
@@ -169,7 +168,7 @@ length-before c s t class is it before =
     ap (length_of c) (get_or-place_of t (slot_of 1 false) it) in
     omega arith
 
--- the length is what is before the area, and the area
+-- the length is the bytes before the area plus the area
 pub area-is : (c : ClassFields) (s : SlotFields) (protected : Bool) → IsClass c → IsSlot s
     → (overhead_of c protected + area_of c s protected ≡ length_of c s)
     × (1 ≤ area_of c s protected)
@@ -194,7 +193,7 @@ largest c s class is =
       )
     ]
 
--- the last has the largest area
+-- the last slot has the largest area
 pub area-largest : (c : ClassFields) (s : SlotFields) (protected : Bool) → IsClass c → IsSlot s
     → area_of c s protected ≤ area_of c largest_slot protected
 area-largest c s protected class is =
@@ -211,8 +210,8 @@ side-least One channels =
 side-least _ channels =
     elim (eqb channels 1) as (λ b. 9 ≤ cond b 9 17) [ true ↦ lit≤ tt | false ↦ lit≤ tt ]
 
--- no area is larger than 1,428 bytes: the longest
--- frame less its header and the least side information
+-- no area is larger than 1,428 bytes: the longest frame less its header and the shortest side
+-- information
 pub area-most : (c : ClassFields) (s : SlotFields) (protected : Bool) → IsClass c → IsSlot s
     → area_of c s protected ≤ 1428
 unfolding area_of overhead_of side_size_of
@@ -221,8 +220,8 @@ area-most c s true class slot =
 area-most c s false class slot =
     omega (arith, length-most c s class slot, side-least c.version c.channels)
 
--- a frame of the largest slot has room for the window, a
--- header and side information, by version and frequency
+-- a frame of the largest slot has room for the window, a header and side information, by version
+-- and frequency
 spans : (version : Version) (frequency channels : ℕ) → frequency < 3
     → window_of version + 4 + side_bytes_of version channels ≤ length_of
     (record { version = version; frequency_index = frequency; channels = channels }) largest_slot

@@ -13,7 +13,7 @@ pub record ClassFields : Type 0 where
   pub frequency_index : ℕ
   pub channels : ℕ
 
--- the two bits of a header that tell the versions apart and by which versions are compared: the
+-- the two bits of a header that distinguish the versions and by which versions are compared: the
 -- twelfth, which is 0 in MPEG-2.5 alone, and ID, which is 1 in MPEG-1 alone
 abbrev pub version_number : Version → ℕ
 version_number One = 3
@@ -46,8 +46,8 @@ IsSlot s = (1 ≤ s.rate_index) × (s.rate_index ≤ 14)
 abbrev pub IsClass : ClassFields → Type 0
 IsClass c = (c.frequency_index ≤ 2) × (1 ≤ c.channels) × (c.channels ≤ 2)
 
--- Each field is within its bits, and neither bit rate nor frequency has a
--- forbidden or reserved value. Emphasis may have any, also its reserved 2.
+-- Each field is within its bits, and neither bit rate nor frequency has a forbidden or reserved
+-- value. Emphasis may have any value, even the reserved 2.
 pub record IsHeader (h : HeaderFields) : Type 0 where
   pub slot : IsSlot h.slot
   pub frequency_index : h.frequency_index ≤ 2

@@ -3,9 +3,9 @@ use Rattle.std.specs.Prelude.{Bool, if◌then◌else◌, List, ℕ, [], ◌∷�
 use Rattle.bit_fields.specs.Groups.{group_bits}
 use Rattle.frame_header.specs.Fields.{HeaderFields, version_number}
 
--- the width in bits of the first 11 bits of the syncword, its twelfth with
--- ID, layer, protection_bit, bitrate_index, sampling_frequency, padding_bit,
--- private_bit, mode, mode_extension, copyright, original and emphasis
+-- the widths in bits of the fields: the first 11 bits of the syncword, its twelfth with ID, layer,
+-- protection_bit, bitrate_index, sampling_frequency, padding_bit, private_bit, mode,
+-- mode_extension, copyright, original and emphasis
 abbrev pub header_widths : List ℕ
 header_widths = 11 ∷ 2 ∷ 2 ∷ 1 ∷ 4 ∷ 2 ∷ 1 ∷ 1 ∷ 2 ∷ 2 ∷ 1 ∷ 1 ∷ 2 ∷ []
 

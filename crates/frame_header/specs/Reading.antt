@@ -23,14 +23,14 @@ abbrev pub frequency_bits : List ℕ → ℕ
 frequency_bits h = group 20 2 h
 
 -- the first 11 bits, the sync word that all versions share, are ones; the twelfth is 1, or it and
--- ID are both 0; the layer, of two bits, is III; and the bit rate isn't the forbidden one nor the
--- frequency the reserved one; all other bits are free
+-- ID are both 0; the layer, of two bits, is III; the bit rate isn't the forbidden one and the
+-- frequency isn't the reserved one; all other bits are free
 unfoldable pub is_readable : List ℕ → Bool
 is_readable h = (group 0 11 h == 2047) && not (version_bits h == 1) && (group 13 2 h == 1)
     && not (rate_bits h == 15) && not (frequency_bits h == 3)
 
--- MPEG-1 where ID is 1; else MPEG-2, its lower sampling frequencies, where the twelfth bit is 1,
--- and where it is 0 MPEG-2.5, which no standard has, as LAME writes it and decoders read it
+-- MPEG-1 where ID is 1; otherwise MPEG-2, the lower sampling frequencies, where the twelfth bit is
+-- 1, and where it is 0 MPEG-2.5, which is in no standard, as LAME writes it and decoders read it
 abbrev pub version_of : List ℕ → Version
 version_of h = if version_bits h == 3 then One else (if version_bits h == 2 then Two else TwoFive)
 

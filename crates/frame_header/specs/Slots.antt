@@ -1,4 +1,4 @@
--- The slots of a class, which are those of every class, in the order of their areas.
+-- The slots of a class: the same 28 in every class, in the order of their areas.
 use Rattle.std.specs.Prelude.{Bool, false, List, map, suc, true, zero, ℕ, [], ◌++◌, ◌∷◌}
 use Rattle.frame_header.specs.{Fields.{ClassFields, SlotFields}, Tables.area_of}
 
@@ -6,8 +6,8 @@ use Rattle.frame_header.specs.{Fields.{ClassFields, SlotFields}, Tables.area_of}
 abbrev pub slot_of : ℕ → Bool → SlotFields
 slot_of rate_index padding = record { rate_index = rate_index; padding = padding }
 
--- the slots of the bit rate indexes from 1 up to this one,
--- at each index first without padding and then with it
+-- the slots of the bit rate indexes from 1 up to this one, at each index first without padding and
+-- then with it
 unfoldable pub slots_to : ℕ → List SlotFields
 slots_to zero = []
 slots_to (suc n) = slots_to n ++ slot_of (suc n) false ∷ slot_of (suc n) true ∷ []
@@ -20,6 +20,6 @@ all_slots = slots_to 14
 abbrev pub largest_slot : SlotFields
 largest_slot = slot_of 14 true
 
--- their areas
+-- the areas of the slots
 unfoldable pub areas_of : ClassFields → Bool → List ℕ
 areas_of c protected = map (λ s. area_of c s protected) all_slots

@@ -28,8 +28,8 @@ granules_of TwoFive = 1
 abbrev pub samples_of : Version → ℕ
 samples_of version = 576 * granules_of version
 
--- an eighth of that, which is a frame's bytes at one bit a sample: the standard's 144, and 72 for
--- one granule
+-- an eighth of the samples, which is a frame's bytes at one bit a sample: the standard's 144, and
+-- 72 for one granule
 abbrev pub length_factor : Version → ℕ
 length_factor version = 72 * granules_of version
 
@@ -57,14 +57,14 @@ frequency_of c = slice_index (frequencies c.version) c.frequency_index
 unfoldable pub side_size_of : ClassFields → ℕ
 side_size_of c = side_bytes_of c.version c.channels
 
--- the place of a version among the versions, in a table that has rows for each
+-- the number of a version, for a table that has rows for each version
 abbrev pub version_place : Version → ℕ
 version_place One = 0
 version_place Two = 1
 version_place TwoFive = 2
 
--- the length of a frame in bytes: the factor times the bit rate in
--- bit/s, divided by the frequency and rounded down, and the padding
+-- the length of a frame in bytes: the factor times the bit rate in bit/s, divided by the frequency
+-- and rounded down, plus the padding
 unfoldable pub length_of : ClassFields → SlotFields → ℕ
 length_of c s =
     (length_factor c.version * (1000 * rate_of c s)) / frequency_of c + (if s.padding then 1 else 0)
@@ -74,11 +74,11 @@ length_of c s =
 unfoldable pub overhead_of : ClassFields → Bool → ℕ
 overhead_of c protected = 4 + (if protected then 2 else 0) + side_size_of c
 
--- the length in bytes of a frame's area, in which main data are
+-- the length in bytes of a frame's area, which holds main data
 unfoldable pub area_of : ClassFields → SlotFields → Bool → ℕ
 area_of c s protected = length_of c s - overhead_of c protected
 
--- one channel in mode 3, else two
+-- the class of a header: one channel in mode 3, otherwise two
 abbrev pub class_of : HeaderFields → ClassFields
 class_of h = record {
   version = h.version;

@@ -77,8 +77,8 @@ impl Class {
         }
     }
 
-    /// This class, where it is that of MPEG-1 with two channels: the most frequent one, for which the
-    /// compiler then knows the places of all fields.
+    /// This class, which has to be MPEG-1 with two channels, the most common one: the compiler then knows the places of
+    /// all fields.
     #[inline(always)]
     pub fn known_stereo(&self) -> Class
         requires version { self.now.version ≡ One }
@@ -96,8 +96,8 @@ impl Class {
     /// main_data_begin: 511 in MPEG-1, 255 in MPEG-2 and MPEG-2.5 (ISO/IEC 11172-3 and 13818-3, 2.4.2.7).
     pub fn window(&self) -> u32
         ensures window { result ≡ window_of self.now.version }
-        // The largest frame without a check word has room for so many bytes of main data. Said here, where the class is known
-        // to be one of the standard's.
+        // The area of the largest frame without a check word has room for as many bytes. Said here, where the class is
+        // known to be one of the standard's.
         ensures spanned { result ≤ area_of self.now largest_slot false }
     {
         match self.version {
@@ -138,20 +138,20 @@ impl Class {
     pub fn overhead(&self, protected: bool) -> u32
         ensures overhead { result ≡ overhead_of self.now protected }
         ensures most { result ≤ most_front }
-        // So they leave room for main data in each frame, by the clause `room` of `length_of`.
+        // This leaves room for main data in every frame, by the clause `room` of `length_of`.
         ensures within { result ≤ 6 + side_size_of self.now }
     {
         let check_word = if protected { 2 } else { 0 };
         4 + check_word + self.side_size()
     }
 
-    /// The length of a frame's area in bytes, in which main data are: its length without header, check word
-    /// and side information. From 1 to 1,441.
+    /// The length in bytes of a frame's area, which holds main data: the frame's length without header, check word and
+    /// side information. From 1 to 1,441.
     pub fn area_of(&self, slot: Slot, protected: bool) -> u32
         ensures area { result ≡ area_of self.now slot protected }
         ensures some { 1 ≤ result }
         ensures most { result ≤ most_frame_length }
-        // Area and what is before it add up to the frame.
+        // The area and what is before it add up to the frame.
         ensures whole { overhead_of self.now protected + result ≡ length_of self.now slot }
     {
         self.length_of(slot) - self.overhead(protected)
@@ -164,7 +164,7 @@ impl Class {
         ensures ascending { (protected : Bool)
             → AllPairs (λ m n. m < n) (areas_of self.now protected) }
     {
-        // A look inside gives the proof the invariant of the class, by which its areas ascend.
+        // Looking inside gives the proof the invariant of the class, by which its areas ascend.
         let _ = &self.version;
         let mut slots = ArrayVec::new();
         for rate_index in 1..15 {
@@ -191,7 +191,7 @@ impl Class {
     }
 }
 
-/// The place of a version among the versions.
+/// The number of a version, for the rows of `LENGTHS`.
 fn version_place(version: Version) -> usize
     ensures { result ≡ version_place version }
 {
@@ -207,7 +207,8 @@ const MPEG_1_RATES: [u16; 14] = [
     32, 40, 48, 56, 64, 80, 96, 112, 128, 160, 192, 224, 256, 320,
 ];
 
-/// The same for the lower sampling frequencies (ISO/IEC 13818-3, 2.4.2.3).
+/// Bit rates in kbit/s of the lower sampling frequencies, for the indexes 1 to 14 (ISO/IEC 13818-3,
+/// 2.4.2.3).
 const MPEG_2_RATES: [u16; 14] = [8, 16, 24, 32, 40, 48, 56, 64, 80, 96, 112, 128, 144, 160];
 
 /// Lengths in bytes without padding for the bit rate indexes 1 to 14 (ISO/IEC 11172-3 and 13818-3,

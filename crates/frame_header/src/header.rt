@@ -40,8 +40,8 @@ fn is_set(word: u32, at: u32) -> bool
     group_of(word, at, 1) == 1
 }
 
-/// Whether these are the bits of a header: the first 11 are ones, the next two aren't 01, the layer is III,
-/// and the bit rate isn't the forbidden one nor the frequency the reserved one.
+/// Whether these are the bits of a header: the first 11 are ones, the next two aren't 01, the layer is III, the bit
+/// rate isn't the forbidden one and the frequency isn't the reserved one.
 #[tactic(auto, unfolding(crate::specs::Reading::is_readable))]
 fn is_readable(word: u32) -> bool
     ensures { result ≡ is_readable (bits_of 32 word) }
@@ -93,7 +93,7 @@ impl Model for Header {
     ghost inverse = { header_inside };
 }
 
-/// The version by the twelfth bit of a header and ID.
+/// The version, by the twelfth bit of a header and ID.
 fn version_of(word: u32) -> Version
     ensures { result ≡ version_of (bits_of 32 word) }
 {
@@ -104,7 +104,7 @@ fn version_of(word: u32) -> Version
     }
 }
 
-/// The header that readable bits are, which aren't free format, by their version and frequency index.
+/// The header that these bits are, by their version and frequency index. They have to be readable and not free format.
 #[inline(always)]
 #[tactic(auto, unfolding(crate::specs::Reading::header_in, crate::specs::Reading::header_fields))]
 fn header_of(word: u32, version: Version, frequency_index: u8) -> Header
@@ -136,7 +136,7 @@ fn header_of(word: u32, version: Version, frequency_index: u8) -> Header
 /// Reads the 32 bits of a header.
 ///
 /// # Errors
-/// `No` where they aren't readable, `Free` where they are with bit rate index 0.
+/// `No` where they aren't readable, `Free` where they are readable with bit rate index 0.
 #[tactic(auto, unfolding(crate::specs::Reading::header_in, crate::specs::Reading::is_readable))]
 fn read_word(word: u32) -> Result<Header, NotHeader>
     ensures { result ≡ header_in (bits_of 32 word) }
@@ -151,7 +151,7 @@ fn read_word(word: u32) -> Result<Header, NotHeader>
     Ok(header_of(word, version_of(word), frequency_index))
 }
 
-/// Whether these are the bits of a header with this version and sampling frequency, and not free format.
+/// Whether these are the bits of a header with this version and sampling frequency that isn't free format.
 #[inline(always)]
 #[tactic(auto, using(crate::proofs::HeaderLemmas::says_class), unfolding(crate::specs::Reading::is_readable))]
 fn is_header_of(class: Class, word: u32) -> bool
@@ -182,7 +182,8 @@ fn version_bits(version: Version) -> u32
     }
 }
 
-/// The 32 bits of a header as one number, the sync bits and the layer as the standard wants them.
+/// The 32 bits of a header as one number, with the sync bits and the layer as the standard
+/// requires.
 fn word_of(header: &Header) -> u32
     ensures bits { bits_of 32 result ≡ header_bits header.now }
     ensures back { header_in (bits_of 32 result) ≡ Ok header.now }
@@ -215,8 +216,8 @@ impl Header {
         read_word(word_at(&bytes))
     }
 
-    /// The header that four bytes are, if it is of this class, as those of all frames of a stream are. It is read faster than
-    /// by `read`, which has to tell all headers apart.
+    /// The header that four bytes are, if it is of this class, as the headers of all frames of a stream are. This is
+    /// faster than `read`, which takes headers of every class.
     #[inline(always)]
     #[tactic(auto, unfolding(crate::specs::Reading::header_at, crate::specs::Reading::header_in))]
     pub fn read_of(class: Class, bytes: [u8; 4]) -> Option<Header>
@@ -242,7 +243,7 @@ impl Header {
         word_of(self).to_be_bytes()
     }
 
-    /// The same frame in another slot.
+    /// The header of the same frame in another slot.
     pub fn with_slot(&self, slot: Slot) -> Header
         ensures { result ≡ record self.now { slot = slot } }
     {
@@ -251,7 +252,8 @@ impl Header {
         header
     }
 
-    /// The same frame in another slot and without a check word, so its protection_bit is 1.
+    /// The header of the same frame in another slot and without a check word, so its protection_bit
+    /// is 1.
     pub fn unprotected(&self, slot: Slot) -> Header
         ensures { result ≡ record self.now { protected = false; slot = slot } }
     {
@@ -291,7 +293,7 @@ impl Header {
         self.class().overhead(self.protected)
     }
 
-    /// The length of the frame's area in bytes, in which main data are. From 1 to 1,441.
+    /// The length in bytes of the frame's area, which holds main data. From 1 to 1,441.
     pub fn area(&self) -> u32
         ensures area { result ≡ area_of (class_of self.now) self.now.slot self.now.protected }
         ensures some { 1 ≤ result }

@@ -1,4 +1,4 @@
-//! The greatest number of frames, and the greatest length of what is before an area.
+//! The greatest number of frames, and the greatest length of what is before the area of a frame.
 
 /// The greatest number of frames of an input, not counting the head.
 pub const MOST_FRAMES: u32 = 2_900_000;

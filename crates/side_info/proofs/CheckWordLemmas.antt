@@ -10,8 +10,8 @@ use Rattle.side_info.proofs.SideLemmas.{side_bits-side_at}
 use Rattle.side_info.specs.CheckWord.{check_word_of, crc_start, remainder}
 use Rattle.side_info.specs.{Side.{side_at, side_bits}, declared.side.Side.Side}
 
--- the word of bytes that a header and side fields are
--- written as is that of the header and the fields
+-- the check word of the bytes that a header and side fields are written as is the check word of the
+-- header and the fields
 pub check_word-written : (four side : List ℕ) (h : HeaderFields) (s : Side)
     → bits four ≡ header_bits h → bits side ≡ side_bits (class_of h) s
     → remainder crc_start (bits (drop 2 four ++ side)) ≡ check_word_of h s
@@ -21,7 +21,8 @@ check_word-written four side h s front rest =
     (bits-append (drop 2 four) side
     ∙ ap₂ (λ xs ys. xs ++ ys) (sym (drop-bits 2 four) ∙ ap (drop 16) front) rest)
 
--- the word of bytes that were read is that of the header and the fields that were read
+-- the check word of bytes that were read is the check word of the header and the fields that were
+-- read
 pub check_word-read : (four side : List ℕ) (h : HeaderFields) → length four ≡ 4
     → header_at four ≡ good h → length side ≡ side_size_of (class_of h)
     → remainder crc_start (bits (drop 2 four ++ side))

@@ -1,4 +1,4 @@
--- The division of bits: what it makes of exclusive ors, and a byte at a time by a table.
+-- The division of bits: how it treats exclusive ors, and how it takes a byte at a time by a table.
 use Rattle.std.proofs.Common.{add-zero, ap, ap₂, arith, bit_xor, Bool, cond, drop, eqb, get_or}
 use Rattle.std.proofs.Common.{length, List, lit<, refl, suc, sym, take, true, zero, ℕ, [], ◌%◌, ◌*◌}
 use Rattle.std.proofs.{Common.{◌++◌, ◌+◌, ◌/◌, ◌<◌, ◌^◌, ◌∙◌, ◌∷◌, ◌≡◌, ◌≤◌}, lemmas.Bool.eqb-true}
@@ -13,7 +13,7 @@ use Rattle.side_info.specs.declared.crc.TheConstants.{REMAINDERS}
 use lib.Bits.{xor_assoc, xor_self, xor_shifted, xor_zero_r}
 
 -- ---- one bit
--- the divisor where a bit is 1
+-- the divisor if a bit is 1, otherwise 0
 abbrev taken : ℕ → ℕ
 taken bit = bit * polynomial
 
@@ -56,7 +56,7 @@ shifted-xor a b =
     (xor_block 1 a b 0 0 (lit< tt) (lit< tt)) in
     ap (λ x. x % 65536) (sym twice) ∙ xor_mod (a * 2) (b * 2) 16
 
--- a step of an exclusive or, where the bit comes to the first word
+-- a step from the exclusive or of two words, where the bit is added to the first word
 step-xor : (a b bit : ℕ) → bit < 2
     → crc_bit (bit_xor a b) bit ≡ bit_xor (crc_bit a bit) (crc_bit b 0)
 step-xor a b bit h =
@@ -75,7 +75,7 @@ step-xor a b bit h =
     ∙ ap₂ bit_xor (sym (step-is a bit h)) (sym (step-is b 0 (lit< tt)))
 
 -- ---- all bits
--- as many zero bits
+-- as many zero bits as there are bits
 abbrev zeros : List ℕ → List ℕ
 zeros [] = []
 zeros (bit ∷ rest) = 0 ∷ zeros rest
@@ -93,7 +93,7 @@ pub remainder-nil : (word : ℕ) → remainder word [] ≡ word
 unfolding remainder
 remainder-nil word = refl
 
--- bits and more bits are divided one after the other
+-- joined bits are divided in order
 pub remainder-append : (xs ys : List ℕ) (word : ℕ)
     → remainder word (xs ++ ys) ≡ remainder (remainder word xs) ys
 unfolding remainder
@@ -111,16 +111,16 @@ cancels : all_below 256 (λ b. eqb (remainder (b * 256) (bits_of 8 b)) 0) ≡ tr
 unfolding remainder crc_bit bits_of
 cancels = refl
 
--- a byte at the bottom moves to the top
+-- a word with a byte at the bottom has it at the top after eight zero bits
 moves : all_below 256 (λ low. eqb (remainder low eight_zeros) (low * 256)) ≡ true
 unfolding remainder crc_bit
 moves = refl
 
--- the table for so many bytes more
+-- the table for a byte that this many bytes follow
 abbrev table : ℕ → List ℕ
 table more = get_or REMAINDERS more []
 
--- the first table has what a byte at the top leaves after eight zero bits
+-- the first table has what a byte at the top of the word leaves after eight zero bits
 tabled : all_below 256 (λ b. eqb (remainder (b * 256) eight_zeros) (get_or (table 0) b 0)) ≡ true
 unfolding remainder crc_bit
 tabled = refl
@@ -133,7 +133,7 @@ zeros_are_bits : AreBits eight_zeros
 zeros_are_bits =
     (lit< tt, (lit< tt, (lit< tt, (lit< tt, (lit< tt, (lit< tt, (lit< tt, (lit< tt, tt))))))))
 
--- a word as the byte that cancels, what that leaves of its upper byte, and its lower byte
+-- a word split into the byte that cancels, what that leaves of its upper byte, and its lower byte
 module _ (word byte : ℕ) (small : word < 2 ^ 16) (few : byte < 256) where
   abbrev left : ℕ
   left = bit_xor (word / 256) byte
@@ -156,7 +156,7 @@ module _ (word byte : ℕ) (small : word < 2 ^ 16) (few : byte < 256) where
       ∙ ap (λ x. x * 256 + word % 256) again
       ∙ omega arith)
 
-  -- eight bits are divided by one look into the table
+  -- dividing eight bits takes one look into the table
   pub remainder-byte : bit_xor (word * 256 % 65536) (get_or (table 0) (bit_xor (word / 256) byte) 0)
       ≡ remainder word (bits_of 8 byte)
   remainder-byte =
@@ -186,7 +186,7 @@ behind word = remainder word eight_zeros
 behind-xor : (a b : ℕ) → behind (bit_xor a b) ≡ bit_xor (behind a) (behind b)
 behind-xor a b = remainder-xor eight_zeros a b zeros_are_bits
 
--- a byte comes to the top of the word
+-- dividing a byte adds it at the top of the word
 remainder-top : (word byte : ℕ) → byte < 256
     → remainder word (bits_of 8 byte) ≡ behind (bit_xor word (byte * 256))
 remainder-top word byte few =
@@ -201,7 +201,7 @@ remainder-top word byte few =
     (AreBits-bits_of 8 byte)
     ∙ ap₂ bit_xor gone (ap (remainder (bit_xor word (byte * 256))) (zeros-bits_of byte))
 
--- it meets the upper byte
+-- a byte at the top of a word is added to the upper byte
 over : (high low byte : ℕ) → low < 256
     → bit_xor (high * 256 + low) (byte * 256) ≡ bit_xor (bit_xor high byte * 256) low
 over high low byte few =
@@ -214,7 +214,7 @@ both_high : (a b : ℕ) → bit_xor (a * 256) (b * 256) ≡ bit_xor a b * 256
 both_high a b = rw (← add-zero (a * 256), ← add-zero (b * 256), ← add-zero (bit_xor a b * 256))
     (xor_block 8 a b 0 0 (lit< tt) (lit< tt))
 
--- each table has what eight more zero bits make of the one before
+-- each table has what the entries of the table before it leave after eight more zero bits
 abbrev follows : ℕ → Bool
 follows k = all_below 256
     (λ b. eqb (remainder (get_or (table k) b 0) eight_zeros) (get_or (table (k + 1)) b 0))
@@ -234,7 +234,7 @@ entry byte few = eqb-true _ _ (all_below-pass 256
     (λ b. eqb (remainder (b * 256) eight_zeros) (get_or (table 0) b 0)) byte tabled few)
 
 module _ (word a b : ℕ) (small : word < 2 ^ 16) (a_few : a < 256) (b_few : b < 256) where
-  -- what meets the upper byte of the word, and what meets the lower
+  -- what is added to the upper byte of the word, and what is added to the lower
   abbrev upper : ℕ
   upper = bit_xor (word / 256) a
 
@@ -267,13 +267,13 @@ module _ (word a b : ℕ) (small : word < 2 ^ 16) (a_few : a < 256) (b_few : b <
   lower_few : lower < 256
   lower_few = xor_lt 8 (word % 256) b (mod_below word 256 (lit< tt)) b_few
 
-  -- two bytes are divided by a look into each of two tables
+  -- dividing two bytes takes one look into each of two tables
   pub remainder-two : bit_xor (get_or (table 1) (bit_xor (word / 256) a) 0) (get_or (table 0)
       (bit_xor (word % 256) b) 0) ≡ remainder (remainder word (bits_of 8 a)) (bits_of 8 b)
   remainder-two = sym (after_b ∙ ap₂ bit_xor (ap behind (entry upper upper_few)
       ∙ next 0 upper (lit< tt) upper_few) (entry lower lower_few))
 
--- a byte after others
+-- dividing a byte after other bytes
 remainder-push : (word byte : ℕ) (xs : List ℕ) → byte < 256
     → remainder word (bits (xs ++ byte ∷ []))
     ≡ bit_xor (behind (remainder word (bits xs))) (get_or (table 0) byte 0)
@@ -285,7 +285,7 @@ remainder-push word byte xs few =
     ∙ behind-xor before (byte * 256)
     ∙ ap (bit_xor (behind before)) (entry byte few)
 
--- two bytes are divided one after the other
+-- two bytes are divided in order
 pub remainder-pair : (word a b : ℕ)
     → remainder word (bits (a ∷ b ∷ [])) ≡ remainder (remainder word (bits_of 8 a)) (bits_of 8 b)
 remainder-pair word a b =
@@ -293,7 +293,7 @@ remainder-pair word a b =
     (bits-append (a ∷ []) (b ∷ []) ∙ ap₂ (λ xs ys. xs ++ ys) (bits-one a) (bits-one b))
     ∙ remainder-append (bits_of 8 a) (bits_of 8 b) word
 
--- eight bytes: the first two meet the word
+-- eight bytes, the first two of which are added to the word
 module _ (word a b c d e f g h : ℕ) (small : word < 2 ^ 16) (a_few : a < 256) (b_few : b < 256)
     (c_few : c < 256) (d_few : d < 256) (e_few : e < 256) (f_few : f < 256) (g_few : g < 256)
     (h_few : h < 256) where
@@ -362,7 +362,7 @@ module _ (word a b c d e f g h : ℕ) (small : word < 2 ^ 16) (a_few : a < 256) 
       (next 5 high (lit< tt) high_few) (next 4 low (lit< tt) low_few)) (next 3 c (lit< tt) c_few))
       (next 2 d (lit< tt) d_few)) (next 1 e (lit< tt) e_few)) (next 0 f (lit< tt) f_few))
 
-  -- eight bytes are divided by a look into each of eight tables
+  -- dividing eight bytes takes one look into each of eight tables
   pub remainder-eight : remainder word (bits (a ∷ b ∷ c ∷ d ∷ e ∷ f ∷ g ∷ h ∷ []))
       ≡ bit_xor (bit_xor (bit_xor (bit_xor (bit_xor (bit_xor (bit_xor (get_or (table 7) high 0)
       (get_or (table 6) low 0)) (get_or (table 5) c 0)) (get_or (table 4) d 0))
@@ -388,13 +388,13 @@ remainder-more word xs i h =
     ∙ sym (bits-append (take i xs) (get_or xs i 0 ∷ []))
     ∙ ap bits (sym (take_more xs i 0 h)))
 
--- so are the bits of bytes and of more bytes
+-- joined bytes are divided in order
 pub remainder-bits_append : (word : ℕ) (xs ys : List ℕ)
     → remainder (remainder word (bits xs)) (bits ys) ≡ remainder word (bits (xs ++ ys))
 remainder-bits_append word xs ys =
     sym (remainder-append (bits xs) (bits ys) word) ∙ ap (remainder word) (sym (bits-append xs ys))
 
--- the first eight of some bytes are divided by a look into each of eight tables
+-- dividing the first eight of some bytes takes one look into each of eight tables
 pub eight_list : (word : ℕ) (xs : List ℕ) → word < 2 ^ 16 → ((i : ℕ) → get_or xs i 0 < 256)
     → 8 ≤ length xs
     → bit_xor (bit_xor (bit_xor (bit_xor (bit_xor (bit_xor (bit_xor (get_or (table 7) (bit_xor
@@ -417,7 +417,7 @@ remainder-eight_more word xs at =
     ∙ ap (λ ys. remainder word (bits ys)) (ap₂ (λ ys zs. ys ++ zs) (sym (take-take at (at + 8) xs
     (omega arith))) (sym (drop-take at 8 xs)) ∙ take-append-drop at (take (at + 8) xs))
 
--- the last two of four bytes are divided one after the other
+-- the last two of four bytes are divided in order
 pub two_list : (word : ℕ) (xs : List ℕ) → length xs ≡ 4
     → remainder (remainder word (bits_of 8 (get_or xs 2 0))) (bits_of 8 (get_or xs 3 0))
     ≡ remainder word (bits (drop 2 xs))

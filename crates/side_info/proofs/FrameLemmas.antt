@@ -1,4 +1,4 @@
--- What stays, and what is read back, where other side information is put into a frame.
+-- What stays, and what is read back, when other side information is put into a frame.
 use Rattle.std.proofs.Common.{ap, append_assoc, ap₂, arith, bit_xor, Bool, cond, drop, false}
 use Rattle.std.proofs.Common.{get_or, length, length-append, length-drop, List, lit<, refl, suc}
 use Rattle.std.proofs.Common.{sym, take, take-append-drop, true, zero, ℕ, [], ◌%◌, ◌*◌, ◌++◌, ◌+◌}
@@ -54,7 +54,7 @@ bytes-word n h = sym (bytes-bits (to_be_bytes w16 n) (AreBytes-word n)) ∙ ap b
 
 -- ---- the check word that is in a frame
 
--- the number of a frame's fifth and sixth byte is that of the 16 bits after the header
+-- the number of a frame's fifth and sixth byte is the number of the 16 bits after the header
 pub word_at : (frame : List ℕ) → 6 ≤ length frame → AreBytes frame
     → get_or frame 4 0 * 256 + get_or frame 5 0 ≡ number (bits (take 2 (drop 4 frame)))
 word_at (a ∷ b ∷ c ∷ d ∷ e ∷ f ∷ rest) long all =
@@ -67,19 +67,19 @@ word_at frame long all = absurd (omega arith)
 abbrev pub HasRoom : HeaderFields → List ℕ → Type 0
 HasRoom h frame = overhead_of (class_of h) h.protected ≤ length frame
 
--- before the area is what is before the side information, and the side information
+-- the bytes before the area are the bytes before the side information plus the side information
 pub overhead-is : (c : ClassFields) (protected : Bool)
     → overhead_of c protected ≡ side_place protected + side_size_of c
 unfolding overhead_of
 overhead-is c protected = refl
 
--- in a protected frame it is six bytes and the side information
+-- in a protected frame these are six bytes and the side information
 pub overhead-protected : (h : HeaderFields) → h.protected ≡ true
     → overhead_of (class_of h) h.protected ≡ 6 + side_size_of (class_of h)
 overhead-protected h is =
     overhead-is (class_of h) h.protected ∙ ap (λ b. side_place b + side_size_of (class_of h)) is
 
--- in an unprotected frame it is four bytes and the side information
+-- in an unprotected frame these are four bytes and the side information
 pub overhead-unprotected : (h : HeaderFields) → h.protected ≡ false
     → overhead_of (class_of h) h.protected ≡ 4 + side_size_of (class_of h)
 overhead-unprotected h is =
@@ -97,12 +97,12 @@ place-most false = omega arith
 pub overhead-least : (c : ClassFields) (protected : Bool) → 4 ≤ overhead_of c protected
 overhead-least c protected = omega (arith, overhead-is c protected, place-least protected)
 
--- before the area are at most six bytes and the side information
+-- there are at most six bytes and the side information before the area
 pub overhead-most : (c : ClassFields) (protected : Bool)
     → overhead_of c protected ≤ 6 + side_size_of c
 overhead-most c protected = omega (arith, overhead-is c protected, place-most protected)
 
--- before the area are at most 38 bytes
+-- there are at most 38 bytes before the area
 pub overhead-few : (c : ClassFields) (protected : Bool) → overhead_of c protected ≤ 38
 overhead-few c protected = omega (arith, overhead-most c protected, side_size-small c)
 
@@ -118,33 +118,34 @@ pub room-protected : (h : HeaderFields) (frame : List ℕ) → h.protected ≡ t
 room-protected h frame is room =
     omega (arith, room, overhead-is (class_of h) h.protected, ap side_place is)
 
--- ---- a frame with other side information, by its parts
+-- ---- the parts of a frame with other side information
 
 -- a check word has two bytes
 pub length-word : (n : ℕ) → length (bytes (bits_of 16 n)) ≡ 2
 length-word n = length-bytes 2 (bits_of 16 n) (length-bits_of 16 n)
 
--- a protected frame gets side information and the right check word, and keeps its header and area
+-- a protected frame gets the side information and the right check word, and keeps its header and
+-- area
 pub frame_with-protected : (h : HeaderFields) (s : Side) (frame : List ℕ) → h.protected ≡ true
     → frame_with_side h s frame ≡ take 4 frame ++ (bytes (bits_of 16 (check_word_of h s))
     ++ (bytes (side_bits (class_of h) s) ++ drop (6 + side_size_of (class_of h)) frame))
 unfolding frame_with_side overhead_of
 frame_with-protected h s frame is = rw is refl
 
--- an unprotected frame gets side information, and keeps its header and area
+-- an unprotected frame gets the side information, and keeps its header and area
 pub frame_with-unprotected : (h : HeaderFields) (s : Side) (frame : List ℕ) → h.protected ≡ false
     → frame_with_side h s frame ≡ take 4 frame
     ++ (bytes (side_bits (class_of h) s) ++ drop (4 + side_size_of (class_of h)) frame)
 unfolding frame_with_side overhead_of
 frame_with-unprotected h s frame is = rw is refl
 
--- the header and the check word, where there is one, are what is before the side information
+-- the header and the check word, where there is one, are the bytes before the side information
 pub length-word_part : (h : HeaderFields) (s : Side) (b : Bool)
     → length (cond b (bytes (bits_of 16 (check_word_of h s))) []) + 4 ≡ side_place b
 length-word_part h s true = ap (λ n. n + 4) (length-word (check_word_of h s))
 length-word_part h s false = refl
 
--- what a frame with other side information consists of
+-- the parts of a frame with other side information
 record IsMade (h : HeaderFields) (s : Side) (frame : List ℕ) : Type 0 where
   front : length (take 4 frame) ≡ 4
   word : length (crc_part h s) + 4 ≡ side_place h.protected
@@ -192,14 +193,14 @@ length-frame_with h s frame class shaped room =
       length-drop (overhead_of (class_of h) h.protected) frame,
     )
 
--- its header stays
+-- a frame with other side information keeps its header
 pub header-frame_with : (h : HeaderFields) (s : Side) (frame : List ℕ) → HasRoom h frame
     → take 4 (frame_with_side h s frame) ≡ take 4 frame
 unfolding frame_with_side
 header-frame_with h s frame room =
     take_at (take 4 frame) _ 4 (omega (arith, room-least h frame room, length-take 4 frame))
 
--- the front of a frame with other side information, up to its area
+-- the bytes before the area of a frame with other side information
 front_length : (h : HeaderFields) (s : Side) (frame : List ℕ) → IsMade h s frame
     → length ((take 4 frame ++ crc_part h s) ++ bytes (side_bits (class_of h) s))
     ≡ overhead_of (class_of h) h.protected
@@ -214,7 +215,7 @@ front_length h s frame is =
       length-append (take 4 frame) (crc_part h s),
     )
 
--- its area stays
+-- a frame with other side information keeps its area
 pub area-frame_with : (h : HeaderFields) (s : Side) (frame : List ℕ) → IsClass (class_of h)
     → IsShaped s → HasRoom h frame
     → drop (overhead_of (class_of h) h.protected) (frame_with_side h s frame)
@@ -227,7 +228,7 @@ area-frame_with h s frame class shaped room =
 
 -- ---- what is read back
 
--- its side information has the bytes of what was put in
+-- the side information of the frame is the bytes that were put in
 pub side_part-frame_with : (h : HeaderFields) (s : Side) (frame : List ℕ) → IsClass (class_of h)
     → IsShaped s → HasRoom h frame
     → side_part h (frame_with_side h s frame) ≡ bytes (side_bits (class_of h) s)
@@ -245,7 +246,7 @@ side_part-frame_with h s frame class shaped room =
     (drop_at front (part ++ rest) (side_place h.protected) place)
     ∙ take_at part rest (side_size_of (class_of h)) is.part
 
--- what was put into it is read from it
+-- the side information that was put in is read from the frame
 pub side_in-frame_with : (h : HeaderFields) (s : Side) (frame : List ℕ) → IsClass (class_of h)
     → IsShaped s → SideFits (class_of h) s → HasRoom h frame
     → side_in h (frame_with_side h s frame) ≡ s
@@ -299,7 +300,7 @@ word_said-frame_with h s frame is room =
 
 -- ---- a frame whose side information is put in again
 
--- of two side informations put in one after the other the last counts
+-- if side information is put into a frame twice, the last one counts
 pub frame_with-again : (h : HeaderFields) (s t : Side) (frame : List ℕ) → IsClass (class_of h)
     → IsShaped t → HasRoom h frame
     → frame_with_side h s (frame_with_side h t frame) ≡ frame_with_side h s frame
@@ -334,7 +335,7 @@ word_cases h s frame true is all room right =
     ∙ take-append-drop 2 (drop 4 frame)
 word_cases h s frame false is all room right = refl
 
--- the side information that is read from a frame has the bytes that are there
+-- the side information that is read from a frame is written as the bytes that are there
 pub side_there : (h : HeaderFields) (frame : List ℕ) → IsClass (class_of h) → AreBytes frame
     → HasRoom h frame → bytes (side_bits (class_of h) (side_in h frame)) ≡ side_part h frame
 unfolding side_in side_part
@@ -354,7 +355,8 @@ side_there h frame class all room =
     ∙ bytes-bits part (AreBelow-take 256 (side_size_of c) behind
     (AreBelow-drop 256 (side_place h.protected) frame all))
 
--- a frame stays as it is when its own side information is put in, if its check word is right
+-- putting a frame's own side information into it doesn't change the frame, if its check word is
+-- right
 pub frame_with-own : (h : HeaderFields) (frame : List ℕ) → IsClass (class_of h) → AreBytes frame
     → HasRoom h frame → IsRight h frame → frame_with_side h (side_in h frame) frame ≡ frame
 unfolding frame_with_side side_part
@@ -372,19 +374,19 @@ frame_with-own h frame class all room right =
     ∙ ap (λ (l : List ℕ). take 4 frame ++ l) (word_cases h s frame h.protected refl all room right)
     ∙ take-append-drop 4 frame
 
--- the side information read from a frame has lists as long as the arrays
+-- the lists in side information read from a frame are as long as the arrays
 pub shaped-side_in : (h : HeaderFields) (frame : List ℕ) → IsShaped (side_in h frame)
 unfolding side_in
 shaped-side_in h frame = IsShaped-side_at (class_of h) (bits (side_part h frame))
 
--- its fields are within their bits
+-- the fields of side information read from a frame are within their bits
 pub fits-side_in : (h : HeaderFields) (frame : List ℕ) → IsClass (class_of h)
     → SideFits (class_of h) (side_in h frame)
 unfolding side_in
 fits-side_in h frame class = SideFits-side_at (class_of h) class (bits (side_part h frame))
     (AreBits-bits (side_part h frame))
 
--- ---- a frame that more bytes follow
+-- ---- a frame with more bytes after it
 
 take-drop-take : (size from len : ℕ) (xs : List ℕ) → from + size ≤ len
     → take size (drop from (take len xs)) ≡ take size (drop from xs)
@@ -394,14 +396,15 @@ take-drop-take size (suc from) (suc len) [] le = refl
 take-drop-take size (suc from) (suc len) (x ∷ xs) le =
     take-drop-take size from len xs (omega (arith, le))
 
--- what is between two offsets, and what is from the later on, is all from the earlier on
+-- the bytes between two offsets, followed by those from the later offset on, are the bytes from the
+-- earlier offset on
 pub drop-take-append : (m n : ℕ) (xs : List ℕ) → m ≤ n → drop m (take n xs) ++ drop n xs ≡ drop m xs
 drop-take-append zero n xs le = take-append-drop n xs
 drop-take-append (suc m) zero xs le = absurd (omega (arith, le))
 drop-take-append (suc m) (suc n) [] le = refl
 drop-take-append (suc m) (suc n) (x ∷ xs) le = drop-take-append m n xs (omega (arith, le))
 
--- the side information is the same in any first bytes of the frame that hold it
+-- the side information is the same in any first bytes of the frame that contain it
 pub side_in-take : (h : HeaderFields) (len : ℕ) (xs : List ℕ)
     → overhead_of (class_of h) h.protected ≤ len → side_in h (take len xs) ≡ side_in h xs
 unfolding side_in side_part
@@ -410,7 +413,7 @@ side_in-take h len xs room =
     (take-drop-take (side_size_of (class_of h)) (side_place h.protected) len xs
     (omega (arith, room, overhead-is (class_of h) h.protected)))
 
--- so is the check word in any six bytes or more
+-- the check word is the same in any first bytes of the frame, at least six
 pub word_said-take : (len : ℕ) (xs : List ℕ) → 6 ≤ len → stored_crc (take len xs) ≡ stored_crc xs
 unfolding stored_crc
 word_said-take len xs room =

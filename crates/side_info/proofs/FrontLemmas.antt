@@ -1,5 +1,5 @@
--- A frame's header and side information as bytes: what
--- they are read as, and that they are written back.
+-- A frame's header and side information as bytes: what they are read as, and that they are written
+-- back.
 use Rattle.std.proofs.Common.{ap, append-nil, append_assoc, ap₂, arith, Bool, cond, drop, false}
 use Rattle.std.proofs.Common.{length, length-append, List, refl, replicate, subst, sym, take}
 use Rattle.std.proofs.Common.{take-append-drop, true, ℕ, [], ◌*◌, ◌++◌, ◌+◌, ◌<◌, ◌==◌, ◌^◌, ◌∙◌}
@@ -51,12 +51,12 @@ module _ (h : HeaderFields) (known : IsHeader h) (four part room : List ℕ) (he
   written_back = side_bits-side_at (class_of h) (IsClass-class_of h known) (bits part)
       (AreBits-bits part) (length-bits part ∙ ap (λ n. 8 * n) size)
 
-  -- their fields are that header and that side information
+  -- the fields of these bytes are that header and that side information
   pub written_fields : front_view (front_with four room)
       ≡ record { header = h; side = side_at (class_of h) (bits part) }
   written_fields i = record { header = header_is i; side = side_is i }
 
-  -- they are the bytes that these fields are written as
+  -- these bytes are the ones that their fields are written as
   pub are_written : AreFrontBytes (front_with four room)
   are_written =
       let header : bytes (header_bits (header_of (front_with four room))) ≡ four =
@@ -77,13 +77,13 @@ pub header_read : (a : Inside) (h : HeaderFields) → header_at a.header ≡ goo
 unfolding header_of
 header_read a h is = header_fields-header_at a.header h is
 
--- the side information of a front is that of its class in its own bytes
+-- the side information of a front is the side information of its class in its own bytes
 pub side_read : (a : Inside)
     → side_of a ≡ side_at (class_of (header_of a)) (bits (own_side (class_of (header_of a)) a.side))
 unfolding side_of
 side_read a = refl
 
--- its fields that are read by themselves
+-- the slot is read from its groups of bits
 pub slot_read : (a : Inside) → (header_of a).slot
     ≡ record { rate_index = group 16 4 (bits a.header); padding = group 22 1 (bits a.header) == 1 }
 unfolding header_of header_fields
@@ -109,7 +109,7 @@ pub mode_extension_read : (a : Inside) → (header_of a).mode_extension ≡ grou
 unfolding header_of header_fields
 mode_extension_read a = refl
 
--- the fields of two headers whose bits are alike, and their bits where the fields are
+-- the fields of headers whose bits are alike are the same but for slot and mode extension
 pub fields-alike : (bs cs : List ℕ) → AreHeadersAlike bs cs
     → header_fields bs ≡ header_like (header_fields cs) (header_fields bs)
 unfolding header_fields
@@ -126,7 +126,7 @@ fields-alike bs cs same = λ i. record {
   emphasis = same.emphasis i;
 }
 
--- a header with the slot and the mode extension of another has bits alike its own
+-- a header with the slot and the mode extension of another has bits that are alike
 pub alike-fields : (h other : HeaderFields)
     → AreHeadersAlike (header_bits (header_like h other)) (header_bits h)
 unfolding header_bits header_numbers group_bits group bits_of
@@ -141,7 +141,7 @@ alike-fields h other = record {
   emphasis = refl;
 }
 
--- what is known of bytes that are written so
+-- what is known of a front whose bytes are the ones that its fields are written as
 pub record Written (a : Inside) : Type 0 where
   pub head : bits a.header ≡ header_bits (header_of a)
   pub octets : AreBytes a.header
@@ -155,20 +155,20 @@ pub record Written (a : Inside) : Type 0 where
   pub rest : drop (side_size_of (class_of (header_of a))) a.side
       ≡ drop (side_size_of (class_of (header_of a))) (replicate 32 0)
 
--- the side information of a front has lists as long as the arrays
+-- the lists in the side information of a front are as long as the arrays
 pub shaped : (a : Inside) → IsShaped (side_of a)
 unfolding side_of
 shaped a =
     IsShaped-side_at (class_of (header_of a)) (bits (own_side (class_of (header_of a)) a.side))
 
--- its fields are within their bits
+-- the fields of the side information of a front are within their bits
 pub fits : (a : Inside) → AreFrontBytes a → SideFits (class_of (header_of a)) (side_of a)
 unfolding side_of
 fits a w = SideFits-side_at (class_of (header_of a)) (IsClass-class_of (header_of a) w.known)
     (bits (own_side (class_of (header_of a)) a.side))
     (AreBits-bits (own_side (class_of (header_of a)) a.side))
 
--- all that is known of a front whose bytes are those that its fields are written as
+-- what is known of a front holds if its bytes are the ones that its fields are written as
 pub written : (a : Inside) → AreFrontBytes a → Written a
 unfolding own_side padded_side
 written a w =
@@ -200,7 +200,7 @@ written a w =
           ∙ ap (λ k. drop k (replicate 32 0)) size;
     }
 
--- the big-endian number of the four bytes has their bits
+-- the big-endian number of the four bytes has the bits of these bytes
 pub word_bits : (a : Inside) → AreFrontBytes a → (word : ℕ) → word ≡ from_be_bytes w32 a.header
     → bits_of 32 word ≡ bits a.header
 word_bits a w word is =
@@ -215,14 +215,14 @@ pub word_fields : (a : Inside) → AreFrontBytes a → (word : ℕ) → word ≡
 unfolding header_of
 word_fields a w word is = ap header_fields (word_bits a w word is)
 
--- as many of the 32 bytes as the class has are its side information
+-- the side information is as many of the 32 bytes as the class has
 pub written_size : (a : Inside) → AreFrontBytes a
     → length (take (side_size_of (class_of (header_of a))) a.side)
     ≡ side_size_of (class_of (header_of a))
 unfolding own_side
 written_size a w = (written a w).size
 
--- other side bytes in place of these have zeros after them too
+-- other side bytes of the same length are followed by zeros too
 pub padded-other : (a : Inside) → AreFrontBytes a → (part : List ℕ)
     → length part ≡ side_size_of (class_of (header_of a))
     → part ++ drop (side_size_of (class_of (header_of a))) a.side ≡ padded_side part
@@ -242,12 +242,12 @@ padded-own a w =
 module _ (a : Inside) (w : AreFrontBytes a) (h : HeaderFields) (known : IsHeader h) (four : List ℕ)
     (head : bits four ≡ header_bits h) (octets : AreBytes four)
     (same : class_of h ≡ class_of (header_of a)) where
-  -- they are the bytes that their fields are written as
+  -- these bytes are the ones that their fields are written as
   pub header_written : AreFrontBytes (front_with four a.side)
   header_written = are_written h known four (own_side (class_of (header_of a)) a.side) a.side head
       octets ((written a w).size ∙ ap side_size_of (sym same)) (written a w).all (padded-own a w)
 
-  -- their fields are that header and the side information as before
+  -- their fields are that header and the side information from before
   pub header_fields-written : front_view (front_with four a.side)
       ≡ record { header = h; side = side_of a }
   header_fields-written =
@@ -259,13 +259,13 @@ module _ (a : Inside) (w : AreFrontBytes a) (h : HeaderFields) (known : IsHeader
 -- other side information after the same header
 module _ (a : Inside) (w : AreFrontBytes a) (part : List ℕ)
     (size : length part ≡ side_size_of (class_of (header_of a))) (all : AreBytes part) where
-  -- they are the bytes that their fields are written as
+  -- these bytes are the ones that their fields are written as
   pub side_written : AreFrontBytes
       (front_with a.header (part ++ drop (side_size_of (class_of (header_of a))) a.side))
   side_written = are_written (header_of a) w.known a.header part _
       (written a w).head (written a w).octets size all (padded-other a w part size)
 
-  -- their fields are the header as before and that side information
+  -- their fields are the header from before and that side information
   pub side_fields-written : front_view
       (front_with a.header (part ++ drop (side_size_of (class_of (header_of a))) a.side))
       ≡ record { header = header_of a; side = side_at (class_of (header_of a)) (bits part) }
@@ -273,7 +273,7 @@ module _ (a : Inside) (w : AreFrontBytes a) (part : List ℕ)
       (written a w).head (written a w).octets size all (padded-other a w part size)
 
 -- ---- main_data_begin
--- main_data_begin takes the first bits, and nothing else stands in them
+-- main_data_begin takes up the first bits and nothing more
 abbrev BeginsSide : ClassFields → Type 0
 BeginsSide c = (s : Side) (begin : ℕ) → side_bits c (record s { main_data_begin = begin })
     ≡ bits_of (begin_width c.version) begin ++ drop (begin_width c.version) (side_bits c s)
@@ -308,7 +308,7 @@ pub begin_width-is : (c : ClassFields) → IsClass c → begin_width c.version �
 begin_width-is = each_class (λ c. begin_width c.version ≡ front_width c 0) (λ f. refl) (λ f. refl)
     (λ f. refl) (λ f. refl) (λ f channels two. two)
 
--- with another main_data_begin all fields still fit
+-- all fields still fit with another main_data_begin
 pub fits-begin : (c : ClassFields) (s : Side) (begin : ℕ) → SideFits c s
     → begin < 2 ^ front_width c 0 → SideFits c (record s { main_data_begin = begin })
 fits-begin c s begin fit small = record {
@@ -327,7 +327,7 @@ shaped-begin s begin shape = record {
   second = shape.second;
 }
 
--- bits that begin with another main_data_begin are those of the same fields with it
+-- changing the bits of main_data_begin changes this field alone
 pub side_at-begin : (c : ClassFields) → IsClass c → (s : Side) (begin : ℕ) (old new : List ℕ)
     → IsShaped s → SideFits c s → begin < 2 ^ front_width c 0 → old ≡ side_bits c s
     → new ≡ bits_of (begin_width c.version) begin ++ drop (begin_width c.version) old
@@ -339,12 +339,12 @@ side_at-begin c class s begin old new shape fit small was is =
     ∙ side_at-side_bits c class (record s { main_data_begin = begin }) (shaped-begin s begin shape)
     (fits-begin c s begin fit small)
 
--- ---- what is before the area, with other bytes after it
+-- ---- the bytes before the area, with other bytes after them
 
 four_long : (h : HeaderFields) (four : List ℕ) → four ≡ bytes (header_bits h) → length four ≡ 4
 four_long h four is = ap length is ∙ length-bytes 4 (header_bits h) (length-header_bits h)
 
--- without a check word the header alone is before the side information
+-- without a check word, only the header is before the side information
 pub head-alone : (h : HeaderFields) (s : Side) (four rest : List ℕ) → four ≡ bytes (header_bits h)
     → h.protected ≡ false → take 4 (four ++ rest) ≡ bytes (header_bits h) ++ crc_part h s
 head-alone h s four rest is open_frame =
@@ -354,7 +354,7 @@ head-alone h s four rest is open_frame =
     ∙ ap (λ b. bytes (header_bits h) ++ cond b (bytes (bits_of 16 (check_word_of h s))) [])
     (sym open_frame)
 
--- with one the check word is put after the header
+-- a check word is put right after the header
 pub head-word : (h : HeaderFields) (s : Side) (word : ℕ) (four frame new : List ℕ)
     → four ≡ bytes (header_bits h) → h.protected ≡ true → word ≡ check_word_of h s →
     new
@@ -381,7 +381,7 @@ head-word h s word four frame new is protected right put =
       size,
     ))
 
--- the first of the bytes that were put after others
+-- the first n bytes are the front and the part that was put after it
 pub put-first : (n : ℕ) (front part zeros rest new : List ℕ)
     → new ≡ front ++ ((part ++ zeros) ++ rest) → length front + length part ≡ n
     → take n new ≡ front ++ part
@@ -419,7 +419,7 @@ padding_put : (h : HeaderFields) (padding : Bool)
 unfolding header_bits group_bits header_numbers bits_of
 padding_put h padding = refl
 
--- bit rate index and padding bit are put in turn
+-- putting in bit rate index and then padding bit puts in the slot
 pub slot_put : (h : HeaderFields) (slot : SlotFields) (old middle new : List ℕ)
     → old ≡ header_bits h → middle ≡ take 16 old ++ bits_of 4 slot.rate_index ++ drop 20 old
     → new ≡ take 22 middle ++ bits_of 1 (flag_of slot.padding) ++ drop 23 middle

@@ -1,4 +1,4 @@
--- Gains put in place: what that does to the bits of granules, of side information, of a frame.
+-- Gains put in place: how that changes the bits of granules, of side information, of a frame.
 use Rattle.std.proofs.Common.{ap, append-nil, append_assoc, ap₂, arith, Bool, cond, drop, eqb}
 use Rattle.std.proofs.Common.{false, get_or, length, length-append, List, refl, sym, take}
 use Rattle.std.proofs.Common.{take-append-drop, true, ℕ, [], ◌*◌, ◌++◌, ◌+◌, ◌∙◌, ◌∷◌, ◌≡◌, ◌≤◌}
@@ -25,7 +25,7 @@ regroup b f x r a =
     ap (λ l. b ++ l) (append_assoc f (x ++ r) a ∙ ap (λ l. f ++ l) (append_assoc x r a))
     ∙ sym (append_assoc b f (x ++ (r ++ a)))
 
--- eight bits put in place of others
+-- eight bits put in place of eight others
 put_between : (b f x r a y bs : List ℕ) (at : ℕ) → length b ≡ at → length f ≡ 21 → length x ≡ 8
     → bs ≡ b ++ ((f ++ (x ++ r)) ++ a)
     → take (at + 21) bs ++ y ++ drop (at + 21 + 8) bs ≡ b ++ ((f ++ (y ++ r)) ++ a)
@@ -39,7 +39,7 @@ put_between b f x r a y bs at lb lf lx e =
     ∙ drop_at ((b ++ f) ++ x) (r ++ a) (at + 21 + 8) more in
     ap₂ (λ t d. t ++ y ++ d) taken left ∙ append_assoc (b ++ f) y (r ++ a) ∙ sym (regroup b f y r a)
 
--- to put eight bits at the 21st bit of a granule is to change its global_gain alone
+-- putting eight bits at the 21st bit of a granule changes its global_gain alone
 pub gain_put : (version : Version) (g : Granule) (gain at : ℕ) (before after old new : List ℕ)
     → new ≡ take (at + 21) old ++ bits_of 8 gain ++ drop (at + 21 + 8) old → length before ≡ at
     → old ≡ before ++ (granule_bits version g ++ after)
@@ -58,13 +58,13 @@ gain_put version g gain at before after old new put l e =
     (sym (bits-parts version (record g { global_gain = gain })))
 
 -- ---- the channels of a granule
--- what a gain that is put does to bits
+-- the bits of any granule that begins at bit `at` get this gain
 abbrev pub PutsGain : ℕ → ℕ → List ℕ → List ℕ → Type 0
 PutsGain gain at old new = (version : Version) (g : Granule) (before after : List ℕ)
     → length before ≡ at → old ≡ before ++ (granule_bits version g ++ after)
     → new ≡ before ++ (granule_bits version (record g { global_gain = gain }) ++ after)
 
--- so the one channel of a granule gets its gain
+-- the one channel of a granule gets its gain
 pub one_put : (version : Version) (channels at : ℕ) (gs hs : List Granule)
     (before after old new : List ℕ) → channels ≡ 1 → length hs ≡ 2
     → PutsGain (get_or hs 0 no_granule).global_gain at old new → length gs ≡ 2 → length before ≡ at
@@ -79,7 +79,7 @@ one_put version channels at gs hs before after old new one two put l b e alike =
     ∙ ap (λ g. before ++ (granule_bits version g ++ after)) (alike 0)
     ∙ ap (λ bs. before ++ (bs ++ after)) (sym is)
 
--- so two channels get theirs, one after the other
+-- both channels of a granule get their gains, the first and then the second
 pub both_put : (version : Version) (channels at next : ℕ) (gs hs : List Granule)
     (before after old middle new : List ℕ) → channels ≡ 2 → length hs ≡ 2
     → next ≡ at + granule_size version → PutsGain (get_or hs 0 no_granule).global_gain at old middle
@@ -133,7 +133,7 @@ length-front : (version : Version) (channels m p : ℕ) (cs : List ℕ) → leng
 length-front version channels m p cs two = length-spelled (front_widths_of version channels)
     (m ∷ p ∷ cs) (omega (arith, four_widths version channels))
 
--- the granules of a frame get their gains one after the other
+-- the granules of a frame get their gains in order
 pub all_put_gains : (c : ClassFields) → IsClass c → (t : Side) → IsShaped t
     → (old middle new : List ℕ) (begin next : ℕ) → begin ≡ front_size c.version c.channels
     → next ≡ front_size c.version c.channels + c.channels * granule_size c.version
@@ -171,7 +171,7 @@ all_put_gains c class t t_shaped old middle new begin next begin_is next_is firs
     ∙ sym (side_bits-parts c t t_shaped.granules)
 
 -- ---- a frame
--- the bytes at a place, where their bits are known
+-- the bytes from a place on, where the bits of the first of them are known
 bytes_there : (place size : ℕ) (frame bs : List ℕ) → AreBytes (drop place frame)
     → bits (take size (drop place frame)) ≡ bs
     → drop place frame ≡ bytes bs ++ drop (place + size) frame
@@ -193,7 +193,8 @@ gains-unprotected h s old new is all front behind side =
     (AreBelow-drop 256 4 new all) side ∙ ap (λ ys. bytes (side_bits (class_of h) s) ++ ys) behind)
     ∙ sym (frame_with-unprotected h s old is)
 
--- so is a protected one, once the check word is put in too
+-- a protected frame whose side bytes and check word were replaced is the frame with this side
+-- information
 pub gains-protected : (h : HeaderFields) (s : Side) (old middle new : List ℕ) → h.protected ≡ true
     → AreBytes (drop 6 middle) → take 6 middle ≡ take 6 old
     → drop (6 + side_size_of (class_of h)) middle ≡ drop (6 + side_size_of (class_of h)) old

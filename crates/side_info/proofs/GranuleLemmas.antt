@@ -87,7 +87,7 @@ numbers_same version (a ∷ b ∷ c ∷ d ∷ e ∷ f ∷ g ∷ h ∷ k ∷ []) 
     ∷ flag_of-is_set h fit.1.1.1.1.1.1.1.0 i ∷ flag_of-is_set k fit.1.1.1.1.1.1.1.1.0 i ∷ []
 numbers_same version ns fit l = absurd (omega arith)
 
--- numbers within the widths are those of the granule that they give
+-- numbers within the widths are the numbers of the granule that they give
 pub numbers-granule_of : (version : Version) (ns : List ℕ) → NumbersFit (granule_widths version) ns
     → granule_numbers (granule_of ns) ≡ ns
 numbers-granule_of version ns fit =
@@ -107,7 +107,7 @@ fields_fit version (a ∷ b ∷ c ∷ d ∷ e ∷ f ∷ g ∷ h ∷ k ∷ []) fi
 }
 fields_fit version ns fit l = absurd (omega arith)
 
--- and that granule's fields are within their bits
+-- the fields of the granule that they give are within their bits
 pub GranuleFits-granule_of : (version : Version) (ns : List ℕ)
     → NumbersFit (granule_widths version) ns → GranuleFits version (granule_of ns)
 GranuleFits-granule_of version ns fit =
@@ -119,7 +119,7 @@ pub length-granule_numbers : (g : Granule) → length (granule_numbers g) ≡ 9
 unfolding granule_numbers
 length-granule_numbers g = refl
 
--- a granule is written in as many bits as the version gives it
+-- a granule is written in as many bits as the version has for it
 pub length-granule_bits : (version : Version) (g : Granule)
     → length (granule_bits version g) ≡ granule_size version
 unfolding granule_bits
@@ -131,7 +131,7 @@ pub AreBits-granule_bits : (version : Version) (g : Granule) → AreBits (granul
 unfolding granule_bits
 AreBits-granule_bits version g = AreBits-spelled (granule_widths version) (granule_numbers g)
 
--- a granule that was read has its fields within their bits
+-- the fields of a granule that was read are within their bits
 pub GranuleFits-granule_at : (version : Version) (bs : List ℕ) → AreBits bs
     → GranuleFits version (granule_at version bs)
 unfolding granule_at
@@ -157,14 +157,14 @@ granule_bits-granule_at version bs all h =
     (numbers_at (granule_widths version) bs) (Fits-numbers_at (granule_widths version) bs all))
     ∙ spelled-numbers_at_front (granule_widths version) bs all h
 
--- ---- granules one after another
--- so many granules, from the nth on
+-- ---- granules in order
+-- `count` granules, from the nth on
 unfoldable pub granules_from : Version → ℕ → ℕ → List ℕ → List Granule
 granules_from version n zero bs = []
 granules_from version n (suc count) bs =
     nth_granule version n bs ∷ granules_from version (n + 1) count bs
 
--- some granules take as many times the bits of one
+-- granules take up as many bits as one granule, times their number
 pub length-flat : (version : Version) (gs : List Granule)
     → length (flat_map (granule_bits version) gs) ≡ length gs * granule_size version
 length-flat version [] = omega arith
@@ -211,7 +211,7 @@ nth_granule-flat version (g ∷ gs) (suc n) more h fits =
     (flat_map (granule_bits version) gs ++ more) (n * granule_size version))
     ∙ nth_granule-flat version gs n more (omega arith) fits
 
--- bits are those that the granules read from them spell
+-- bits are the ones that the granules read from them spell
 pub flat-granules_from : (version : Version) (n count : ℕ) (bs : List ℕ) → AreBits bs
     → (n + count) * granule_size version ≤ length bs
     → flat_map (granule_bits version) (granules_from version n count bs)
@@ -238,7 +238,7 @@ flat-granules_from version n (suc count) bs all h =
     ∙ ap (λ k. take k (drop (n * size) bs)) (add_comm size (count * size) ∙ sym more)
 
 -- ---- another gain
--- a granule with another gain has another number in its third group alone
+-- a granule with another gain differs in its third group alone
 pub bits-parts : (version : Version) (g : Granule)
     → granule_bits version g ≡ group_bits (12 ∷ 9 ∷ []) (g.part2_3_length ∷ g.big_values ∷ [])
     ++ (bits_of 8 g.global_gain

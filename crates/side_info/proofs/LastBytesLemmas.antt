@@ -1,5 +1,5 @@
--- The last bytes of side information: at least 30 bits are after the last global_gain
--- (ISO/IEC 11172-3 and 13818-3, 2.4.1.7), so that they are the same whatever the gains are.
+-- The last bytes of side information: at least 30 bits are after the last global_gain (ISO/IEC
+-- 11172-3 and 13818-3, 2.4.1.7), so they are the same whatever the gains are.
 pub use Rattle.side_info.specs.Granule.{AreGranulesAlike}
 use Rattle.std.proofs.Common.{ap, append-nil, append_assoc, ap₂, arith, drop, length, length-append}
 use Rattle.std.proofs.Common.{List, refl, sum, sym, take, ℕ, [], ◌*◌, ◌++◌, ◌+◌, ◌-◌, ◌∙◌, ◌∷◌, ◌≡◌}
@@ -21,7 +21,7 @@ use Rattle.side_info.specs.declared.{granule.Granule.Granule, side.Side.Side}
 
 -- ---- after the gain of a granule
 
--- the groups after the first three, which have 29 bits
+-- the bits after the first three groups, which have 29 bits
 behind_three : (more ms : List ℕ) (a b gain : ℕ)
     → drop 29 (group_bits (12 ∷ 9 ∷ 8 ∷ more) (a ∷ b ∷ gain ∷ ms)) ≡ group_bits more ms
 behind_three more ms a b gain =
@@ -30,7 +30,7 @@ behind_three more ms a b gain =
     ∙ drop_at front (group_bits more ms) 29
     (length-spelled (12 ∷ 9 ∷ 8 ∷ []) (a ∷ b ∷ gain ∷ []) refl)
 
--- with another gain
+-- the bits after global_gain don't change with another gain
 behind_gain : (version : Version) (g : Granule) (gain : ℕ)
     → drop 29 (granule_bits version (record g { global_gain = gain }))
     ≡ drop 29 (granule_bits version g)
@@ -38,13 +38,13 @@ unfolding granule_bits granule_numbers
 behind_gain version g gain = behind_three _ _ g.part2_3_length g.big_values gain
     ∙ sym (behind_three _ _ g.part2_3_length g.big_values g.global_gain)
 
--- the bits after global_gain are the same
+-- the bits after global_gain are the same in granules that differ in no other field
 pub bits_behind_gain : (version : Version) (g h : Granule) → AreGranulesAlike g h
     → drop 29 (granule_bits version h) ≡ drop 29 (granule_bits version g)
 bits_behind_gain version g h alike =
     sym (ap (λ k. drop 29 (granule_bits version k)) alike) ∙ behind_gain version g h.global_gain
 
--- the last two bytes of a granule's bits are among them
+-- the last two bytes of a granule's bits are after global_gain
 last_16 : (version : Version) (g h : Granule) → AreGranulesAlike g h
     → drop (granule_size version - 16) (granule_bits version h)
     ≡ drop (granule_size version - 16) (granule_bits version g)
@@ -63,7 +63,7 @@ last_16 TwoFive g h alike =
 abbrev pub last_granule : ClassFields → Side → Granule
 last_granule c s = granule_in s (granules_of c.version - 1) (c.channels - 1)
 
--- the bits of the granule after the fields before the granules and other granules
+-- the bits of a granule that is after the fields before the granules and other granules
 behind_others : (c : ClassFields) (ns : List ℕ) (gs : List Granule) (last : Granule)
     → length ns ≡ length (front_widths c) → drop
     (sum (front_widths c) + length gs * granule_size c.version) (group_bits (front_widths c) ns
@@ -113,7 +113,7 @@ least_size =
     (λ f. (omega arith, omega arith)) (λ f. (omega arith, omega arith))
     (λ f. (omega arith, omega arith)) (λ f. (omega arith, omega arith)) (λ f channels h. h)
 
--- the same bits, where the last granules differ in no field but global_gain
+-- the last two bytes' bits are the same if the last granules differ in no field but global_gain
 last_bits : (c : ClassFields) → IsClass c → (s t : Side) → IsShaped s → IsShaped t
     → AreGranulesAlike (last_granule c s) (last_granule c t)
     → drop (8 * (side_size_of c - 2)) (side_bits c t)
@@ -130,7 +130,7 @@ last_bits c class s t s_shaped t_shaped alike =
     last t t_shaped ∙ last_16 c.version (last_granule c s) (last_granule c t) alike
     ∙ sym (last s s_shaped)
 
--- and with them the last two bytes are the same
+-- the last two bytes are the same if the last granules differ in no field but global_gain
 pub last_bytes : (c : ClassFields) → IsClass c → (s t : Side) → IsShaped s → IsShaped t
     → AreGranulesAlike (last_granule c s) (last_granule c t)
     → drop (side_size_of c - 2) (bytes (side_bits c t))
@@ -161,8 +161,8 @@ behind_part h n frame within =
     ∙ sym (drop-take-append n size (drop place frame) within)
     ∙ ap (λ (l : List ℕ). drop n (take size (drop place frame)) ++ l) area
 
--- From two bytes before its area on, a frame stays as it is if it gets side
--- information whose last granule and channel differs in no field but global_gain.
+-- From two bytes before its area on, a frame stays as it is if it gets side information whose last
+-- granule and channel differ in no field but global_gain.
 pub last_bytes-frame_with : (h : HeaderFields) (s : Side) (frame : List ℕ) → IsClass (class_of h)
     → AreBytes frame → IsShaped s → HasRoom h frame
     → AreGranulesAlike (last_granule (class_of h) (side_in h frame)) (last_granule (class_of h) s)

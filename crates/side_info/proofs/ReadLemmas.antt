@@ -76,7 +76,7 @@ module _ (bs : List ℕ) (begin private first second n : ℕ) (all : AreBits bs)
       ∙ sym (numbers_at-number_front widths bs all (omega (arith, whole, enough))))
 
 -- ---- a granule, from three numbers
--- a granule has 54 bits, and those of scalefac_compress and preflag
+-- a granule has 54 bits, plus the bits of scalefac_compress and preflag
 pub size-is : (version : Version)
     → granule_size version ≡ 54 + compress_width version + preflag_width version
 size-is One = refl
@@ -160,7 +160,7 @@ module _ (version : Version) (bs : List ℕ) (at first middle last : ℕ) (all :
 
 -- ---- two of a kind
 
--- a list of two, with both set, is the two that were set
+-- a list of two whose two members are both set is the two that were set
 pub set_both : {A : Type 0} (xs : List A) (first second : A) → length xs ≡ 2
     → slice_set (slice_set xs 0 first) 1 second ≡ first ∷ second ∷ []
 set_both (x ∷ y ∷ []) first second two = refl
@@ -172,7 +172,7 @@ pub pair_of_one : (version : Version) (channels : ℕ) (bs : List ℕ) (first : 
     ≡ granule_at version bs → channels ≡ 1 → first ∷ no_granule ∷ [] ≡ pair_at version channels bs
 pair_of_one version channels bs first is one = rw (one, is) refl
 
--- two channels are two granules one after the other
+-- two channels are two granules, the second right after the first
 pub pair_of_two : (version : Version) (channels at width : ℕ) (bs : List ℕ) (first second : Granule)
     → width ≡ granule_size version → first ≡ granule_at version (drop at bs)
     → second ≡ granule_at version (drop (at + width) bs) → eqb channels 1 ≡ false
@@ -196,7 +196,7 @@ pub side_size-small : (c : ClassFields) → side_size_of c ≤ 32
 unfolding side_size_of
 side_size-small c = sizes c.version c.channels
 
--- the parts take all the bits
+-- the parts take up all the bits
 pub parts_size : (c : ClassFields) → IsClass c
     → front_size c.version c.channels + (c.channels * granule_size c.version
     + (granules_of c.version - 1) * (c.channels * granule_size c.version)) ≡ 8 * side_size_of c
@@ -217,7 +217,7 @@ channels-pair c n bs =
     λ i. granule_at c.version (drop (n * size) bs) ∷ cond (eqb c.channels 1) no_granule (other i)
     ∷ []
 
--- what is before the granules, the first granule and the second are the side information
+-- the fields before the granules, the first granule and the second are the side information
 pub side_is : (c : ClassFields) (bs : List ℕ) (front : Front) (first second : List Granule)
     → front ≡ front_at c.version c.channels bs
     → first ≡ pair_at c.version c.channels (drop (front_size c.version c.channels) bs)
@@ -251,7 +251,7 @@ pub side_at-class : (c : ClassFields) (bs : List ℕ)
 unfolding side_at
 side_at-class c bs = refl
 
--- where there are two granules, the second one is within the whole
+-- where there are two granules, the second one is within the side information
 pub second_room : (granules front size total next : ℕ) → granules ≡ 2 → next ≡ front + size
     → total ≡ front + (size + (granules - 1) * size) → next + size ≤ total
 second_room granules front size total next two e d =

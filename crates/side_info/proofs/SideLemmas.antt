@@ -21,7 +21,7 @@ use Rattle.side_info.specs.Side.{payload_bits, payload_bytes, side_at, side_bits
 use Rattle.side_info.specs.declared.{granule.Granule.Granule, side.Side.Side}
 
 -- ---- the combinations of version and channels
--- MPEG-2.5 has the side information of MPEG-2
+-- MPEG-2.5 has the same side information as MPEG-2
 module _ (P : ClassFields → Type 0) (one_mono : (f : ℕ) → P (class_with One f 1))
     (one_stereo : (f : ℕ) → P (class_with One f 2)) (two_mono : (f : ℕ) → P (class_with Two f 1))
     (two_stereo : (f : ℕ) → P (class_with Two f 2)) (as_two : (f channels : ℕ)
@@ -37,12 +37,12 @@ module _ (P : ClassFields → Type 0) (one_mono : (f : ℕ) → P (class_with On
   by_channels TwoFive f (suc (suc zero)) low high = as_two f 2 (two_stereo f)
   by_channels version f (suc (suc (suc channels))) low high = absurd (omega arith)
 
-  -- what holds of each combination holds of every class
+  -- what holds for each combination of version and channels holds for every class
   pub each_class : (c : ClassFields) → IsClass c → P c
   each_class c class = by_channels c.version c.frequency_index c.channels class.1 class.2
 
 -- ---- how many bits
--- the granules and channels of a frame
+-- how many granules and channels a frame has together
 abbrev pub granule_count : ClassFields → ℕ
 granule_count c = granules_of c.version * c.channels
 
@@ -93,7 +93,7 @@ side_bits-side_at c class bs all h =
     ∙ take-append-drop front bs
 
 -- ---- fields to bits and back
--- the lists of a side information have the lengths of the arrays
+-- the lists in side information are as long as the arrays
 pub record IsShaped (s : Side) : Type 0 where
   pub scfsi : length s.scfsi ≡ 2
   pub granules : length s.granules ≡ 2
@@ -141,12 +141,14 @@ module _ (P : Side → Type 0)
   by_scfsi m p (a ∷ b ∷ []) gs n l d e = by_granules m p a b gs l d e
   by_scfsi m p cs gs n l d e = absurd (omega arith)
 
-  -- what holds of each side information with two of each holds of every one
+  -- what holds for all side information made of two scfsi and two by two granules holds for every
+  -- one
   pub each_shaped : (s : Side) → IsShaped s → P s
   each_shaped s shaped = by_scfsi s.main_data_begin s.private_bits s.scfsi s.granules shaped.scfsi
       shaped.granules shaped.first shaped.second
 
--- so what holds of the side information of each combination with two of each holds of every one
+-- what holds for each combination of version and channels and all such side information holds for
+-- every class and side information
 pub each_side : (P : ClassFields → Side → Type 0)
     → ((f m p a b : ℕ) (g h k l : Granule) → P (class_with One f 1) (side_with m p a b g h k l))
     → ((f m p a b : ℕ) (g h k l : Granule) → P (class_with One f 2) (side_with m p a b g h k l))
@@ -162,7 +164,7 @@ each_side P one_mono one_stereo two_mono two_stereo as_two c class s shaped =
     (side_with m p a b g h k l) (two m p a b g h k l)) c class)
     s shaped
 
--- the side information of these numbers of the fields before the granules, and these granules
+-- the side information with these numbers of the fields before the granules, and these granules
 unfoldable built : ClassFields → List ℕ → List ℕ → Side
 built c front bs = record {
   main_data_begin = get_or front 0 0;
@@ -176,7 +178,7 @@ side_at-built : (c : ClassFields) (bs : List ℕ)
 unfolding side_at built
 side_at-built c bs = refl
 
--- the fields before the granules, and granules after them
+-- the fields before the granules, and granules after them, are read from their bits
 back : (c : ClassFields) (ns : List ℕ) (gs : List Granule) → NumbersFit (front_widths c) ns
     → length ns ≡ length (front_widths c)
     → side_at c (group_bits (front_widths c) ns ++ flat_map (granule_bits c.version) gs)
@@ -237,7 +239,7 @@ module _ (f m p a b : ℕ) (g h k l : Granule) where
       ∙ (λ i. side_with m p a b (nth Two gs 0 (omega arith) (fits.granules 0 0) i) (nth Two gs 1
       (omega arith) (fits.granules 0 1) i) (sym (fits.granules 1 0) i) (sym (fits.granules 1 1) i))
 
--- what fits MPEG-2.5 fits MPEG-2, and back
+-- what fits MPEG-2.5 fits MPEG-2, and the other way round
 fits_two : (f channels : ℕ) (s : Side) → SideFits (class_with TwoFive f channels) s
     → SideFits (class_with Two f channels) s
 fits_two f channels s fits = record {
@@ -267,7 +269,7 @@ pub side_at-side_bits : (c : ClassFields) → IsClass c → (s : Side) → IsSha
 side_at-side_bits =
     each_side GivesBack back_one_mono back_one_stereo back_two_mono back_two_stereo back_as_two
 
--- ---- what side information and bits are
+-- ---- zeros and ones, and lengths
 -- side information is written as zeros and ones
 pub AreBits-side_bits : (c : ClassFields) (s : Side) → AreBits (side_bits c s)
 unfolding side_bits
@@ -277,7 +279,8 @@ AreBits-side_bits c s =
     (AreBits-spelled (front_widths c) (s.main_data_begin ∷ s.private_bits ∷ s.scfsi))
     (AreBits-flat c.version (granules_in c s))
 
--- the numbers of the fields before the granules that the class has, and the granules
+-- the bits of the fields before the granules and of the granules are as many as their widths
+-- together
 long : (c : ClassFields) (ns : List ℕ) (gs : List Granule) → length ns ≡ length (front_widths c)
     → length (group_bits (front_widths c) ns ++ flat_map (granule_bits c.version) gs)
     ≡ sum (front_widths c) + length gs * granule_size c.version
@@ -285,7 +288,7 @@ long c ns gs l =
     length-append (group_bits (front_widths c) ns) (flat_map (granule_bits c.version) gs)
     ∙ ap₂ (λ m n. m + n) (length-spelled (front_widths c) ns l) (length-flat c.version gs)
 
--- it is written in as many bits as its bytes have
+-- side information is written in as many bits as its bytes have
 pub length-side_bits : (c : ClassFields) → IsClass c → (s : Side) → IsShaped s
     → length (side_bits c s) ≡ 8 * side_size_of c
 unfolding side_bits granules_in granule_bits side_size_of
@@ -297,7 +300,7 @@ length-side_bits =
     (λ f m p a b g h k l. long (class_with Two f 2) (m ∷ p ∷ a ∷ b ∷ []) (g ∷ h ∷ []) refl)
     (λ f channels s two. two)
 
--- what is read has lists as long as the arrays
+-- the lists in side information that was read are as long as the arrays
 pub IsShaped-side_at : (c : ClassFields) (bs : List ℕ) → IsShaped (side_at c bs)
 unfolding side_at
 IsShaped-side_at c bs = record {
@@ -334,7 +337,7 @@ FitsAt c s granule channel =
     MatchBool (has_granule c granule channel) (GranuleFits c.version (granule_in s granule channel))
     (granule_in s granule channel ≡ no_granule)
 
--- the scfsi of both channels fit where each does
+-- the scfsi of both channels fit if each does
 pub scfsi_fit : (c : ClassFields) (a b : ℕ) → a < 2 ^ front_width c 2 → b < 2 ^ front_width c 3
     → (channel : ℕ) → get_or (a ∷ b ∷ []) channel 0 < 2 ^ front_width c (2 + channel)
 scfsi_fit c a b ha hb zero = ha
@@ -349,7 +352,7 @@ abbrev pub PairFits : ClassFields → Side → ℕ → Type 0
 PairFits c s granule = FitsAt c s granule 0 × FitsAt c s granule 1
 
 module _ (c : ClassFields) (m p a b : ℕ) (g h k l : Granule) where
-  -- each granule and channel fits where those of the arrays do
+  -- every granule and channel fits if those in the arrays do
   pub granules_fit : FitsAt c (side_with m p a b g h k l) 0 0
       → FitsAt c (side_with m p a b g h k l) 0 1 → FitsAt c (side_with m p a b g h k l) 1 0
       → FitsAt c (side_with m p a b g h k l) 1 1 → (granule channel : ℕ)
@@ -374,7 +377,7 @@ module _ (c : ClassFields) (m p a b : ℕ) (g h k l : Granule) where
     granules = granules_fit first.0 first.1 second.0 second.1;
   }
 
-  -- fields that fit in the front, and granules that fit
+  -- side information fits if the fields before the granules and the granules fit
   fits_by : (m < 2 ^ front_width c 0) × ((p < 2 ^ front_width c 1)
       × ((a < 2 ^ front_width c 2) × ((b < 2 ^ front_width c 3) × Unit {0})))
       → FitsAt c (side_with m p a b g h k l) 0 0 → FitsAt c (side_with m p a b g h k l) 0 1
@@ -427,7 +430,7 @@ unfolding side_at granule_at
 fits_as_two f channels bs two =
     fits_two_five f channels (side_at (class_with Two f channels) bs) two
 
--- side information that was read has its fields within their bits
+-- the fields of side information that was read are within their bits
 pub SideFits-side_at : (c : ClassFields) → IsClass c → (bs : List ℕ) → AreBits bs
     → SideFits c (side_at c bs)
 SideFits-side_at = each_class (λ c. (bs : List ℕ) → AreBits bs → SideFits c (side_at c bs))
@@ -471,7 +474,7 @@ pub div_ceil-eight : (n : ℕ) → div_ceil n 8 ≡ (n + 7) / 8
 div_ceil-eight n = grind arith
 
 -- ---- what fits, by parts
--- side information fits if what is before the granules and each granule fit
+-- side information fits if the fields before the granules and each granule fit
 pub SideFits-from_parts : (c : ClassFields) (s : Side) → IsShaped s → FrontFits c s → PairFits c s 0
     → PairFits c s 1 → SideFits c s
 SideFits-from_parts c =
@@ -482,7 +485,8 @@ pub bits_least : (s : Side) → payload_bits s ≤ 8 * payload_bytes s
 unfolding payload_bytes
 bits_least s = omega arith
 
--- what bytes of the right length say is their side information, with all that this means
+-- bytes of the right length are the side information that is read from them, which fits and is
+-- written back as these bytes
 pub IsSideOf-side_at : (c : ClassFields) (part : List ℕ) (s : Side) → IsClass c
     → length part ≡ side_size_of c → s ≡ side_at c (bits part) → IsSideOf c part s
 IsSideOf-side_at c part s right size is = record {

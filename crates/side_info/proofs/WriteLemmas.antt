@@ -1,4 +1,4 @@
--- Side fields joined to words, and the words that are put.
+-- Side fields joined to words, and the words that are written.
 use Rattle.std.proofs.Common.{ap, append-nil, append_assoc, ap₂, arith, Bool, drop, eqb, false}
 use Rattle.std.proofs.Common.{get_or, length, List, lit≤, refl, subst, suc, sum, sym, take}
 use Rattle.std.proofs.Common.{take_all, true, zero, ℕ, [], ◌%◌, ◌*◌, ◌++◌, ◌+◌, ◌-◌, ◌/◌, ◌<◌, ◌^◌}
@@ -24,7 +24,7 @@ bool_byte-is true = refl
 bool_byte-is false = refl
 
 -- ---- one granule and channel as one number
--- the fields by their places
+-- the fields of a granule at their places, added up, are the number that joins them
 granule_joined : (version : Version) (g : Granule)
     → ((g.part2_3_length * 131072 + g.big_values * 256 + g.global_gain) * 2
     ^ (compress_width version + 23) + (g.scalefac_compress * 8388608
@@ -48,7 +48,7 @@ pub preflag_most : (version : Version) → preflag_width version ≤ 1
 preflag_most One = lit≤ tt
 preflag_most _ = lit≤ tt
 
--- those before preflag
+-- the fields before preflag, as one number
 abbrev upper_of : Version → Granule → ℕ
 upper_of version g =
     (g.part2_3_length * 131072 + g.big_values * 256 + g.global_gain) * 2
@@ -115,12 +115,12 @@ module _ (version : Version) (g : Granule) (fits : GranuleFits version g)
   word_below = rw word-joined
       (joined-below (granule_widths version) (granule_numbers g) (Fits-granule version g fits))
 
-  -- so it fits in 64 bits
+  -- the word fits in 64 bits
   pub word_fits : (first * (1 * 2 ^ (compress + 23) % 2 ^ 64) + middle)
       * (1 * 2 ^ (preflag + 2) % 2 ^ 64) + last < 2 ^ 64
   word_fits = omega (arith, word_below, granule_most version)
 
-  -- and has the bits of the granule
+  -- the word has the bits of the granule
   pub word_bits : bits_of (granule_size version)
       ((first * (1 * 2 ^ (compress + 23) % 2 ^ 64) + middle) * (1 * 2 ^ (preflag + 2) % 2 ^ 64)
       + last) ≡ granule_bits version g
@@ -129,7 +129,7 @@ module _ (version : Version) (g : Granule) (fits : GranuleFits version g)
       (spelled-joined (granule_widths version) (granule_numbers g) (Fits-granule version g fits))
 
 -- ---- the fields before the granules as one number
--- the number of these fields for these widths, of which there are four
+-- for these four widths, the number that joins the fields before the granules has their bits
 abbrev FrontIs : List ℕ → Type 0
 FrontIs ws = (m p : ℕ) (cs : List ℕ) (n : ℕ) → m < 2 ^ get_or ws 0 0 → p < 2 ^ get_or ws 1 0
     → ((k : ℕ) → get_or cs k 0 < 2 ^ get_or ws (2 + k) 0) → length cs ≡ 2
@@ -143,12 +143,12 @@ front_is begin private first second m p (a ∷ b ∷ []) n hm hp hs l e =
     ∙ sym (spelled-joined ws (m ∷ p ∷ a ∷ b ∷ []) (hm, (hp, (hs 0, (hs 1, tt)))))
 front_is begin private first second m p cs n hm hp hs l e = absurd (omega arith)
 
--- with one channel the widths before the granules are those of one channel
+-- the widths before the granules are the ones for one channel where there is one
 pub front_of_one : (version : Version) (channels : ℕ) → channels ≡ 1
     → front_widths_of version 1 ≡ front_widths_of version channels
 front_of_one version channels e = ap (front_widths_of version) (sym e)
 
--- otherwise they are those of two
+-- the widths before the granules are the ones for two channels otherwise
 pub front_of_two : (version : Version) (channels : ℕ) → (channels ≡ 1 → ⊥)
     → front_widths_of version 2 ≡ front_widths_of version channels
 front_of_two One channels h = let test : eqb channels 1 ≡ false = ne_eqb channels 1 h in
@@ -232,7 +232,7 @@ module _ (b0 b1 b2 b3 b4 : List ℕ) (front a b c d w x y z : ℕ) (room : lengt
       ∙ sym (into_word w 59 44 15 a (bits_of 20 front)
       (bits_of 59 b ++ (bits_of 59 c ++ bits_of 59 d)) refl one)
 
--- the bits of a list of four are those of its members, one after the other
+-- the bits of a list of four are the bits of its members, joined in order
 pub four_of : (gs : List ℕ) (cs : List ℕ) → length gs ≡ 4 → cs ++ (bits_of 59 (get_or gs 0 0)
     ++ (bits_of 59 (get_or gs 1 0) ++ (bits_of 59 (get_or gs 2 0) ++ bits_of 59 (get_or gs 3 0))))
     ≡ cs ++ flat_map (bits_of 59) gs
@@ -241,13 +241,14 @@ four_of (a ∷ b ∷ c ∷ d ∷ []) cs l = ap (λ bs. cs
 four_of gs cs l = absurd (omega arith)
 
 -- ---- the channels of a granule
--- the bits of a granule with one channel are those of this channel
+-- the bits of a granule with one channel are the bits of this channel
 pub flat_one : (version : Version) (gs : List Granule) → length gs ≡ 2
     → flat_map (granule_bits version) (take 1 gs) ≡ granule_bits version (get_or gs 0 no_granule)
 flat_one version (g ∷ h ∷ []) l = append-nil (granule_bits version g)
 flat_one version gs l = absurd (omega arith)
 
--- the bits of a granule with two channels are those of the one and then of the other
+-- the bits of a granule with two channels are the bits of the first followed by the bits of the
+-- second
 pub flat_two : (version : Version) (gs : List Granule) → length gs ≡ 2
     → flat_map (granule_bits version) (take 2 gs)
     ≡ granule_bits version (get_or gs 0 no_granule) ++ granule_bits version (get_or gs 1 no_granule)
@@ -272,7 +273,7 @@ two_granules TwoFive channels (g ∷ h ∷ []) l =
     ∙ sym (append-nil (flat_map (granule_bits TwoFive) (take channels g)))
 two_granules version channels gs l = absurd (omega arith)
 
--- side information is written as what is before the granules, the first one, and the second
+-- side information is written as the fields before the granules, the first granule, and the second
 pub side_bits-parts : (c : ClassFields) (s : Side) → length s.granules ≡ 2 → side_bits c s
     ≡ (group_bits (front_widths_of c.version c.channels)
     (s.main_data_begin ∷ s.private_bits ∷ s.scfsi)
@@ -295,7 +296,7 @@ Whole version channels front gs hs = (bits_of (front_size version channels) fron
 
 module _ (gs hs : List Granule) (front a b : ℕ) (gs_two : length gs ≡ 2)
     (hs_two : length hs ≡ 2) where
-  -- of MPEG-1 with one channel they are the whole side information
+  -- in MPEG-1 with one channel, the front and two granules are all of these bits
   pub one_mono : (version : Version) (channels : ℕ) → version ≡ One → channels ≡ 1
       → bits_of 59 a ≡ granule_bits One (get_or gs 0 no_granule)
       → bits_of 59 b ≡ granule_bits One (get_or hs 0 no_granule)
@@ -306,7 +307,7 @@ module _ (gs hs : List Granule) (front a b : ℕ) (gs_two : length gs ≡ 2)
       (right ∙ sym (flat_one One hs hs_two))
       ∙ ap₂ (λ u k. Whole u k front gs hs) (sym v) (sym n)
 
-  -- so they are with two channels
+  -- in MPEG-1 with two channels, the front and four granules are all of these bits
   pub one_stereo : (version : Version) (channels c d : ℕ) → version ≡ One → channels ≡ 2
       → bits_of 59 a ≡ granule_bits One (get_or gs 0 no_granule)
       → bits_of 59 b ≡ granule_bits One (get_or gs 1 no_granule)
@@ -324,7 +325,7 @@ module _ (gs hs : List Granule) (front a b : ℕ) (gs_two : length gs ≡ 2)
       ((λ i. ec i ++ ed i) ∙ sym (flat_two One hs hs_two))
       ∙ ap₂ (λ u k. Whole u k front gs hs) (sym v) (sym n)
 
-  -- MPEG-2 and MPEG-2.5 have one granule
+  -- in MPEG-2 and MPEG-2.5 with one channel, the front and one granule are all of these bits
   pub two_mono : (version : Version) (channels : ℕ) → granules_of version ≡ 1 → channels ≡ 1
       → bits_of 63 a ≡ granule_bits version (get_or gs 0 no_granule)
       → bits_of 9 front ++ bits_of 63 a ≡ Whole version channels front gs hs
@@ -336,7 +337,7 @@ module _ (gs hs : List Granule) (front a b : ℕ) (gs_two : length gs ≡ 2)
       sym (append-nil (bits_of 9 front ++ bits_of 63 a)) ∙ ap (λ xs. (bits_of 9 front ++ xs) ++ [])
       (left ∙ sym (flat_one TwoFive gs gs_two)) ∙ ap (λ k. Whole TwoFive k front gs hs) (sym n)
 
-  -- and of MPEG-2 with two
+  -- in MPEG-2 and MPEG-2.5 with two channels, the front and two granules are all of these bits
   pub two_stereo : (version : Version) (channels : ℕ) → granules_of version ≡ 1 → channels ≡ 2
       → bits_of 63 a ≡ granule_bits version (get_or gs 0 no_granule)
       → bits_of 63 b ≡ granule_bits version (get_or gs 1 no_granule)
@@ -351,18 +352,18 @@ module _ (gs hs : List Granule) (front a b : ℕ) (gs_two : length gs ≡ 2)
       ∙ ap (λ xs. (bits_of 10 front ++ xs) ++ []) ((λ i. left i ++ right i)
       ∙ sym (flat_two TwoFive gs gs_two)) ∙ ap (λ k. Whole TwoFive k front gs hs) (sym n)
 
--- a granule of 63 bits where there is but one granule
+-- a granule has 63 bits where there is only one
 pub size_of_two : (version : Version) → granules_of version ≡ 1 → granule_size version ≡ 63
 size_of_two One one = absurd (omega arith)
 size_of_two _ one = refl
 
 -- ---- the bytes of each class
--- MPEG-1 with these channels has the side bytes of its class
+-- MPEG-1 with n channels has the side bytes of the class with n channels
 pub size_one : (version : Version) (channels n : ℕ) → version ≡ One → channels ≡ n
     → side_size_of (class_with version 0 channels) ≡ side_size_of (class_with One 0 n)
 size_one version channels n v e = ap₂ (λ u k. side_size_of (class_with u 0 k)) v e
 
--- a version with one granule and these channels has the side bytes of MPEG-2
+-- a version with one granule and n channels has the side bytes of MPEG-2 with n channels
 pub size_two : (version : Version) (channels n : ℕ) → granules_of version ≡ 1 → channels ≡ n
     → side_size_of (class_with version 0 channels) ≡ side_size_of (class_with Two 0 n)
 unfolding side_size_of

@@ -12,13 +12,13 @@ use Rattle.side_info.specs.{Side.{side_at, side_bits}, declared.side.Side.Side}
 abbrev pub polynomial : ℕ
 polynomial = 0x8005
 
--- the word one bit further on: shifted by one, and less the
--- divisor where the bit that went out isn't the bit that comes in
+-- the word one bit further on: shifted left by one, with the divisor subtracted if the bit that is
+-- shifted out isn't the bit that comes in
 unfoldable pub crc_bit : ℕ → ℕ → ℕ
 crc_bit word bit = let shifted = word * 2 % 65536 in
     if bit_at word 15 == bit then shifted else bit_xor shifted polynomial
 
--- the word after these bits, which come in one after the other
+-- the word after these bits, in order
 unfoldable pub remainder : ℕ → List ℕ → ℕ
 remainder word [] = word
 remainder word (bit ∷ rest) = remainder (crc_bit word bit) rest
@@ -35,6 +35,6 @@ check_word_of h s = remainder crc_start (drop 16 (header_bits h) ++ side_bits (c
 -- the check word of these four bytes and of the side bytes after them
 pub record IsCrcOf (header part : List ℕ) (word : ℕ) : Type 0 where
   pub bytes : word ≡ remainder crc_start (bits (drop 2 header ++ part))
-  -- it is that of the header and of the side fields that these bytes are
+  -- it is the check word of the header and of the side fields that are read from these bytes
   pub read : (h : HeaderFields) → header_at header ≡ Ok h → length part ≡ side_size_of (class_of h)
       → word ≡ check_word_of h (side_at (class_of h) (bits part))

@@ -31,13 +31,13 @@ right_crc h frame = check_word_of h (side_in h frame)
 abbrev pub crc_part : HeaderFields → Side → List ℕ
 crc_part h s = if h.protected then bytes (bits_of 16 (check_word_of h s)) else []
 
--- the frame with this side information in place of its
--- own, and with the check word that is right for it
+-- the frame with this side information instead of its own, and with the check word that is right
+-- for it
 unfoldable pub frame_with_side : HeaderFields → Side → List ℕ → List ℕ
 frame_with_side h s frame = take 4 frame ++ (crc_part h s
     ++ (bytes (side_bits (class_of h) s) ++ drop (overhead_of (class_of h) h.protected) frame))
 
--- the front of a frame: the header, the check word of a protected frame, which
--- is right for this header and this side information, and the side information
+-- the front of a frame: the header, the check word that is right for this header and this side
+-- information if the frame is protected, and the side information
 unfoldable pub frame_front_bytes : HeaderFields → Side → List ℕ
 frame_front_bytes h s = bytes (header_bits h) ++ (crc_part h s ++ bytes (side_bits (class_of h) s))

@@ -17,8 +17,8 @@ begin_width One = 9
 begin_width Two = 8
 begin_width TwoFive = 8
 
--- the bits of two headers are the same but for bitrate_index,
--- padding_bit and mode_extension, the sync bits and the layer
+-- the bits of two headers are the same except bitrate_index, padding_bit and mode_extension, the
+-- sync bits and the layer
 pub record AreHeadersAlike (bs cs : List ℕ) : Type 0 where
   pub version : group 11 2 bs ≡ group 11 2 cs
   pub protection : group 15 1 bs ≡ group 15 1 cs
@@ -29,21 +29,21 @@ pub record AreHeadersAlike (bs cs : List ℕ) : Type 0 where
   pub original : group 29 1 bs ≡ group 29 1 cs
   pub emphasis : group 30 2 bs ≡ group 30 2 cs
 
--- up to four bits of a header from this one on
+-- n bits of a header from bit `at` on, at most four
 pub record AreInHeader (at n : ℕ) : Type 0 where
   pub some : 1 ≤ n
   pub within : at + n ≤ 32
   pub few : n ≤ 4
 
--- 32 bytes that begin with these, and are zeros after them
+-- these bytes, followed by zeros up to 32 bytes
 unfoldable pub padded_side : List ℕ → List ℕ
 padded_side side = side ++ drop (length side) (replicate 32 0)
 
--- the bytes of side information among 32 that begin with it
+-- the bytes of the side information with which 32 bytes begin
 unfoldable pub own_side : ClassFields → List ℕ → List ℕ
 own_side c room = take (side_size_of c) room
 
--- the header that four bytes are, and the side information with which 32 bytes begin
+-- the header that the four bytes are
 unfoldable pub header_of : Inside → HeaderFields
 header_of a = header_fields (bits a.header)
 
@@ -55,14 +55,14 @@ side_of a = side_at (class_of (header_of a)) (bits (own_side (class_of (header_o
 abbrev pub front_view : Inside → FrameFields
 front_view a = record { header = header_of a; side = side_of a }
 
--- the bytes as which these fields are written
+-- the bytes that these fields are written as
 abbrev pub front_inside : FrameFields → Inside
 front_inside f = record {
   header = bytes (header_bits f.header);
   side = padded_side (bytes (side_bits (class_of f.header) f.side));
 }
 
--- the bytes are those of a header of the standard's and of side information, with zeros after it
+-- the bytes are a header without forbidden values and side information, with zeros after it
 pub record AreFrontBytes (a : Inside) : Type 0 where
   pub known : IsHeader (header_of a)
   pub same : front_inside (front_view a) ≡ a
@@ -72,25 +72,25 @@ pub record IsExtent (s : Side) (e : Extent) : Type 0 where
   pub begin : e.begin ≡ s.main_data_begin
   pub bits : e.bits ≡ payload_bits s
 
--- the front of this frame, which begins with this header
+-- f is this header and the side information of this frame, whose fields are within their bits
 pub record IsFrontOf (h : HeaderFields) (frame : List ℕ) (f : FrameFields) : Type 0 where
   pub front : f ≡ record { header = h; side = side_in h frame }
   pub fits : SideFits (class_of h) f.side
 
--- the bytes of side information, and zeros after them
+-- 32 bytes that are side information with zeros after it
 pub record IsRoomOf (c : ClassFields) (s : Side) (all : List ℕ) : Type 0 where
   pub room : all ≡ padded_side (bytes (side_bits c s))
   pub size : length (bytes (side_bits c s)) ≡ side_size_of c
   pub back : side_at c (bits (bytes (side_bits c s))) ≡ s
 
--- a header gets this slot
+-- the bytes of a header get this slot
 pub record PutsSlot (slot : SlotFields) (old new : List ℕ) : Type 0 where
   pub bits : (h : HeaderFields) → bits old ≡ header_bits h
       → bits new ≡ header_bits (record h { slot = slot })
   pub octets : AreBytes new
   pub known : IsSlot slot
 
--- so many bytes are the header and the check word of a protected frame
+-- the first n bytes are the header and, for a protected frame, the check word
 pub record HasHeaderPart (f : FrameFields) (n : ℕ) (room : List ℕ) : Type 0 where
   pub place : n ≡ side_place f.header.protected
   pub head : take n room ≡ bytes (header_bits f.header) ++ crc_part f.header f.side

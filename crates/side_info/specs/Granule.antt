@@ -77,7 +77,7 @@ granule_at version bs = granule_of (numbers_at (granule_widths version) bs)
 unfoldable pub granule_bits : Version → Granule → List ℕ
 granule_bits version g = group_bits (granule_widths version) (granule_numbers g)
 
--- each field is within its bits, which are so many for scalefac_compress and for preflag
+-- each field is within its bits, given the widths of scalefac_compress and preflag
 pub record FieldsFit (compress_bits preflag_bits : ℕ) (g : Granule) : Type 0 where
   pub part2_3_length : g.part2_3_length < 2 ^ 12
   pub big_values : g.big_values < 2 ^ 9

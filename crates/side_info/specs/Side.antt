@@ -16,7 +16,7 @@ front_widths_of One channels = if channels == 1 then 9 ∷ 5 ∷ 4 ∷ 0 ∷ [] 
 front_widths_of Two channels = if channels == 1 then 8 ∷ 1 ∷ 0 ∷ 0 ∷ [] else 8 ∷ 2 ∷ 0 ∷ 0 ∷ []
 front_widths_of TwoFive channels = if channels == 1 then 8 ∷ 1 ∷ 0 ∷ 0 ∷ [] else 8 ∷ 2 ∷ 0 ∷ 0 ∷ []
 
--- the same, for a class
+-- the widths of these fields, for a class
 abbrev pub front_widths : ClassFields → List ℕ
 front_widths c = front_widths_of c.version c.channels
 
@@ -30,12 +30,12 @@ no_side = record {
       (no_granule ∷ no_granule ∷ []) ∷ (no_granule ∷ no_granule ∷ []) ∷ [];
 }
 
--- the granule and channel after so many others
+-- the granule and channel after n others
 abbrev pub nth_granule : Version → ℕ → List ℕ → Granule
 nth_granule version n bs = granule_at version (drop (n * granule_size version) bs)
 
--- the channels of one granule, whose first is after
--- so many others; one that the class lacks is all 0
+-- the channels of one granule, the first of which is after n others; one that the class lacks is
+-- all 0
 abbrev pub channels_at : ClassFields → ℕ → List ℕ → List Granule
 channels_at c n bs = nth_granule c.version n bs
     ∷ (if c.channels == 1 then no_granule else nth_granule c.version (n + 1) bs) ∷ []
@@ -64,7 +64,7 @@ side_bits c s =
     group_bits (front_widths c) (s.main_data_begin ∷ s.private_bits ∷ s.scfsi)
     ++ flat_map (granule_bits c.version) (granules_in c s)
 
--- a granule's channel; all 0 past the two of each
+-- one channel of a granule; all 0 past the two granules and two channels
 abbrev pub granule_in : Side → ℕ → ℕ → Granule
 granule_in s granule channel =
     slice_index_or (slice_index_or s.granules granule []) channel no_granule
@@ -85,15 +85,15 @@ pub record SideFits (c : ClassFields) (s : Side) : Type 0 where
   pub granules : (granule channel : ℕ) → MatchBool (has_granule c granule channel) (GranuleFits
       c.version (granule_in s granule channel)) (granule_in s granule channel ≡ no_granule)
 
--- the fields before the granules are within the bits that a
--- class of this version with so many channels has for them
+-- the fields before the granules are within the bits that a class with this version and number of
+-- channels has for them
 pub record FrontFits (version : Version) (channels : ℕ) (s : Side) : Type 0 where
   pub begin : s.main_data_begin < 2 ^ slice_index (front_widths_of version channels) 0
   pub private_bits : s.private_bits < 2 ^ slice_index (front_widths_of version channels) 1
   pub scfsi : (channel : ℕ) → slice_index s.scfsi channel
       < 2 ^ slice_index (front_widths_of version channels) (2 + channel)
 
--- the same, as each is tested
+-- the fields before the granules are within their bits for the class, as the code tests them
 abbrev pub FieldsWithin : ClassFields → Side → Type 0
 FieldsWithin c s =
     (s.main_data_begin < 2 ^ front_width c 0) × (s.private_bits < 2 ^ front_width c 1)
@@ -121,7 +121,7 @@ unfoldable pub payload_bits : Side → ℕ
 payload_bits s = sum_by
     (λ (channels : List Granule). sum_by (λ (g : Granule). g.part2_3_length) channels) s.granules
 
--- the same in bytes, rounded up
+-- the length of a frame's main data in bytes, rounded up
 unfoldable pub payload_bytes : Side → ℕ
 payload_bytes s = (payload_bits s + 7) / 8
 

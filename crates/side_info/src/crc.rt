@@ -9,8 +9,8 @@ ghost use Rattle.side_info.specs.declared.crc.TheConstants.{REMAINDERS as remain
 use crate::side::Side;
 use frame_header::Header;
 
-/// The words that go with the bytes 0 to 255 where a byte's word is the exclusive or of those of its bits: from the
-/// word of 0 and those of the bits, the least first.
+/// The words for the bytes 0 to 255 where a byte's word is the exclusive or of the words of its bits: made from the
+/// word of 0 and the words of the bits, the least significant first.
 macro_rules! by_bits {
     ([$($word:expr),*]) => {
         [$($word),*]
@@ -35,7 +35,7 @@ static REMAINDERS: [[u16; 256]; 8] = [
 /// The word before the first bit: all ones.
 const START: u16 = 0xffff;
 
-/// What a byte leaves of the division this many bytes after it, from the word 0.
+/// What a byte adds to the word once `later` more bytes have been divided.
 #[inline]
 fn crc_table_entry(byte: u8, later: usize) -> u16
     requires { later < 8 }
@@ -59,8 +59,8 @@ fn crc_two_bytes(word: u16, a: u8, b: u8) -> u16
     crc_table_entry((word >> 8) as u8 ^ a, 1) ^ crc_table_entry((word % 256) as u8 ^ b, 0)
 }
 
-/// The word after the bits of the first eight of these bytes. What each leaves of the division doesn't depend on the
-/// others, so the eight tables can be read at once.
+/// The word after the bits of the first eight of these bytes. What each byte adds to it doesn't depend on the others,
+/// so the eight tables can be read at once.
 fn crc_eight_bytes(word: u16, bytes: &[u8]) -> u16
     requires { 8 ≤ length bytes.now }
     ensures { result ≡ remainder word (bits (take 8 bytes.now)) }
@@ -115,9 +115,8 @@ pub fn crc_of_bytes(bytes: &[u8]) -> u16
     crc_after(START, bytes)
 }
 
-/// The check word of a frame, by the four bytes of its header and the bytes of its side information as they
-/// are in the frame: over the last two bytes of the header and then the side bytes (ISO/IEC 11172-3 and
-/// 13818-3, 2.4.3.1).
+/// The check word of a frame, by the four bytes of its header and the bytes of its side information as they are in the
+/// frame: over the last two bytes of the header, followed by the side bytes (ISO/IEC 11172-3 and 13818-3, 2.4.3.1).
 pub fn check_word_of_bytes(header: &[u8], side: &[u8]) -> u16
     requires { length header.now ≡ 4 }
     ensures { IsCrcOf header.now side.now result }

@@ -7,7 +7,7 @@ use crate::granule::{Granule, NO_GRANULE};
 use crate::side::Side;
 use frame_header::{Class, Version};
 
-/// The bounds below which the fields before the granules have to be, 1 for a field that the class lacks.
+/// The bounds below which the fields before the granules have to be; 1 for a field that the class lacks.
 fn front_limits(class: Class) -> [u16; 4]
     ensures { (field : ℕ) → field < 4 → slice_index result field ≡ 2 ^ front_width class field }
 {
@@ -53,9 +53,10 @@ fn granule_fits(granule: &Granule, version: Version, has: bool) -> bool
     }
 }
 
-/// The same for the channels of one granule.
+/// Whether the fields of both channels of a granule are within their bits, or all 0 where the class
+/// lacks the channel.
 pub(crate) fn pair_fits(pair: &[Granule; 2], class: Class, granule: u8) -> bool
-    // Said of an array in an array, whose length the caller doesn't know.
+    // Stated for an array inside an array, whose length the caller doesn't know.
     ensures two { length pair.now ≡ 2 }
     ensures fits { IsTrue result ↔ PairFits class granule pair.now }
 {

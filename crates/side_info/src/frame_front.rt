@@ -1,4 +1,4 @@
-//! What is before the area of a frame, as the bytes that stand in the file.
+//! What is before the area of a frame, as the bytes of the file.
 ghost use Rattle.std.specs.Prelude.{◌≡◌, ◌==◌, ◌↔◌, if◌then◌else◌, ◌+◌, ◌/◌, ◌^◌, ◌<◌, ◌≤◌, ◌++◌, IsTrue, Ok, length, take, drop};
 ghost use Rattle.bit_fields.specs.Bits.{bits, bits_of, bytes, AreBytes};
 ghost use Rattle.bit_fields.specs.Groups.{group};
@@ -24,12 +24,12 @@ use std::marker::Model;
 /// The greatest length of side information in bytes, which MPEG-1 has with two channels.
 const MOST: usize = 32;
 
-/// The header and the side information of a frame, as the bytes that stand in the file: 36, whatever the class. Contracts
-/// see their fields.
+/// The header and the side information of a frame, as the bytes of the file: 36, whatever the class. In contracts it is
+/// their fields.
 #[derive(Clone, Copy, Debug, PartialEq, Eq)]
 pub struct FrameFront {
     header: [u8; 4],
-    // As many bytes as the class has, and zeros after them.
+    // As many bytes as the class has, with zeros after them.
     side: [u8; 32],
 }
 
@@ -60,7 +60,7 @@ pub struct Extent {
 
 impl Extent {
     /// The length of the main data in bytes, rounded up.
-    // A shift of a sum of 64 bits, which can't wrap; `div_ceil` looks at the remainder.
+    // A shift of a 64-bit sum, which can't wrap; `div_ceil` would look at the remainder.
     #[inline(always)]
     pub fn bytes(&self) -> u32
         ensures { result ≡ (self.now.bits + 7) / 8 }
@@ -78,8 +78,9 @@ fn fill_short(part: &[u8], room: &mut [u8; 32])
     room[..part.len()].copy_from_slice(part);
 }
 
-/// The same, faster for 32 bytes.
-// In place, since the compiler copies an answer byte by byte here. Copying is fastest if the number of bytes is a constant.
+/// The same, but faster for 32 bytes.
+// In place, since the compiler copies a returned array byte by byte here. Copying is fastest if the number of bytes is
+// a constant.
 #[inline(always)]
 fn fill(part: &[u8], room: &mut [u8; 32])
     requires { AreZerosFor part.now room.old }
@@ -92,7 +93,7 @@ fn fill(part: &[u8], room: &mut [u8; 32])
     }
 }
 
-/// The bytes of side information of this class from byte `place` of a frame on, and zeros after them.
+/// The bytes of side information of this class from byte `place` of a frame on, with zeros after them.
 #[inline(always)]
 fn side_room(class: Class, place: usize, frame: &[u8]) -> [u8; 32]
     requires { place + side_size_of class ≤ length frame.now }
@@ -104,8 +105,8 @@ fn side_room(class: Class, place: usize, frame: &[u8]) -> [u8; 32]
     room
 }
 
-/// Writes a value over the first `width` bits of side information. It reads and writes two bytes, and not the eight that
-/// `put` would where there are so many.
+/// Writes a value over the first `width` bits of side information. It reads and writes only two bytes, where `put`
+/// would read and write eight if there are as many.
 #[inline(always)]
 fn put_first(width: u32, value: u16, part: &mut [u8])
     requires few { width ≤ 16 }
@@ -117,7 +118,7 @@ fn put_first(width: u32, value: u16, part: &mut [u8])
     put(&mut part[..2], 0, width, u32::from(value));
 }
 
-/// Writes main_data_begin over the first bits of side information: 9 in MPEG-1, 8 in MPEG-2 and MPEG-2.5.
+/// Writes main_data_begin over the first bits of side information: 9 bits in MPEG-1, 8 in MPEG-2 and MPEG-2.5.
 #[inline(always)]
 fn put_begin(begin: u16, version: Version, part: &mut [u8])
     requires fits { begin < 2 ^ begin_width version }
@@ -132,7 +133,7 @@ fn put_begin(begin: u16, version: Version, part: &mut [u8])
     }
 }
 
-/// main_data_begin, which is in the first bits of side information: 9 in MPEG-1, 8 in MPEG-2 and MPEG-2.5.
+/// main_data_begin, which is the first bits of side information: 9 bits in MPEG-1, 8 in MPEG-2 and MPEG-2.5.
 #[inline(always)]
 fn begin_at(version: Version, part: &[u8]) -> u16
     requires room { 2 ≤ length part.now }
@@ -165,7 +166,7 @@ fn first_four(frame: &[u8]) -> [u8; 4]
     [frame[0], frame[1], frame[2], frame[3]]
 }
 
-/// The bytes of the side information of the frame with this header, which is of this class, and zeros after them.
+/// The bytes of the side information of the frame with this header, which is of this class, with zeros after them.
 #[inline(always)]
 #[tactic(auto, unfolding(crate::specs::Frame::side_part, frame_header::specs::Tables::overhead_of))]
 fn room_of_frame(class: Class, header: &Header, frame: &[u8]) -> [u8; 32]
@@ -192,7 +193,7 @@ fn write_side(class: Class, side: &Side, room: &mut [u8])
     side.write(class, room);
 }
 
-/// The bytes of side information, and zeros after them.
+/// The bytes of side information, with zeros after them.
 fn room_of(class: Class, side: &Side) -> [u8; 32]
     requires { SideFits class side.now }
     ensures { IsRoomOf class side.now result }
@@ -212,7 +213,7 @@ fn put_slot(slot: Slot, four: &mut [u8])
     put(four, 22, 1, u32::from(slot.padding));
 }
 
-/// The version by the twelfth bit of a header and ID (2.4.1.3 and 2.4.2.3).
+/// The version, by the twelfth bit of a header and ID (2.4.1.3 and 2.4.2.3).
 #[inline(always)]
 fn version_of(bits: u32) -> Version
     ensures { result ≡ (if bits == 3 then One else (if bits == 2 then Two else TwoFive)) }
@@ -224,7 +225,7 @@ fn version_of(bits: u32) -> Version
     }
 }
 
-/// How many channels a mode has (2.4.2.3): one is single_channel.
+/// How many channels a mode has (2.4.2.3): one in single_channel, otherwise two.
 #[inline(always)]
 fn channels_of(mode: u32) -> u8
     ensures { result ≡ (if mode == 3 then 1 else 2) }
@@ -250,9 +251,9 @@ fn same_group(word: u32, other: u32, at: u32, n: u32) -> bool
     group_of(word, at, n) == group_of(other, at, n)
 }
 
-/// Whether the bits of two headers are the same but for those of bitrate_index, padding_bit and mode_extension, the sync
-/// bits and the layer.
-// Without branches, the compiler makes one test of the eight.
+/// Whether the bits of two headers are the same except bitrate_index, padding_bit and mode_extension, the sync bits and
+/// the layer.
+// Without branches, the compiler combines the eight tests into one.
 #[inline(always)]
 fn are_alike(word: u32, other: u32) -> bool
     ensures { IsTrue result ↔ AreHeadersAlike (bits_of 32 word) (bits_of 32 other) }
@@ -267,7 +268,7 @@ fn are_alike(word: u32, other: u32) -> bool
 impl FrameFront {
     ghost use Rattle.side_info.specs.FrameFields.{FrameFields};
 
-    /// The front of a frame, which begins with its bytes. Bytes after the frame may follow.
+    /// The front of the frame with which the bytes begin. More bytes may follow the frame.
     #[inline(always)]
     pub fn read(header: &Header, frame: &[u8]) -> FrameFront
         requires heads { header_at (take 4 frame.now) ≡ Ok header.now }
@@ -302,7 +303,7 @@ impl FrameFront {
         }
     }
 
-    /// Makes the side information that of a frame without main data, all bits 0.
+    /// Makes the side information all 0, as in a frame without main data.
     #[inline(never)]
     pub fn empty_side(&mut self)
         ensures { self.new ≡ record self.old { side = no_side } }
@@ -319,7 +320,7 @@ impl FrameFront {
     }
 
     /// What decides the frame's length within its class.
-    // Read by itself, since `header` judges all bits of the four bytes again.
+    // Read on its own, since `header` checks all bits of the four bytes again.
     #[inline(always)]
     pub fn slot(&self) -> Slot
         ensures { result ≡ self.now.header.slot }
@@ -369,7 +370,7 @@ impl FrameFront {
         u32::from_be_bytes(self.header)
     }
 
-    /// Whether the header has the same fields as another but for slot and mode extension, which alone change from
+    /// Whether the header has the same fields as another except slot and mode extension, the only ones that change from
     /// frame to frame in most streams.
     #[inline(always)]
     pub fn is_like(&self, other: &FrameFront) -> bool
@@ -379,7 +380,7 @@ impl FrameFront {
     }
 
     /// The side information.
-    // It is inlined so that no field is read that the caller doesn't look at.
+    // Inlined, so that fields that the caller doesn't use aren't read.
     #[inline(always)]
     pub fn side(&self) -> Side
         ensures side { result ≡ self.now.side }
@@ -388,7 +389,8 @@ impl FrameFront {
         self.side_in(self.class())
     }
 
-    /// The side information of a frame whose class is known, as all frames of a stream have one.
+    /// The side information of a frame whose class is known, since all frames of a stream have the
+    /// same.
     #[inline(always)]
     pub fn side_in(&self, class: Class) -> Side
         requires { class ≡ class_of self.now.header }
@@ -407,7 +409,7 @@ impl FrameFront {
     }
 
     /// The same, where the class of the header is known.
-    // In MPEG-1 with two channels, the most frequent class, the compiler knows the places of the fields.
+    // In MPEG-1 with two channels, the most common class, the compiler knows the places of the fields.
     #[inline(always)]
     pub fn extent_in(&self, class: Class) -> Extent
         requires { class ≡ class_of self.now.header }
@@ -441,7 +443,7 @@ impl FrameFront {
         self.extent().bytes()
     }
 
-    /// The same in another slot.
+    /// Writes the slot into the header; everything else stays.
     #[inline(always)]
     pub fn set_slot(&mut self, slot: Slot)
         ensures { self.new ≡ record self.old { header = record self.old.header { slot = slot } } }
@@ -459,7 +461,7 @@ impl FrameFront {
         begin_at(class.version, &self.side[..class.side_size() as usize])
     }
 
-    /// Writes main_data_begin, and nothing else.
+    /// Writes main_data_begin; everything else stays.
     #[inline(always)]
     pub fn set_begin(&mut self, begin: u16)
         requires { begin < 2 ^ front_width (class_of self.old.header) 0 }
@@ -478,7 +480,7 @@ impl FrameFront {
         self.header
     }
 
-    /// The check word that is right for it.
+    /// The check word that is right for this header and side information.
     #[inline(always)]
     pub fn right_crc(&self) -> u16
         ensures { result ≡ check_word_of self.now.header self.now.side }
@@ -487,7 +489,7 @@ impl FrameFront {
         check_word_of_bytes(&self.header, &self.side[..size])
     }
 
-    // Writes the header and the check word of a protected frame, and answers how many bytes these are.
+    // Writes the header and, for a protected frame, the check word, and returns how many bytes these are.
     #[inline(always)]
     fn put_head(&self, room: &mut [u8]) -> usize
         requires { 6 ≤ length room.old }
@@ -502,7 +504,7 @@ impl FrameFront {
         }
     }
 
-    // Writes the side information from byte `place` on, and zeros after it up to 32 bytes.
+    // Writes the side information from byte `place` on, with zeros after it up to 32 bytes.
     #[inline(always)]
     fn put_room(&self, place: usize, room: &mut [u8])
         requires { place + 32 ≤ length room.old }
@@ -513,9 +515,9 @@ impl FrameFront {
     }
 
     /// Writes the header, the check word of a protected frame, and the side information into the first of at least 38
-    /// bytes, where the class of the header is known, and answers how many bytes these are. What is after them may
+    /// bytes, where the class of the header is known, and returns how many bytes these are. The bytes after them may
     /// change.
-    // Copying is fastest if the number of bytes is a constant, so that also the zeros after the side information are copied.
+    // Copying is fastest if the number of bytes is a constant, so the zeros after the side information are copied too.
     #[inline(always)]
     #[tactic(auto, unfolding(crate::specs::Frame::frame_front_bytes))]
     pub fn put_in(&self, class: Class, room: &mut [u8]) -> usize

@@ -7,14 +7,14 @@ use frame_header::Version;
 // The widest first, so that no room is lost between them.
 #[derive(Clone, Copy, Debug, PartialEq, Eq)]
 pub struct Granule {
-    /// The 22 bits after `window_switching` as one number, which nothing here looks into: block type, table
-    /// numbers and subblock gains, or table numbers and region counts, as the flag says.
+    /// The 22 bits after `window_switching` as one number, which nothing here takes apart: block type, table numbers
+    /// and subblock gains, or table numbers and region counts, depending on the flag.
     pub detail: u32,
     /// The length of its main data in bits, scale factors and Huffman codes together: 12 bits.
     pub part2_3_length: u16,
     /// The number of pairs of spectral values in the region of big values: 9 bits.
     pub big_values: u16,
-    /// The code for the sizes of the scale factors: 4 bits, in MPEG-2 and MPEG-2.5 9.
+    /// The code for the sizes of the scale factors: 4 bits, 9 in MPEG-2 and MPEG-2.5.
     pub scalefac_compress: u16,
     /// The gain, in steps of 1.5 dB: 8 bits.
     pub global_gain: u8,

@@ -13,7 +13,7 @@ use crate::widths::{front_size, granule_width, side_size};
 use crate::writing::{front_word, write_granules};
 use frame_header::{Class, Version};
 
-/// The fields of the side information of a frame. One that the class lacks is 0.
+/// The fields of the side information of a frame. A field that the class lacks is 0.
 #[derive(Clone, Copy, Debug, PartialEq, Eq)]
 pub struct Side {
     /// How many bytes before the frame's own area its main data begin, counted over areas alone.
@@ -36,8 +36,8 @@ fn pair_bits(pair: &[Granule; 2]) -> u32
     u32::from(first) + u32::from(second)
 }
 
-/// Reads the side information of a frame of this version with so many channels, one part after the other,
-/// over what was in `side`.
+/// Reads the side information of a frame of this version with `channels` channels, part by part, over what was in
+/// `side`.
 #[inline(always)]
 fn read_parts(version: Version, channels: u8, bytes: &[u8], side: &mut Side)
     requires channels { AreChannels channels }
@@ -57,8 +57,8 @@ fn read_parts(version: Version, channels: u8, bytes: &[u8], side: &mut Side)
     read_second(version, channels, part, next, &mut side.granules[1]);
 }
 
-/// Reads the side information of a frame of this version with so many channels, over what was in `side`. In
-/// most arms version and channels are constants, so that the compiler knows the places of the fields.
+/// Reads the side information of a frame of this version with `channels` channels, over what was in `side`. In most
+/// arms version and channels are constants, so that the compiler knows the places of the fields.
 #[inline(always)]
 fn read_shape(version: Version, channels: u8, bytes: &[u8], side: &mut Side)
     requires channels { AreChannels channels }
@@ -85,7 +85,7 @@ fn read_new(class: Class, bytes: &[u8]) -> Side
     side
 }
 
-/// The same of a frame of MPEG-1 with two channels.
+/// Reads the side information of a frame of MPEG-1 with two channels.
 #[inline(always)]
 fn read_stereo(class: Class, bytes: &[u8]) -> Side
     requires size { length bytes.now ≡ side_size_of class }
@@ -93,7 +93,7 @@ fn read_stereo(class: Class, bytes: &[u8]) -> Side
     requires channels { class.channels ≡ 2 }
     ensures { IsSideOf class bytes.now result }
 {
-    // A look inside gives the proof the invariant of the class.
+    // Looking inside gives the proof the invariant of the class.
     let _ = &class.version;
     let mut side = Side::empty();
     read_parts(Version::One, 2, bytes, &mut side);
@@ -125,7 +125,7 @@ impl Side {
             && pair_fits(&self.granules[1], class, 1)
     }
 
-    /// The same with another main_data_begin.
+    /// The same fields with another main_data_begin.
     pub fn with_begin(&self, begin: u16) -> Side
         ensures { result ≡ record self.now { main_data_begin = begin } }
     {
@@ -134,10 +134,10 @@ impl Side {
         side
     }
 
-    /// Reads the side information of a frame, which is all the bytes (ISO/IEC 11172-3 and 13818-3,
-    /// 2.4.1.7).
-    // The most frequent class, MPEG-1 with two channels, is inlined, so that no field of it is read that the caller doesn't
-    // look at.
+    /// Reads the side information of a frame, which has to be all the bytes (ISO/IEC 11172-3 and
+    /// 13818-3, 2.4.1.7).
+    // The most common class, MPEG-1 with two channels, is inlined, so that fields of it that the caller doesn't use
+    // aren't read.
     #[inline(always)]
     pub fn read(class: Class, bytes: &[u8]) -> Side
         requires size { length bytes.now ≡ side_size_of class }
@@ -149,7 +149,7 @@ impl Side {
         }
     }
 
-    /// The same, over what was in `self`.
+    /// Reads the side information of a frame over what was in `self`; it has to be all the bytes.
     pub fn read_over(&mut self, class: Class, bytes: &[u8])
         requires size { length bytes.now ≡ side_size_of class }
         ensures { IsSideOf class bytes.now self.new }

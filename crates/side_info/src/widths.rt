@@ -1,4 +1,4 @@
-//! The widths in bits of the fields that a version has; 0 for one that it lacks.
+//! The widths in bits of the fields of a version; 0 for a field that it lacks.
 ghost use Rattle.std.specs.Prelude.{◌≡◌, ◌≤◌};
 ghost use Rattle.side_info.specs.Granule.{compress_width, preflag_width, granule_size};
 ghost use Rattle.side_info.specs.Parts.{class_with, front_size};

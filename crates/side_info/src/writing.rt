@@ -1,4 +1,4 @@
-//! Joins the fields of side information to words, and writes these.
+//! Joins the fields of side information into words, and writes them.
 ghost use Rattle.std.specs.Prelude.{◌≡◌, ◌^◌, ◌<◌, ◌++◌, All, length, flat_map};
 ghost use Rattle.bit_fields.specs.Bits.{bits, bits_of};
 ghost use Rattle.frame_header.specs.Tables.{side_size_of};
@@ -107,7 +107,7 @@ pub(crate) fn write_granules(
     requires channels { AreChannels channels }
     requires fits { PairsFit version channels first.now second.now }
     requires size { length bytes.old ≡ side_size_of (class_with version 0 channels) }
-    // Said of arrays in an array, whose lengths the caller doesn't know.
+    // Stated for arrays inside an array, whose lengths the caller doesn't know.
     ensures two { length first.now ≡ 2 }
     ensures second_two { length second.now ≡ 2 }
     ensures written { bits bytes.new

@@ -1,4 +1,4 @@
--- All groups are those of a header of the class.
+-- All groups are the groups of a header of the class.
 use Rattle.std.proofs.{Common.{ap, arith, sym, ◌∙◌}, lemmas.Bool.{and_from, eq-eqb, le-leb}}
 use Rattle.bit_fields.proofs.BitsLemmas.{AreBits-bits_of}
 use Rattle.frame_header.{proofs.HeaderLemmas.says_class, specs.Fields.{ClassFields, version_number}}

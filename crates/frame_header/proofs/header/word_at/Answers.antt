@@ -1,4 +1,4 @@
--- The bits of four bytes are those of their number.
+-- The bits of four bytes are the bits of their number.
 use Rattle.std.proofs.Common.{ap, arith, sym, ◌∙◌}
 use Rattle.bit_fields.{proofs.BitsLemmas.{AreBytes-from_places, bits-be_bytes}, specs.Bits.bits_of}
 use Rattle.frame_header.proofs.header.word_at.Goals as goal

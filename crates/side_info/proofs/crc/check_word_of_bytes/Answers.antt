@@ -1,4 +1,4 @@
--- The side bytes are divided after those of the header.
+-- The side bytes are divided after the bytes of the header.
 use Rattle.std.proofs.Common.{ap, drop, ◌++◌, ◌∙◌, ◌≡◌}
 use Rattle.bit_fields.specs.Bits.{bits}
 use Rattle.side_info.proofs.CheckWordLemmas.{check_word-read}

@@ -1,4 +1,4 @@
--- Two bytes are written over.
+-- Two bytes are overwritten.
 use Rattle.std.proofs.Common.{ap₂, arith, take, ◌++◌, ◌∙◌}
 use Rattle.side_info.proofs.FrameLemmas.{bytes-word}
 use borrow.Rule.Slice.PartMut.{Post-is}

@@ -1,4 +1,4 @@
--- Of 32 zeros none is left.
+-- None of the 32 zeros is left.
 use Rattle.std.proofs.Common.{ap, append-nil, arith, drop, length, replicate, sym, ◌++◌, ◌∙◌, ◌≡◌}
 use Rattle.side_info.specs.FrontBytes.{padded_side}
 use Rattle.side_info.proofs.frame_front.fill.Goals as goal

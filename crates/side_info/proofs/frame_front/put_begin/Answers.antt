@@ -1,4 +1,4 @@
--- The first bits are put in place of others.
+-- The first bits are replaced.
 use Rattle.std.proofs.Common.{ap, drop, inl, inr, sym, ◌++◌, ◌∙◌, ◌≡◌, ◌⊎◌}
 use Rattle.bit_fields.specs.Bits.{bits, bits_of}
 use Rattle.frame_header.specs.declared.version.Version.{Version, TheVariants.{Two, TwoFive}}

@@ -6,7 +6,7 @@ use Rattle.bit_fields.proofs.BitsLemmas.{AreBytes-from_places, bits-append, leng
 use Rattle.bit_fields.specs.Bits.{bits, bits_of}
 use Rattle.side_info.proofs.frame_front.put_first.Goals as goal
 
--- the bits after the first of two bytes, and all others
+-- the bits after the first `width` of two bytes, and the bits of all other bytes
 left : (width : ℕ) (old : List ℕ) → width ≤ 16 → 2 ≤ length old
     → drop width (bits (take 2 old)) ++ bits (drop 2 old) ≡ drop width (bits old)
 left width old few room =

@@ -1,4 +1,4 @@
--- Bit rate index and padding bit are put in turn.
+-- Bit rate index and then padding bit are put in.
 use Rattle.std.proofs.Common.{ap, arith, Bool, drop, false, refl, rules, take, true, ◌++◌, ◌∙◌, ◌≡◌}
 use Rattle.bit_fields.{proofs.BitsLemmas.AreBytes-from_places, specs.Bits.{bits, bits_of}}
 use Rattle.frame_header.specs.{Fields.SlotFields, HeaderBits.{flag_of, header_bits}}

@@ -1,4 +1,4 @@
--- The bits that are written are those of bytes.
+-- The bits that are written are the bits of bytes.
 use Rattle.std.proofs.Common.{ap, arith, sym, ◌∙◌}
 use Rattle.bit_fields.{proofs.BitsLemmas.{AreBytes-from_places, bytes-bits}, specs.Bits.bytes}
 use Rattle.side_info.proofs.frame_front.write_side.Goals as goal

@@ -1,4 +1,4 @@
--- The gains of the granules in turn.
+-- The gains of the granules in order.
 use Rattle.std.proofs.Common.{ap, ap₂, arith, get_or, length, rules, subst, sym, [], ◌*◌, ◌+◌, ◌-◌}
 use Rattle.std.proofs.Common.{◌∙◌, ◌≡◌, ◌≤◌}
 use Rattle.bit_fields.{proofs.BitsLemmas.{AreBits-bits, length-bits}, specs.Bits.bits}
@@ -11,7 +11,7 @@ use Rattle.side_info.specs.Parts.{class_with, front_size, pair_bits, PutsPair, s
 use Rattle.side_info.specs.Side.{side_at}
 use Rattle.side_info.proofs.gains.put_all.Goals as goal
 
--- the parts take all the bits
+-- the parts take up all the bits
 size : (c : After-from)
     → 8 * length c.args.bytes.now ≡ front_size c.class.inside.version c.class.inside.channels
     + (c.class.inside.channels * granule_size c.class.inside.version + (granules_of

@@ -1,4 +1,4 @@
--- The eight bits are those of the gain.
+-- The eight bits are the bits of the gain.
 use Rattle.bit_fields.specs.Bits.{bits}
 use Rattle.side_info.proofs.GainsLemmas.{gain_put}
 use Rattle.side_info.proofs.gains.put_gain.Goals as goal

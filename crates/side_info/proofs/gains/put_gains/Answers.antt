@@ -1,4 +1,5 @@
--- The side information and the check word, where there is one, are those of the other gains.
+-- The side information has the other gains, and the check word, where there is one, is right for
+-- it.
 use Rattle.std.proofs.Common.{ap, ap₂, arith, drop, false, List, rules, subst, sym, take, true, ℕ}
 use Rattle.std.proofs.{Common.{◌++◌, ◌+◌, ◌∙◌, ◌≡◌}, lemmas.List.drop-drop}
 use Rattle.bit_fields.proofs.BitsLemmas.{AreBelow-drop, AreBytes-from_places}

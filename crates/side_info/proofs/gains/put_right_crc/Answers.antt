@@ -1,4 +1,4 @@
--- The word is that of the header and of the side bytes.
+-- The word is the check word of the header and of the side bytes.
 use Rattle.std.proofs.Common.{ap, append_assoc, arith, drop, length-append, length-take, rules, sym}
 use Rattle.std.proofs.{Common.{take, ◌++◌, ◌+◌, ◌-◌, ◌∙◌, ◌≡◌}, lemmas.List.drop_at}
 use Rattle.bit_fields.specs.Bits.{bits, bits_of, bytes}

@@ -1,4 +1,4 @@
--- The parts take all the bits in turn.
+-- The parts take up all the bits in order.
 use Rattle.std.proofs.Common.{ap, ap₂, arith, drop, length, lit≤, sym, take, ◌*◌, ◌+◌, ◌-◌, ◌∙◌}
 use Rattle.std.proofs.{Common.{◌≡◌, ◌≤◌}, lemmas.List.take_all}
 use Rattle.bit_fields.specs.Bits.{bits}

@@ -6,7 +6,7 @@ use Rattle.side_info.proofs.WriteLemmas.{front_of_one, front_of_two, front_spell
 use Rattle.side_info.{proofs.writing.front_word.Goals.After-from-second, specs.Side.front_widths_of}
 use Rattle.side_info.proofs.writing.front_word.Goals as goal
 
--- the number that joins the fields by these widths has their bits
+-- the number that joins the fields by these widths has the bits of the fields
 word_of : (c : After-from-second) (begin private first second n : ℕ)
     → begin ∷ private ∷ first ∷ second ∷ [] ≡ front_widths_of c.args.version c.args.channels
     → (c.from-first.result < 2 ^ first → c.from-second.result < 2 ^ second

@@ -1,4 +1,4 @@
--- Four words are put one after the other.
+-- Four words are written in order.
 use Rattle.std.proofs.Common.{ap, arith, get_or, ◌*◌, ◌∙◌}
 use Rattle.bit_fields.{proofs.BitsLemmas.length-bits, specs.Bits.{bits, bits_of}}
 use Rattle.side_info.proofs.WriteLemmas.{four_of, four_put}

@@ -1,4 +1,4 @@
--- A word and a byte are put one after the other.
+-- A word and then a byte are written.
 use Rattle.std.proofs.Common.{ap, ◌*◌, ◌∙◌}
 use Rattle.bit_fields.{proofs.BitsLemmas.length-bits, specs.Bits.bits}
 use Rattle.side_info.proofs.WriteLemmas.{one_put}

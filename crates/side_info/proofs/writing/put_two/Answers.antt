@@ -1,4 +1,4 @@
--- Two words and a byte are put one after the other.
+-- Two words and then a byte are written.
 use Rattle.std.proofs.Common.{ap, arith, ◌*◌, ◌+◌, ◌-◌, ◌∙◌}
 use Rattle.bit_fields.{proofs.BitsLemmas.length-bits, specs.Bits.bits}
 use Rattle.side_info.proofs.WriteLemmas.{two_put}

@@ -1,4 +1,4 @@
--- What is left has as many bits.
+-- As many bits are left as the bytes have after the place.
 use Rattle.std.proofs.Common.{length-drop}
 use Rattle.bit_fields.proofs.BitsLemmas.{length-bits}
 use Rattle.bit_fields.proofs.reader.Bits.left.Goals as goal

@@ -1,4 +1,4 @@
--- Enough bits are left, and the value is that of the first of them.
+-- Enough bits are left, and the value is the number of the first n of them.
 use Rattle.std.proofs.Common.{arith, length, rules, ◌*◌, ◌+◌, ◌-◌, ◌≡◌, ◌≤◌}
 use Rattle.std.proofs.lemmas.Grind.{common_steps}
 use Rattle.bit_fields.proofs.{BitsLemmas.length-left, reader.Bits.take.Goals.Else-left-n}

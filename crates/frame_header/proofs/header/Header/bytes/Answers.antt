@@ -1,4 +1,4 @@
--- The bits of the four bytes are those of the number.
+-- The bits of the four bytes are the bits of the number.
 use Rattle.std.proofs.Common.{ap, arith, subst, sym, ◌∙◌}
 use Rattle.bit_fields.specs.Bits.{AreBytes, bits}
 use Rattle.frame_header.proofs.HeaderLemmas.{AreBytes-to_be_bytes, bits-to_be_bytes}

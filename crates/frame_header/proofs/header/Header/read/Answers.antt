@@ -1,4 +1,4 @@
--- The bits of the four bytes are those of their number.
+-- The bits of the four bytes are the bits of their number.
 use Rattle.std.proofs.Common.{ap, sym, ◌∙◌}
 use Rattle.frame_header.specs.Reading.{header_at, header_in}
 use Rattle.frame_header.proofs.header.Header.read.Goals as goal

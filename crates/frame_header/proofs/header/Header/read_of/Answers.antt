@@ -1,4 +1,4 @@
--- Without a header of the version and the frequency there is none of the class.
+-- Bits that aren't a header of the version and the frequency aren't a header of the class.
 use Rattle.std.proofs.{Common.{ap, sym, ◌∙◌}, lemmas.Bool.true≢false}
 use Rattle.frame_header.{proofs.ClassLemmas.none_of_class, specs.Reading.{header_at, header_in}}
 use Rattle.frame_header.proofs.header.Header.read_of.Goals as goal

@@ -1,4 +1,4 @@
--- The fields are compared in turn, the version and the slot last.
+-- The fields are compared in order, but version and slot last.
 use Rattle.std.proofs.Common.{rules}
 use Rattle.frame_header.proofs.ComparingLemmas.{compared_last}
 use Rattle.frame_header.proofs.header.HeaderPartialEq.eq.Goals as goal

@@ -8,12 +8,12 @@ use Rattle.side_info.specs.FrontBytes.{AreFrontBytes, begin_width, front_view, h
 use Rattle.side_info.specs.{Side.SideFits, declared.frame_front.FrameFront.TheInside.Inside}
 use Rattle.side_info.proofs.frame_front.FrameFront.begin_in.Goals as goal
 
--- the class is that of the bytes
+-- the class is the class of the bytes
 class_is : (a : Inside) (f : FrameFields) (k : ClassFields) → front_view a ≡ f
     → k ≡ class_of f.header → k ≡ class_of (header_of a)
 class_is a f k view is = is ∙ ap (λ (g : FrameFields). class_of g.header) (sym view)
 
--- so many bytes are the side information
+-- the side information is this many bytes
 long : (a : Inside) → AreFrontBytes a → (n : ℕ) → n ≡ side_size_of (class_of (header_of a))
     → length (take n a.side) ≡ n
 long a is n size = subst (λ m. length (take m a.side) ≡ m) (sym size) (written_size a is)

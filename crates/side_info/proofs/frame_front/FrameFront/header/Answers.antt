@@ -1,4 +1,4 @@
--- The four bytes are those of the header.
+-- The four bytes are the bytes of the header.
 use Rattle.std.{proofs.Common.{ap, sym, ◌∙◌}, specs.Result.is_ok}
 use Rattle.side_info.proofs.FrontLemmas.{header_read, written}
 use Rattle.side_info.proofs.frame_front.FrameFront.header.Goals as goal

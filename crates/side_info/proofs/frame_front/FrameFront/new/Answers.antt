@@ -1,4 +1,4 @@
--- The bytes that are written are those of the fields.
+-- The bytes that are written are the bytes of the fields.
 use Rattle.std.proofs.Common.{ap, length, List, subst, ℕ, ◌∙◌, ◌≡◌}
 use Rattle.bit_fields.{proofs.BitsLemmas.AreBytes-bytes, specs.Bits.{AreBytes, bits, bytes}}
 use Rattle.frame_header.{proofs.HeaderLemmas.IsHeader-header_at, specs.Fields.IsHeader}

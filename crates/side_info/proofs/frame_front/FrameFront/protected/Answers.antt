@@ -1,4 +1,4 @@
--- The protection bit is one of the header's four bytes.
+-- The protection bit is in the header's four bytes.
 use Rattle.std.proofs.Common.{ap, sym, ◌==◌, ◌∙◌}
 use Rattle.side_info.proofs.FrontLemmas.{protected_read}
 use Rattle.side_info.proofs.frame_front.FrameFront.protected.Goals as goal

@@ -1,4 +1,4 @@
--- The first four bytes are the header's, and the part is the side information.
+-- The first four bytes are the header, and the part is the side information.
 use Rattle.std.proofs.Common.{ap, arith, drop, length, length-drop, List, subst, sym, take, ℕ, ◌∙◌}
 use Rattle.std.proofs.{Common.{◌≡◌, ◌≤◌}, lemmas.List.length-take-le}
 use Rattle.bit_fields.{proofs.BitsLemmas.AreBits-bits, specs.Bits.bits}

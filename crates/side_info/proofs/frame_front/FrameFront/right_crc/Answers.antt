@@ -1,4 +1,4 @@
--- The word is that of the header and of the side bytes.
+-- The word is the check word of the header and of the side bytes.
 use Rattle.std.proofs.Common.{ap, length, sym, take, ◌∙◌, ◌≡◌}
 use Rattle.bit_fields.specs.Bits.{bits}
 use Rattle.frame_header.specs.Tables.{class_of, side_size_of}

@@ -1,4 +1,4 @@
--- Other first bits of the side information.
+-- The first bits of the side information are replaced.
 use Rattle.std.proofs.Common.{ap, ap₂, arith, drop, length, List, subst, sym, take, ℕ, ◌++◌, ◌<◌}
 use Rattle.std.proofs.Common.{◌^◌, ◌∙◌, ◌≡◌}
 use Rattle.bit_fields.specs.Bits.{bits, bits_of}
@@ -53,7 +53,7 @@ part_size : (at : After-side_size-size) (part : List ℕ)
     → length part ≡ side_size_of (class_of (header_of at.self.inside))
 part_size at part same = same ∙ long at ∙ size at
 
--- what comes after the side information, as it is counted here
+-- what comes after the side information, by the length that was computed
 counted : (at : After-side_size-size) (part : List ℕ) → front_with at.self.inside.header (part
     ++ drop (side_size_of (class_of (header_of at.self.inside))) at.self.inside.side)
     ≡ front_with at.self.inside.header (part ++ drop at.side_size-size.result at.self.inside.side)

@@ -1,4 +1,4 @@
--- The four bytes are those of the header.
+-- The four bytes are the bytes of the header.
 use Rattle.std.proofs.Common.{ap, ◌∙◌}
 use Rattle.frame_header.specs.HeaderBits.{header_bits}
 use Rattle.side_info.proofs.FrontLemmas.{word_bits, word_fields, written}

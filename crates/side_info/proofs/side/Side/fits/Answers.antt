@@ -1,4 +1,4 @@
--- The parts are all that has to fit.
+-- Side information fits if its parts do.
 use Rattle.std.{proofs.Common.{arith, sym, ◌∙◌}, specs.Bool.IsTrue}
 use Rattle.side_info.proofs.SideLemmas.{SideFits-from_parts}
 use Rattle.side_info.proofs.side.Side.fits.Goals.{else-front_fits, then-front_fits}
