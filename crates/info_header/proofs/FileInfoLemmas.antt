@@ -8,7 +8,8 @@ use Rattle.frame_header.specs.{Fields.{ClassFields, SlotFields}, Tables.length_o
 use Rattle.info_header.specs.{FileInfo.frames_length, Info.seek_table_entry}
 
 module _ {X : Type 0} (c : ClassFields) (slot_of : X → SlotFields) where
-  -- the frames up to a place have the bytes of those up to an earlier one, and of those between
+  -- the bytes of the frames up to `next` are the bytes of those up to `at` plus the bytes of those
+  -- between
   pub bytes-between : (frames : List X) (at next : ℕ) → at ≤ next →
       frames_length c slot_of (take next frames)
       ≡ frames_length c slot_of (take at frames)
@@ -22,17 +23,17 @@ module _ {X : Type 0} (c : ClassFields) (slot_of : X → SlotFields) where
 
 -- ---- places
 
--- the place of an entry is among the frames, and no entry's is before that of the one before it
+-- the place of an entry is at most the number of frames
 pub place-within : (i n : ℕ) → i ≤ 100 → i * n / 100 ≤ n
 place-within i n few = omega (arith, mul-le i n 100 n few (omega arith))
 
--- the frame at one hundredth more isn't earlier
+-- the frame of the next entry isn't earlier
 pub place-rises : (i n : ℕ) → i * n / 100 ≤ (i + 1) * n / 100
 place-rises i n = omega (arith, add-mul i 1 n)
 
 -- ---- entries
 
--- with one entry more the entries up to it are those of the definition
+-- with one entry more, the entries so far are the entries of the definition
 pub entries-more : (offset : ℕ → ℕ) (all i value : ℕ) (table : List ℕ) → length table ≡ 100
     → i < 100 → value ≡ seek_table_entry (offset i) all →
     ((k : ℕ) → k < i → slice_index table k ≡ seek_table_entry (offset k) all) → (k : ℕ) → k < i + 1

@@ -1,5 +1,5 @@
--- Laws of the Info frame: its slot has room for the
--- fields, and no slot with room has a smaller area.
+-- Laws of the Info frame: its slot has room for the fields, and no slot with room has a smaller
+-- area.
 use Rattle.std.proofs.Common.{ap, arith, Bool, cond, drop, false, get_or, inl, inr, length, List}
 use Rattle.std.proofs.Common.{lit≤, nat_le, Ok, refl, replicate, subst, suc, sym, true, zero, ℕ, []}
 use Rattle.std.proofs.Common.{◌++◌, ◌+◌, ◌-◌, ◌<◌, ◌∙◌, ◌∷◌, ◌≡◌, ◌≤◌}
@@ -32,7 +32,7 @@ first_next c slots i slot within is =
     ap (first_with_room c) (drop_more slots i slot within) ∙ ap
     (λ s. cond (nat_le 156 (area_of c s false)) s (first_with_room c (drop (i + 1) slots))) (sym is)
 
--- the first slot whose area has 156 bytes is the one here, if it has them
+-- the first slot whose area has 156 bytes is this one, if it has them
 pub first-here : (c : ClassFields) (slots : List SlotFields) (i : ℕ) (slot : SlotFields)
     → i < length slots → slot ≡ get_or slots i slot → 156 ≤ area_of c slot false →
     first_with_room c (drop i slots) ≡ slot
@@ -40,7 +40,7 @@ first-here c slots i slot within is room =
     first_next c slots i slot within is ∙ ap (λ b. cond b slot
     (first_with_room c (drop (i + 1) slots))) (le-leb 156 (area_of c slot false) room)
 
--- if it hasn't, it is the first of those after it
+-- if it hasn't, it is the first of the slots after it
 pub first-later : (c : ClassFields) (slots : List SlotFields) (i : ℕ) (slot : SlotFields)
     → i < length slots → slot ≡ get_or slots i slot → area_of c slot false < 156 →
     first_with_room c (drop i slots) ≡ first_with_room c (drop (i + 1) slots)
@@ -48,7 +48,7 @@ first-later c slots i slot within is small =
     first_next c slots i slot within is ∙ ap (λ b. cond b slot
     (first_with_room c (drop (i + 1) slots))) (lt-leb 156 (area_of c slot false) small)
 
--- past the last slot it is the largest
+-- past the last slot it is the largest slot
 pub first-none : (c : ClassFields) (slots : List SlotFields) (i : ℕ) → length slots ≤ i
     → first_with_room c (drop i slots) ≡ largest_slot
 unfolding first_with_room
@@ -79,7 +79,7 @@ info_slot-room c class = room_in c class all_slots
 
 -- ---- it has the smallest area
 
--- the first slot with room is at some place, and no later than another
+-- the first slot with room is at place k or before it
 record IsBy (c : ClassFields) (slots : List SlotFields) (k : ℕ) (d : SlotFields) : Type 0 where
   at : ℕ
   early : at ≤ k
@@ -155,7 +155,7 @@ info_slot-least c class other slot room =
 
 -- ---- the frame
 
--- header, zeros, fields and zeros, one after the other, are the Info frame
+-- header, zeros, fields and zeros, joined in this order, are the Info frame
 pub frame-is : (first : HeaderFields) (info : Info) (new cleared header : List ℕ) (side rest : ℕ)
     → cleared ≡ [] → header ≡ bytes (header_bits (info_header_of first)) →
     side ≡ side_size_of (class_of first)
@@ -172,7 +172,7 @@ pub zeros-left : (c : ClassFields) (slot : SlotFields) (length side : ℕ) → l
 unfolding area_of overhead_of
 zeros-left c slot length side is sides = omega (arith, is, sides)
 
--- the bytes of a header are those of its bits
+-- the bytes of a header are the bytes that its bits spell
 pub header_bytes-is : (h : HeaderFields) (result : List ℕ) → header_at result ≡ Ok h
     → ((four : List ℕ) → AreBytes four → length four ≡ 4 → header_at four ≡ Ok h → result ≡ four) →
     result ≡ bytes (header_bits h)
@@ -184,7 +184,7 @@ header_bytes-is h result back same =
     (header_at-bytes (bytes (header_bits h)) h (IsHeader-header_at result h back)
     (bits-bytes 4 (header_bits h) all long))
 
--- the length has room for the fields where the area has
+-- a frame whose area has room for the fields is long enough for them
 pub fields-fit : (c : ClassFields) (slot : SlotFields) (length side : ℕ)
     → 156 ≤ area_of c slot false → length ≡ length_of c slot → side ≡ side_size_of c
     → 4 + side + 156 ≤ length

@@ -13,7 +13,7 @@ field_next : (flags field next : ℕ) → next ≡ suc field → field_place fla
 unfolding field_place
 field_next flags field next is = ap (field_place flags) is
 
--- the place after a field that is there
+-- the place after a field that is present
 pub place-set : (flags field at : ℕ) → at ≡ field_place flags field → is_flagged flags field ≡ true
     → at + field_size field ≡ field_place flags (field + 1)
 place-set flags field at is set =
@@ -40,15 +40,15 @@ padded_cases n bytes (inr many) =
     drop-replicate n n 0 ∙ ap (λ k. replicate {A = ℕ} k 0) nothing in
     rw (least, none) (append-nil (take n bytes) ∙ sym (take-append-le n bytes (replicate n 0) many))
 
--- as many bytes as there are, and zeros after them
+-- as many bytes as there are, up to n, and zeros after them
 pub padded-parts : (n : ℕ) (bytes : List ℕ)
     → take (min (length bytes) n) bytes ++ drop (min (length bytes) n) (replicate n 0)
     ≡ padded_bytes n bytes
 padded-parts n bytes = padded_cases n bytes (cases_lt (length bytes) n)
 
--- ---- bytes one after another
+-- ---- bytes added in order
 
--- bytes and then others, added to what is there, are both added one after the other
+-- adding bytes and then others adds both, joined
 pub piece-before : (old mid new piece rest : List ℕ) → mid ≡ old ++ piece → new ≡ mid ++ rest
     → new ≡ old ++ (piece ++ rest)
 piece-before old mid new piece rest first then =

@@ -25,8 +25,8 @@ module _ {X : Type 0} (c : ClassFields) (slot_of : X → SlotFields) where
   has_one_rate (first ∷ frames) =
       list_all (λ frame. bit_rate_of frame == bit_rate_of first) (first ∷ frames)
 
-  -- The seek table of n frames with so many bytes before them, of so many bytes
-  -- in all: entry i, from 0 to 99, is that of frame i * n / 100, rounded down.
+  -- The seek table of n frames with `before` bytes before them, out of `all` bytes: entry i, from 0
+  -- to 99, is the entry of frame i * n / 100, rounded down.
   abbrev pub IsTableOver : List X → ℕ → ℕ → List ℕ → Type 0
   IsTableOver frames before all table = (i : ℕ) → i < 100 → slice_index table i
       ≡ seek_table_entry (before + frames_length (take (i * length frames / 100) frames)) all
@@ -36,7 +36,7 @@ module _ {X : Type 0} (c : ClassFields) (slot_of : X → SlotFields) where
   all_bytes frames = info_length c + frames_length frames
 
   -- the fields of the Info frame before these frames, without a quality and an extension; the text
-  -- is `Info` where all have one bit rate
+  -- is `Info` where all frames have one bit rate
   pub record IsInfoOver (frames : List X) (info : Info) : Type 0 where
     pub vbr : info.vbr ≡ not (has_one_rate frames)
     pub count : info.frames ≡ Some (length frames)

@@ -1,7 +1,7 @@
--- The fields of a head after its text. The layout is in no standard: encoders write
--- the text, a word of flags, and then a number of frames, a number of bytes, a seek
--- table of 100 entries and a quality, each if its flag is set; and after these an
--- extension, whose first 36 bytes are kept. Numbers have 32 bits and are big-endian.
+-- The fields of a head after its text. The layout is in no standard: encoders write the text, a
+-- word of flags, and then a number of frames, a number of bytes, a seek table of 100 entries and a
+-- quality, each if its flag is set; after these follows an extension, whose first 36 bytes are
+-- kept. Numbers have 32 bits and are big-endian.
 use Rattle.std.specs.Int.{bit_at}
 use Rattle.std.specs.Prelude.{Bool, bytes_eq, codes, drop, if◌then◌else◌, length, List, min, nat_le}
 use Rattle.std.specs.Prelude.{None, Option, replicate, slice_index, Some, suc, take, zero, ℕ, []}
@@ -11,11 +11,12 @@ use Rattle.info_header.specs.declared.fields.Info.{Info}
 
 -- ---- what is read
 
--- the word of flags, four bytes after the text; 0 where it isn't whole
+-- the word of flags, four bytes after the text; 0 where it is cut short
 abbrev pub flags_in : List ℕ → ℕ
 flags_in bytes = if nat_le 8 (length bytes) then big_number 4 (take 4 (drop 4 bytes)) else 0
 
--- the flags of the frames, the bytes, the table and the quality are the bits 0 to 3
+-- the flag of a field is set: the flags of the frames, the bytes, the table and the quality are the
+-- bits 0 to 3
 abbrev pub is_flagged : ℕ → ℕ → Bool
 is_flagged flags field = bit_at flags field == 1
 
@@ -23,15 +24,15 @@ is_flagged flags field = bit_at flags field == 1
 abbrev pub field_size : ℕ → ℕ
 field_size field = slice_index (4 ∷ 4 ∷ 100 ∷ 4 ∷ []) field
 
--- Where a field begins: after the text, the flags, and those fields before
--- it whose flags are set. The place after the last field is that of field 4.
+-- Where a field begins: after the text, the flags, and the fields before it whose flags are set.
+-- Field 4 is the place after the last field.
 unfoldable pub field_place : ℕ → ℕ → ℕ
 field_place flags zero = 8
 field_place flags (suc field) =
     field_place flags field + (if is_flagged flags field then field_size field else 0)
 
--- The bytes of a field; none where its flag isn't set, or where it goes past the
--- end. Where a field goes past the end, so do all that are flagged after it.
+-- The bytes of a field; none where its flag isn't set, or where it goes past the end. If a field
+-- goes past the end, all flagged fields after it do too.
 unfoldable pub field_in : ℕ → ℕ → List ℕ → Option (List ℕ)
 field_in flags field bytes =
     if is_flagged flags field && nat_le (field_place flags field + field_size field) (length bytes)
@@ -43,12 +44,12 @@ abbrev pub number_of : Option (List ℕ) → Option ℕ
 number_of None = None
 number_of (Some four) = Some (big_number 4 four)
 
--- so many bytes, with zeros after them where there are fewer
+-- the first n bytes, filled up with zeros where there are fewer
 abbrev pub padded_bytes : ℕ → List ℕ → List ℕ
 padded_bytes n bytes = take n (bytes ++ replicate n 0)
 
--- the fields of the head whose bytes these are, from
--- its text on; `Xing` says that the bit rate changes
+-- the fields of the head whose bytes these are, from its text on; `Xing` says that the bit rate
+-- changes
 unfoldable pub info_in : List ℕ → Info
 info_in bytes = let flags = flags_in bytes in record {
   vbr = bytes_eq (take 4 bytes) (codes "Xing");
@@ -83,7 +84,7 @@ info_bytes info =
     ++ (table_or_zeros info.table
     ++ (big_bytes 4 (number_or_zero info.quality) ++ info.extension)))))
 
--- the entry of the table for a frame at an offset, of so many bytes in
--- all: how many 256th parts are before it, rounded down, at most 255
+-- the entry of the table for a frame at `offset`, out of `bytes` bytes: how many 256th parts are
+-- before it, rounded down, at most 255
 abbrev pub seek_table_entry : ℕ → ℕ → ℕ
 seek_table_entry offset bytes = min (256 * offset / bytes) 255

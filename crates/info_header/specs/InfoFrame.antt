@@ -6,20 +6,20 @@ use Rattle.frame_header.specs.{HeaderBits.header_bits, Slots.{all_slots, largest
 use Rattle.frame_header.specs.Tables.{area_of, class_of, side_size_of}
 use Rattle.info_header.specs.{Info.info_bytes, declared.fields.Info.Info}
 
--- the first of some slots whose area has room for the 156 bytes of the fields,
--- in a frame without a check word; the largest slot of all where none has
+-- the first of these slots whose area has room for the 156 bytes of the fields, in a frame without
+-- a check word; the largest slot of all where none has
 unfoldable pub first_with_room : ClassFields → List SlotFields → SlotFields
 first_with_room c [] = largest_slot
 first_with_room c (slot ∷ slots) =
     if nat_le 156 (area_of c slot false) then slot else first_with_room c slots
 
--- the slots are in the order of their areas, so this
--- is the one with the smallest area that has room
+-- the slot of the Info frame: the slots are in the order of their areas, so it is the one with the
+-- smallest area that has room
 unfoldable pub info_slot_of : ClassFields → SlotFields
 info_slot_of c = first_with_room c all_slots
 
--- the header of the Info frame: that of the first frame
--- after it, without a check word and in this slot
+-- the header of the Info frame: the header of the first frame after it, without a check word and in
+-- this slot
 abbrev pub info_header_of : HeaderFields → HeaderFields
 info_header_of first = record first { protected = false; slot = info_slot_of (class_of first) }
 

@@ -8,11 +8,11 @@ use byteorder::{BigEndian, ByteOrder};
 /// The fields of a head after its text. A number or a table that the head doesn't have is `None`.
 #[derive(Clone, Copy, Debug, PartialEq, Eq)]
 pub struct Info {
-    /// Whether the bit rate changes: the text is `Xing`, and not `Info`.
+    /// Whether the bit rate changes: the text is `Xing` rather than `Info`.
     pub vbr: bool,
     /// The number of frames after the head.
     pub frames: Option<u32>,
-    /// The number of bytes from the head's first to the last frame's last.
+    /// The number of bytes from the first byte of the head to the last byte of the last frame.
     pub bytes: Option<u32>,
     /// The seek table: for each hundredth of the frames, where it begins, in 256th parts of the bytes.
     pub table: Option<[u8; 100]>,
@@ -21,10 +21,10 @@ pub struct Info {
     pub extension: [u8; 36],
 }
 
-/// Where the word of flags begins, in bytes from the text's first.
+/// Where the word of flags begins, in bytes from the first byte of the text.
 const FLAGS_AT: usize = 4;
 
-/// Where the first field begins, in bytes from the text's first.
+/// Where the first field begins, in bytes from the first byte of the text.
 const FIELDS_AT: usize = 8;
 
 /// The bits of the flags that say which fields there are.
@@ -50,7 +50,7 @@ fn is_set(flags: u32, bit: u32) -> bool
     (flags >> bit) % 2 == 1
 }
 
-/// The word of flags, and 0 where it isn't whole.
+/// The word of flags, or 0 where it is cut short.
 fn flags_of(bytes: &[u8]) -> u32
     ensures { result ≡ flags_in bytes.now }
 {
@@ -60,7 +60,7 @@ fn flags_of(bytes: &[u8]) -> u32
     }
 }
 
-/// Where the next field begins, by where this one begins if its flag is set.
+/// Where the next field begins: at the same place as this one if this one's flag isn't set.
 #[tactic(auto, unfolding(crate::specs::Info::field_place))]
 fn place_behind(flags: u32, field: u32, at: usize) -> usize
     requires known { field < 4 }
@@ -108,14 +108,14 @@ fn table_in(bytes: &[u8], flags: u32, at: usize) -> Option<[u8; 100]>
     Some(table)
 }
 
-/// The bytes from byte `at` on, none where that is past the end.
+/// The bytes from byte `at` on; none where `at` is past the end.
 fn bytes_from(bytes: &[u8], at: usize) -> &[u8]
     ensures { result.now ≡ drop at bytes.now }
 {
     &bytes[at.min(bytes.len())..]
 }
 
-/// The 36 bytes from byte `at` on, with zeros for those that aren't there.
+/// The 36 bytes from byte `at` on, with zeros for bytes that aren't there.
 fn extension_at(bytes: &[u8], at: usize) -> [u8; 36]
     ensures { result ≡ padded_bytes 36 (drop at bytes.now) }
 {
@@ -127,10 +127,10 @@ fn extension_at(bytes: &[u8], at: usize) -> [u8; 36]
 }
 
 impl Info {
-    /// Reads the fields of a head. `bytes` are those of the frame from the text on. A field whose flag
-    /// isn't set is `None`, and so are one that goes past the end of the bytes and all after it; then the
-    /// extension is all 0. Flags that aren't whole count as 0. The extension is 36 bytes after the last
-    /// field, with zeros for those that aren't there.
+    /// Reads the fields of a head. `bytes` are the bytes of the frame from the text on. A field whose flag isn't set is
+    /// `None`, and so are a field that goes past the end of the bytes and all after it; then the extension is all 0.
+    /// Flags that are cut short count as 0. The extension is 36 bytes after the last field, with zeros for bytes that
+    /// aren't there.
     #[tactic(auto, unfolding(crate::specs::Info::info_in, crate::specs::Info::field_place))]
     pub fn read(bytes: &[u8]) -> Info
         ensures { result ≡ info_in bytes.now }
@@ -151,9 +151,8 @@ impl Info {
     }
 }
 
-/// The entry of the seek table for a frame that begins at `offset`, of `bytes` bytes in all, both counted
-/// from the Info frame's first byte: how many 256th parts of the bytes are before it, rounded down, and 255
-/// at most.
+/// The entry of the seek table for a frame that begins at `offset`, out of `bytes` bytes, both counted from the Info
+/// frame's first byte: how many 256th parts of the bytes are before it, rounded down, at most 255.
 pub fn entry(offset: u32, bytes: u32) -> u8
     requires { 0 < bytes }
     ensures { result ≡ seek_table_entry offset bytes }

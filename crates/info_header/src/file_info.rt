@@ -9,7 +9,7 @@ use crate::fields::{Info, entry};
 use crate::writing::info_slot;
 use frame_header::{Class, Slot};
 
-/// What is in a slot, such as a frame, or the slot alone.
+/// Something that is in a slot, such as a frame, or the slot alone.
 pub trait InSlot {
     ghost slot_of: { Self → SlotFields };
 
@@ -26,7 +26,7 @@ impl InSlot for Slot {
     }
 }
 
-/// The bytes of some frames together, at most 1,441 for each.
+/// The bytes of these frames together, at most 1,441 for each.
 fn bytes_in<F: InSlot>(class: Class, frames: &[F]) -> u32
     requires few { length frames.now ≤ most_output_frames }
     ensures bytes { result ≡ frames_length class F.slot_of frames.now }
@@ -61,8 +61,8 @@ fn has_one_rate<F: InSlot>(class: Class, frames: &[F]) -> bool
     }
 }
 
-/// The seek table of n frames with `before` bytes before them, of `bytes` bytes in all: entry i is that of
-/// frame `i * n / 100`, rounded down.
+/// The seek table of n frames with `before` bytes before them, out of `bytes` bytes: entry i is the entry of frame
+/// `i * n / 100`, rounded down.
 fn table_over<F: InSlot>(class: Class, frames: &[F], before: u32, bytes: u32) -> [u8; 100]
     requires few { length frames.now ≤ most_output_frames }
     requires short { before ≤ most_frame_length }
@@ -81,10 +81,9 @@ fn table_over<F: InSlot>(class: Class, frames: &[F], before: u32, bytes: u32) ->
     table
 }
 
-/// The fields of the Info frame before these frames, at most 2,900,064: how many they are, the bytes of the
-/// Info frame and of all of them, and the seek table by their offsets from the Info frame's first byte. The
-/// text is `Info` where all have one bit rate, else `Xing`. There is no quality, and the extension is all
-/// 0.
+/// The fields of the Info frame before these frames, at most 2,900,064: their number, the bytes of the Info frame and
+/// of all of them, and the seek table by their offsets from the Info frame's first byte. The text is `Info` where all
+/// have one bit rate, otherwise `Xing`. There is no quality, and the extension is all 0.
 pub fn info_over<F: InSlot>(class: Class, frames: &[F]) -> Info
     requires few { length frames.now ≤ most_output_frames }
     ensures { IsInfoOver class F.slot_of frames.now result }

@@ -12,7 +12,7 @@ use arrayvec::ArrayVec;
 use byteorder::{BigEndian, ByteOrder};
 use frame_header::{Class, Header, Slot};
 
-/// The length of a text, flags, all four fields and the extension in bytes.
+/// The length in bytes of the text, the flags, all four fields and the extension.
 const FIELDS: u32 = 156;
 
 /// The flags of all four fields.
@@ -27,7 +27,7 @@ pub fn info_slot(class: Class) -> Slot
     ensures least { (slot : SlotFields) → IsSlot slot → 156 ≤ area_of class slot false
         → area_of class result false ≤ area_of class slot false }
 {
-    // A look inside gives the proof the invariant of the class, by which its areas ascend.
+    // Looking inside gives the proof the invariant of the class, by which its areas ascend.
     let _ = &class.version;
     let slots = class.slots();
     first_with_room(class, slots.as_slice())
@@ -115,10 +115,9 @@ fn append_info(into: &mut ArrayVec<u8, 1441>, info: &Info)
     append(into, &info.extension);
 }
 
-/// Writes the whole Info frame. Its header is that of `first`, the first frame after it, without a check
-/// word and in the slot of `info_slot`. After it come side information that is all 0, the fields with all
-/// four flags set (0 for one that is `None`), and zeros up to the frame's length. It replaces what `into`
-/// held.
+/// Writes the whole Info frame. Its header is the header of `first`, the first frame after it, without a check word and
+/// in the slot of `info_slot`. After the header come side information that is all 0, the fields with all four flags set
+/// (0 for one that is `None`), and zeros up to the frame's length. It replaces what `into` held.
 #[tactic(auto, unfolding(crate::specs::InfoFrame::info_frame))]
 pub fn write_info(first: &Header, info: &Info, into: &mut ArrayVec<u8, 1441>)
     ensures { into.new.items ≡ info_frame first.now info.now }
@@ -132,7 +131,7 @@ pub fn write_info(first: &Header, info: &Info, into: &mut ArrayVec<u8, 1441>)
     append_zeros(into, class.length_of(slot) as usize - into.len());
 }
 
-/// The first slot whose area has room for the fields, and the largest slot of all where none has.
+/// The first slot whose area has room for the fields, or the largest slot of all where none has.
 fn first_with_room(class: Class, slots: &[Slot]) -> Slot
     ensures { result ≡ first_with_room class slots.now }
 {

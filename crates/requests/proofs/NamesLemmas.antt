@@ -14,7 +14,7 @@ tested : (name whole : List ℕ) (r : Bool) → (r ≡ true → name ≡ whole) 
 tested name whole r there back =
     one_answer r (bytes_eq name whole) (there, back) (bytes_eq-Decides name whole)
 
--- a name whose front isn't the prefix is no piece's with this prefix
+-- a name that doesn't begin with the prefix is no piece's name with this prefix
 pub front-is_other : (front name prefix tail : List ℕ) → front ≡ take (length prefix) name
     → bytes_eq front prefix ≡ false → false ≡ bytes_eq name (prefix ++ tail)
 front-is_other front name prefix tail is differ =
@@ -22,7 +22,7 @@ front-is_other front name prefix tail is differ =
     (λ e. sym differ ∙ (bytes_eq-Decides front prefix).1 (is ∙ ap (take (length prefix)) e
     ∙ take-append_seam prefix tail))
 
--- with the prefix in front the rest of the name decides
+-- if a name begins with the prefix, the rest of the name decides
 pub back-decides : (front back name prefix tail : List ℕ) (r : Bool)
     → front ≡ take (length prefix) name → back ≡ drop (length prefix) name
     → bytes_eq front prefix ≡ true → r ≡ bytes_eq back tail → r ≡ bytes_eq name (prefix ++ tail)
@@ -34,7 +34,7 @@ back-decides front back name prefix tail r front_is back_is same is =
     (λ e. is ∙ (bytes_eq-Decides back tail).1 (back_is ∙ ap (drop (length prefix)) e
     ∙ drop-append_seam prefix tail))
 
--- ---- a name in many parts, of which a text more is read from the rest of it
+-- ---- a name in many parts, read one text at a time
 
 module _ {X : Type 0} (f : X → List ℕ) (xs : List X) (i : ℕ) (d : X) (within : i < length xs)
     (text rest : List ℕ)
@@ -46,13 +46,13 @@ module _ {X : Type 0} (f : X → List ℕ) (xs : List X) (i : ℕ) (d : X) (with
   left : flat_map f (drop i xs) ≡ text ++ more
   left = ap (flat_map f) (drop_more xs i d within) ∙ ap (λ (l : List ℕ). l ++ more) (sym is)
 
-  -- if the next text isn't in front, the name isn't the joined one
+  -- if the rest of the name doesn't begin with the next text, the name isn't the joined one
   pub joined-other : bytes_eq (take (length text) rest) text ≡ false → false ≡ was
   joined-other differ =
       front-is_other (take (length text) rest) rest text more refl differ
       ∙ ap (bytes_eq rest) (sym left) ∙ sym before
 
-  -- if it is, the rest decides
+  -- if it does, what is after that text decides
   pub joined-more : (behind : List ℕ) → bytes_eq (take (length text) rest) text ≡ true
       → behind ≡ drop (length text) rest → was ≡ bytes_eq behind (flat_map f (drop (i + 1) xs))
   joined-more behind same behind_is =
@@ -68,7 +68,7 @@ pub names-length : (prefix : List ℕ) → length (piece_names prefix) ≡ 99
 unfolding piece_names
 names-length prefix = length-map-range_with_len (piece_name prefix) 1 99
 
--- each name is that of the piece whose number is one more than its place
+-- the name at each place is the name of the piece whose number is one greater than the place
 pub name-at : (prefix : List ℕ) (k : ℕ) (d : List ℕ) → k < 99
     → get_or (piece_names prefix) k d ≡ piece_name prefix (k + 1)
 unfolding piece_names

@@ -7,8 +7,8 @@ pub enum PackMode {
     Least,
     /// The slots that take the fewest bytes in all, with a lead-in where `Least` has one. At most 200,000 frames.
     Best,
-    /// As `Least`, of the slots of this bit rate alone, which a lead-in has too.
+    /// As `Least`, with slots of this bit rate alone, in a lead-in too.
     Constant(u16),
-    /// As `Least`, of the slots of at least this bit rate, which a lead-in has too.
+    /// As `Least`, with slots of at least this bit rate, in a lead-in too.
     Floor(u16),
 }

@@ -19,8 +19,7 @@ fn digit<'a>(number: u8) -> &'a str
     DIGITS[usize::from(number)]
 }
 
-/// The name of the piece with this number, which is at most 99, as texts to be put one after another.
-/// It takes no memory.
+/// The name of the piece with this number, which is at most 99, as texts to be joined. It allocates nothing.
 pub fn name_parts<'a>(prefix: &'a str, number: u8) -> [&'a str; 4]
     requires { number ≤ 99 }
     ensures { flat_map (λ part. part.now) result ≡ piece_name prefix.now number }
@@ -28,7 +27,7 @@ pub fn name_parts<'a>(prefix: &'a str, number: u8) -> [&'a str; 4]
     [prefix, digit(number / 10), digit(number % 10), ".mp3"]
 }
 
-/// The name of the piece with this number, which is at most 99. An error where there is no memory.
+/// The name of the piece with this number, which is at most 99. An error if out of memory.
 pub fn piece_name(alloc: Global, prefix: &str, number: u8) -> Result<String, AllocError>
     requires { number ≤ 99 }
     ensures { IfOk result (λ name. string_bytes name ≡ piece_name prefix.now number) }
@@ -36,7 +35,7 @@ pub fn piece_name(alloc: Global, prefix: &str, number: u8) -> Result<String, All
     name_parts(prefix, number).concat(alloc)
 }
 
-/// Whether the name is these texts, one after another.
+/// Whether the name is these texts, joined.
 fn is_joined(name: &[u8], parts: &[&str]) -> bool
     ensures { result ≡ bytes_eq name.now (flat_map (λ part. part.now) parts.now) }
 {
@@ -58,7 +57,7 @@ fn is_name_of(prefix: &str, number: u8, name: &str) -> bool
     is_joined(name.as_bytes(), &name_parts(prefix, number))
 }
 
-/// Whether this is the name of a piece, however many there are. It takes no memory.
+/// Whether this is the name of a piece of a split into any number of pieces. It allocates nothing.
 pub fn is_piece_name(prefix: &str, name: &str) -> bool
     ensures { result ≡ list_any (bytes_eq name.now) (piece_names prefix.now) }
 {

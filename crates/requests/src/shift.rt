@@ -28,9 +28,9 @@ pub struct Shift {
 /// By how many steps of 1.5 dB the gains of each channel move.
 #[derive(Clone, Copy, Debug, PartialEq, Eq)]
 pub struct Steps {
-    /// Those of channel 0.
+    /// The steps of channel 0.
     pub left: i16,
-    /// Those of channel 1.
+    /// The steps of channel 1.
     pub right: i16,
     /// Whether gains wrap around modulo 256 where they would leave the range from 0 to 255.
     pub wrap: bool,

@@ -1,4 +1,4 @@
--- How far the main data of a frame reach.
+-- How far back the main data of a frame reach.
 use Rattle.std.proofs.Common.{append-nil, append_assoc, arith, cond, eqb, false, List, lit≤, refl}
 use Rattle.std.proofs.Common.{slice_index, subst, sym, true, ℕ, [], ◌++◌, ◌^◌, ◌∷◌, ◌≤◌}
 use Rattle.circular_buffer.specs.Buffer.{keep_last}
@@ -23,7 +23,7 @@ begin_width TwoFive channels = elim (eqb channels 1)
     as (λ b. 2 ^ slice_index (cond b (8 ∷ 1 ∷ 0 ∷ 0 ∷ []) (8 ∷ 2 ∷ 0 ∷ 0 ∷ [])) 0
     ≤ 512) [ true ↦ lit≤ tt | false ↦ lit≤ tt ]
 
--- a frame's area and its main_data_begin together have at most 1,939 bytes
+-- a frame's area and its main_data_begin add up to at most 1,939 bytes
 pub frames-held : FramesAreHeld
 frames-held h s is fits =
     omega (
@@ -33,7 +33,7 @@ frames-held h s is fits =
       fits.main_data_begin,
     )
 
--- areas after those that the window is over already
+-- a window over some main data is over these and all areas pushed after them
 held_on : (areas : List (List ℕ)) (held main : List ℕ) → IsWindowOver held main
     → IsWindowOver (held_after_areas held areas) (main ++ joined_areas areas)
 held_on [] held main is = subst (IsWindowOver held) (sym (append-nil main)) is
@@ -42,6 +42,6 @@ held_on (area ∷ areas) held main is =
     (append_assoc main area (joined_areas areas))
     (held_on areas (keep_last 2048 (held ++ area)) (main ++ area) (window-more held main area is))
 
--- areas pushed one after the other leave the window over all of them
+-- areas pushed in order leave the window over all of them
 pub areas-held : AreasAreHeld
 areas-held areas = held_on areas [] [] refl

@@ -15,7 +15,7 @@ use Rattle.reservoir.specs.Window.{AreBitsPacked, AreLastOf, IsWindowOver, main_
 
 -- ---- what is held
 
--- what is after the first bytes, with more after it
+-- what is after the first bytes of a list, with another list after it
 behind : (d k j : ℕ) (xs ys : List ℕ) → d ≤ length xs → j ≡ d + k
     → drop k (drop d xs ++ ys) ≡ drop j (xs ++ ys)
 behind d k j xs ys within is =
@@ -24,7 +24,7 @@ behind d k j xs ys within is =
     ∙ ap₂ (λ n zs. drop n zs) (omega (arith, front, is))
     (sym (append_assoc (take d xs) (drop d xs) ys) ∙ ap (λ zs. zs ++ ys) (take-append-drop d xs))
 
--- what is pushed after what was kept
+-- keeping the last bytes before an area is pushed doesn't change which bytes are the last after it
 pub last_more : (n : ℕ) (main area : List ℕ)
     → keep_last n (keep_last n main ++ area) ≡ keep_last n (main ++ area)
 last_more n main area =
@@ -34,13 +34,13 @@ last_more n main area =
     (length (main ++ area) - n) main area (omega arith)
     (omega (arith, held, length-append (drop (length main - n) main) area, length-append main area))
 
--- with an area pushed after it, a window over main data is over those and the area
+-- after an area is pushed, a window over main data is over these and the area
 pub window-more : (held main area : List ℕ) → IsWindowOver held main
     → IsWindowOver (keep_last 2048 (held ++ area)) (main ++ area)
 window-more held main area is =
     ap (λ bytes. keep_last 2048 (bytes ++ area)) is ∙ last_more 2048 main area
 
--- so they are the last of the main data
+-- what a window over main data holds is the end of them
 pub window-last : (held main : List ℕ) → IsWindowOver held main → AreLastOf held main
 window-last held main is =
     let least = length main - 2048 in (
@@ -55,7 +55,7 @@ unfolding bits_of
 bits_of-zeros zero = refl
 bits_of-zeros (suc n) = rw (zero-div (2 ^ n)) (ap (λ bs. 0 ∷ bs) (bits_of-zeros n))
 
--- the first bits of a byte, and zeros after them
+-- clearing the low bits of a byte keeps its first bits, followed by zeros
 cleared : (n unused byte : ℕ) → n + unused ≡ 8 → bits (byte / 2 ^ unused * 2 ^ unused % 256 ∷ [])
     ≡ take n (bits_of 8 byte) ++ replicate unused 0
 cleared n unused byte all =
@@ -70,14 +70,14 @@ cleared n unused byte all =
     pow_pos zero = omega arith
     pow_pos (suc k) = omega (arith, pow_pos k)
 
--- the bits of a list of which a byte is the first
+-- the first bits of a list are the first bits of its first byte
 take_first : (n byte : ℕ) (bytes : List ℕ) → n ≤ 8
     → take n (bits (byte ∷ bytes)) ≡ take n (bits_of 8 byte)
 take_first n byte bytes few =
     ap (take n) (bits-cons byte bytes)
     ∙ take-append-le n (bits_of 8 byte) (bits bytes) (omega (arith, few, length-bits_of 8 byte))
 
--- the last bits of main data are those of a byte whose other bits are cleared
+-- the last bits of main data are packed in a byte whose other bits are cleared
 pub last-packed : (held : List ℕ) (at n unused byte : ℕ) → at < length held
     → byte ≡ get_or held at 0 → n + unused ≡ 8 → 0 < n →
     AreBitsPacked (byte / 2 ^ unused * 2 ^ unused % 256 ∷ []) n (main_bits held at n)
@@ -100,7 +100,7 @@ none-packed held at n none = record {
       bits-nil ∙ ap (λ k. take k (drop (8 * at) (bits held)) ++ replicate (8 * 0 - k) 0) (sym none);
 }
 
--- bits after whole bytes
+-- whole bytes and a packed last byte are packed together
 packed_behind : (held whole last : List ℕ) (from count rest n : ℕ) → n ≡ 8 * count + rest
     → whole ≡ take count (drop from held) → length whole ≡ count →
     AreBitsPacked last rest (main_bits held (from + count) rest)
@@ -129,7 +129,7 @@ packed_behind held whole last from count rest n is same long packed =
           ∙ ap₂ (λ (xs : List ℕ) k. xs ++ replicate k 0) all (omega (arith, size, is));
     }
 
--- bits behind the first bytes
+-- bits after the first bytes, counted from the beginning of all
 behind_front : (front bytes : List ℕ) (at from n : ℕ) → at ≡ length front + from
     → main_bits bytes from n ≡ main_bits (front ++ bytes) at n
 behind_front front bytes at from n is =
@@ -138,7 +138,7 @@ behind_front front bytes at from n is =
     (sym (drop-append-add front bytes from) ∙ ap (λ k. drop k (front ++ bytes)) (sym is))
     ∙ ap (take n) (sym (drop-bits at (front ++ bytes)))
 
--- the main data of a frame, from what the window holds and what is after it
+-- the main data of a frame are packed, from what the window holds and what is after it
 pub packed : (held main more whole last : List ℕ) (from at count rest n : ℕ) → AreLastOf held main
     → at + length held ≡ length main + from → n ≡ 8 * count + rest
     → n + 8 * from ≤ 8 * length (held ++ more) → whole ≡ take count (drop from (held ++ more))
@@ -158,9 +158,9 @@ packed held main more whole last from at count rest n is place all fits same las
     subst (AreBitsPacked (whole ++ last) n) end
     (packed_behind bytes whole last from count rest n all same long last_is)
 
--- ---- two lists, one after the other
+-- ---- two joined lists
 
--- of so many items of two lists the first list has as many as it can, and the second has the rest
+-- of n items of two lists the first list has as many as it can, and the second has the rest
 of_both : (n most : ℕ) (P : ℕ → ℕ → Type 0) → (n < most → P n 0) → (most ≤ n → P most (n - most))
     → P (min n most) (n - min n most)
 of_both n most P within past = elim (cases_lt n most) as (λ _. P (min n most) (n - min n most)) [
@@ -171,7 +171,7 @@ of_both n most P within past = elim (cases_lt n most) as (λ _. P (min n most) (
   | inr more ↦ let least : min n most ≡ most = min-eq_right more in rw least (past more)
 ]
 
--- what is dropped from two lists is dropped from the first, and what remains from the other
+-- dropping items from two joined lists drops them from the first, and what remains from the second
 pub drop_two : (from : ℕ) (xs ys : List ℕ)
     → drop from (xs ++ ys) ≡ drop (min from (length xs)) xs ++ drop (from - min from (length xs)) ys
 drop_two from xs ys =
@@ -180,7 +180,7 @@ drop_two from xs ys =
     (λ past. let split : from ≡ length xs + (from - length xs) = omega arith in rw (drop-length xs)
     (ap (λ k. drop k (xs ++ ys)) split ∙ drop-append-add xs ys (from - length xs)))
 
--- what is taken of two lists is taken of the first, and what remains of the other
+-- taking items of two joined lists takes them of the first, and what remains of the second
 pub take_two : (count : ℕ) (xs ys : List ℕ) → take count (xs ++ ys)
     ≡ take (min count (length xs)) xs ++ take (count - min count (length xs)) ys
 take_two count xs ys =
@@ -189,7 +189,7 @@ take_two count xs ys =
     (λ past. let split : count ≡ length xs + (count - length xs) = omega arith in rw (take-length
     xs) (ap (λ k. take k (xs ++ ys)) split ∙ take-append-add xs ys (count - length xs)))
 
--- a part of two lists is a part of the first, and as much of the other as remains
+-- a part of two joined lists is a part of the first, and as much of the second as remains
 pub part_of_two : (from count passed first : ℕ) (xs ys front back : List ℕ) → front ≡ drop passed xs
     →
     back ≡ drop (from - passed) ys → passed ≡ min from (length xs)
@@ -200,7 +200,7 @@ part_of_two from count passed first xs ys front back fronts backs passes firsts 
     (sym (ap (take count) (drop_two from xs ys)
     ∙ take_two count (drop (min from (length xs)) xs) (drop (from - min from (length xs)) ys)))
 
--- the same, where the parts are given, and the place is from the lengths
+-- the same for given parts, with the place by the lengths
 pub part_past : (from passed first count : ℕ) (xs ys part more : List ℕ)
     → passed ≡ min from (length xs) → first ≡ min count (length xs - passed)
     → part ≡ take first (drop passed xs) → more ≡ take (count - first) (drop (from - passed) ys)

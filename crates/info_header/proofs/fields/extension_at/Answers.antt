@@ -1,4 +1,4 @@
--- What is there, and zeros.
+-- The bytes that are there, and zeros.
 use Rattle.std.proofs.Common.{ap, ap₂, drop, length, min, replicate, take, ℕ, ◌++◌, ◌∙◌}
 use Rattle.info_header.{proofs.InfoLemmas.padded-parts, specs.Info.padded_bytes}
 use Rattle.info_header.proofs.fields.extension_at.Goals as goal

@@ -1,4 +1,4 @@
--- One field after the other.
+-- The fields in order.
 use Rattle.info_header.{proofs.InfoLemmas.piece-before, specs.Info.info_bytes}
 use Rattle.info_header.proofs.writing.append_info.Goals as goal
 

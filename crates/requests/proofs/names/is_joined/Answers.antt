@@ -1,4 +1,4 @@
--- A text that the rest begins with, and one that it doesn't.
+-- A text with which the rest begins, and one with which it doesn't.
 use Rattle.std.proofs.Common.{[]}
 use Rattle.requests.proofs.NamesLemmas.{joined-more, joined-other}
 use Rattle.requests.proofs.names.is_joined.Goals as goal

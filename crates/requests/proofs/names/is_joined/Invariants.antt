@@ -1,4 +1,4 @@
--- Whether the name is these texts is whether the rest is those that are left.
+-- The name is these texts exactly if the rest of it is the texts that are left.
 use Rattle.std.proofs.Common.{bytes_eq, drop, flat_map, ◌≡◌}
 use Rattle.requests.proofs.names.is_joined.Given as goal
 

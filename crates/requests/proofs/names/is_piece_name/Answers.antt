@@ -1,4 +1,4 @@
--- A name more, one that is this, and none.
+-- One name more, a name that is this one, and no name.
 use Rattle.std.proofs.Common.{ap, arith, bytes_eq, false, sym, [], ◌+◌, ◌∙◌, ◌≡◌}
 use Rattle.std.proofs.lemmas.List.Folds.{list_any_at, list_any_none}
 use Rattle.requests.proofs.NamesLemmas.{name-at, names-length}

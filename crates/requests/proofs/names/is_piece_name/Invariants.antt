@@ -1,4 +1,4 @@
--- None of the names before was this one.
+-- None of the names so far was this one.
 use Rattle.std.proofs.Common.{bytes_eq, false, ℕ, ◌+◌, ◌<◌, ◌≡◌}
 use Rattle.requests.specs.Names.{piece_name}
 use Rattle.requests.proofs.names.is_piece_name.Given as goal

@@ -1,4 +1,4 @@
--- One part behind the other.
+-- One part after the other.
 use Rattle.std.proofs.{Common.◌-◌, lemmas.List.take_rest}
 use Rattle.bit_fields.proofs.BitsLemmas.{AreBelow-drop, AreBelow-take, AreBytes-from_slice}
 use Rattle.reservoir.proofs.WindowLemmas.{part_of_two}

@@ -1,4 +1,4 @@
--- The area is held with what is before it.
+-- The area is held together with what is before it.
 use Rattle.std.proofs.Common.{append-nil, arith, length, List, subst, ℕ, ◌+◌, ◌-◌, ◌≡◌}
 use Rattle.reservoir.{proofs.WindowLemmas.window-last, specs.Window.{AreBitsPacked, main_bits}}
 use Rattle.reservoir.proofs.window.Window.main_data.Goals as goal

@@ -62,7 +62,7 @@ returns-clause-bytes c =
     (AreBelow-append 256 areas.0.now _ c.part-2.ensures.bytes.0
     (AreBelow-append 256 areas.1.now _ c.part-2.ensures.bytes.1 c.last_byte-last.ensures.bytes))))
 
--- what is held is the last of itself, and a frame's main data are no more
+-- what is held is the end of itself, and a frame's main data have no more bytes
 pub returns-clause-few : goal.returns-clause-few
 returns-clause-few c = omega (
   arith,

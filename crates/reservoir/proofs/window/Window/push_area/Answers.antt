@@ -1,4 +1,4 @@
--- The last bytes of all, with an area more.
+-- The last bytes of all areas, with one area more.
 use Rattle.std.proofs.Common.{ap, ap₂, ◌++◌, ◌∙◌}
 use Rattle.circular_buffer.specs.Buffer.{keep_last}
 use Rattle.reservoir.proofs.WindowLemmas.{window-more}
