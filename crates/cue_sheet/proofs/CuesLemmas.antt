@@ -15,7 +15,7 @@ use Rattle.cue_sheet.specs.declared.cue_fault.CueFault.{CueFault, TheVariants.No
 use Rattle.cue_sheet.specs.declared.{entry.CueEntry.CueEntry, place.Place.Place}
 use Rattle.cue_sheet.specs.declared.sheet_state.SheetState.{SheetState}
 
--- ---- what the lines say together with one more
+-- ---- what the lines say together, with one line more
 
 or_swapped : (a b : Bool) → (a || b) ≡ (b || a)
 or_swapped true true = refl
@@ -36,7 +36,7 @@ last_of_both : (o : Option ℕ) (xs ys : List ℕ) → last_or o (xs ++ ys) ≡ 
 last_of_both o [] ys = refl
 last_of_both o (x ∷ xs) ys = last_of_both (Some x) xs ys
 
--- what is seen of lines and one line more, by what that line says
+-- the state after lines and one line more, by what that line says
 pub seen_more : (before : List CueEntry) (e : CueEntry) (s t : SheetState) → IsSheetState before s
     → t.lines
     ≡ s.lines + 1 → t.file ≡ (is_file e || s.file) → t.tracks ≡ s.tracks + cond (is_track e) 1 0
@@ -59,7 +59,7 @@ seen_more before e s t is lines file tracks started last = record {
       ∙ ap (last_or None) (sym (filter_map-append start_time before (e ∷ [])));
 }
 
--- the same, of a line that is this one
+-- the state after lines and one line more, where that line is given
 pub seen_with : (before : List CueEntry) (entry e : CueEntry) (s t : SheetState) → entry ≡ e
     → IsSheetState before s → t.lines ≡ s.lines + 1 → t.file ≡ (is_file e || s.file)
     → t.tracks ≡ s.tracks + cond (is_track e) 1 0
@@ -69,13 +69,13 @@ seen_with before entry e s t same is lines file tracks started last =
     subst (λ x. IsSheetState (before ++ (x ∷ [])) t) (sym same)
     (seen_more before e s t is lines file tracks started last)
 
--- a number is itself and nothing more
+-- adding nothing to a number gives the same number
 pub no_more : (n : ℕ) → n ≡ n + 0
 no_more n = omega arith
 
 -- ---- the lines that were read
 
--- these lines were read, and no fault was met
+-- these lines were read, and no fault was found
 pub record HaveRead (text : List ℕ) (at : ℕ) (now : SheetState) (places : List Place) : Type 0 where
   pub before : List CueEntry
   pub lines : cue_entries_from text 0 ≡ before ++ cue_entries_from text at
@@ -85,13 +85,14 @@ pub record HaveRead (text : List ℕ) (at : ℕ) (now : SheetState) (places : Li
   pub starts : places ≡ places_of before
   pub rising : IsRising (times_of before)
 
--- the first fault is that of this line or, if it has none, the first of those after it
+-- the first fault is the fault of this line or, if it has none, the first fault of the lines after
+-- it
 pub first_of : (before more : List CueEntry) (e : CueEntry) → first_cue_fault before (e ∷ more)
     ≡ option_or (cue_fault_of before e) (first_cue_fault (before ++ (e ∷ [])) more)
 unfolding first_cue_fault
 first_of before more e = refl
 
--- if the next line has a fault, it is the sheet's
+-- if the next line has a fault, it is the fault of the sheet
 pub refused : (text : List ℕ) (at : ℕ) (now : SheetState) (places : List Place) (e : CueEntry)
     (more : List CueEntry) (fault : CueFault) → HaveRead text at now places
     → cue_entries_from text at
@@ -104,7 +105,7 @@ refused text at now places e more fault read line found =
     option_or o (first_cue_fault (read.before ++ (e ∷ [])) more))
     (sym (found read.before read.seen)))
 
--- if it has none, the lines with it were read, and its start is one more
+-- if the next line has no fault, it is read too, and if it is a start, there is one start more
 pub goes_on : (text : List ℕ) (at next : ℕ) (now then : SheetState) (places : List Place)
     (e : CueEntry) → HaveRead text at now places
     → cue_entries_from text at ≡ e ∷ cue_entries_from text next
@@ -135,7 +136,7 @@ no_fault : (before : List CueEntry) → first_cue_fault before [] ≡ None
 unfolding first_cue_fault
 no_fault before = refl
 
--- after the last line the sheet's starts are those that were read
+-- after the last line, the starts that were read are the starts of the sheet
 pub ends : (text : List ℕ) (at : ℕ) (now : SheetState) (places : List Place)
     → HaveRead text at now places → length text < at
     → cue_in (cue_entries_from text 0) ≡ some_starts places
@@ -147,17 +148,17 @@ ends text at now places read end =
     (read.lines ∙ ap (λ es. read.before ++ es) none ∙ append-nil read.before)
     ∙ ap some_starts (sym read.starts)
 
--- with a start the sheet has these
+-- if there is a start, these are the starts of the sheet
 pub some_are : (places : List Place) → 0 < length places → some_starts places ≡ Ok places
 some_are [] some = absurd (omega (arith, some))
 some_are (place ∷ more) some = refl
 
--- without one it has no tracks
+-- if there is no start, the sheet has no tracks
 pub none_are : (places : List Place) → length places ≡ 0 → some_starts places ≡ Err NoTracks
 none_are [] none = refl
 none_are (place ∷ more) none = absurd (omega (arith, none))
 
--- the starts so far
+-- the starts so far rise and are positions
 pub are_starts : (text : List ℕ) (at : ℕ) (now : SheetState) (places : List Place)
     → HaveRead text at now places → AreStarts places
 are_starts text at now places read = record {

@@ -15,7 +15,7 @@ is_end byte = byte == 10
 pub no_lines : (text : List ℕ) (at : ℕ) → length text < at → lines_from text at ≡ []
 no_lines text at end = ap (λ b. cond b (lines_in (drop at text)) []) (lt-leb at (length text) end)
 
--- the lines after the first
+-- the lines after the first, from the place after its line feed
 others_are : (text : List ℕ) (at n : ℕ) → at ≤ length text → n ≤ length (drop at text)
     → map strip_carriage_return (other_parts is_end (drop n (drop at text)))
     ≡ lines_from text (at + n + 1)
@@ -48,7 +48,7 @@ line_is text line at within is =
     ∙ ap₂ (λ l more. strip_carriage_return l ∷ more) (sym is)
     (others_are text at n within most ∙ ap (λ m. lines_from text (at + m + 1)) (sym size))
 
--- what the first of the lines says, and what the others say
+-- what the lines say is what the first line says, followed by what the others say
 pub first_said : {X : Type 0} (said : List ℕ → X) (text : List ℕ) (at next : ℕ) (line : List ℕ)
     (entry : X) → lines_from text at ≡ line ∷ lines_from text next → entry ≡ said line
     → map said (lines_from text at) ≡ entry ∷ map said (lines_from text next)

@@ -11,7 +11,7 @@ use Rattle.cue_sheet.specs.Digits.{number_in}
 pub digits_model : IsNumeralModel (λ ds. all_ascii_digits ds ≡ true) (digits_value 10)
 digits_model = numerals_by_value _ tells_all_ascii_digits
 
--- a test that fails among four
+-- if one of four tests fails, the result is none
 no_second : (a c d : Bool) (x : Option ℕ) → cond (((a && false) && c) && d) x None ≡ None
 no_second true c d x = refl
 no_second false c d x = refl
@@ -27,7 +27,8 @@ no_last true true false x = refl
 no_last true false c x = refl
 no_last false b c x = refl
 
--- as many digits as may be, of a number that isn't too great, are read as it
+-- digits that are as many as allowed and spell a number that isn't too great are read as this
+-- number
 pub number_of_digits : (least most greatest : ℕ) (digits : List ℕ) → least ≤ length digits
     → length digits ≤ most → AllDigits 10 digits → digits_value 10 digits ≤ greatest
     → number_in least most greatest digits ≡ Some (digits_value 10 digits)
@@ -39,7 +40,7 @@ number_of_digits least most greatest digits enough few all small =
     let top : leb (digits_value 10 digits) greatest ≡ true = le-leb _ _ small in
     rw (low, high, each, top) refl
 
--- fewer digits than may be are no number
+-- fewer digits than allowed are no number
 pub number_of_few : (least most greatest : ℕ) (digits : List ℕ) → length digits < least
     → number_in least most greatest digits ≡ None
 unfolding number_in
@@ -47,7 +48,7 @@ number_of_few least most greatest digits few =
     let low : leb least (length digits) ≡ false = lt-leb _ _ few in
     rw low refl
 
--- more digits than may be are no number
+-- more digits than allowed are no number
 pub number_of_many : (least most greatest : ℕ) (digits : List ℕ) → most < length digits
     → number_in least most greatest digits ≡ None
 unfolding number_in
@@ -56,7 +57,7 @@ number_of_many least most greatest digits many =
     rw high (no_second (leb least (length digits)) (all_ascii_digits digits)
     (leb (digits_value 10 digits) greatest) (Some (digits_value 10 digits)))
 
--- nor are bytes with one that is no digit
+-- bytes that aren't all digits are no number
 pub number_of_others : (least most greatest : ℕ) (digits : List ℕ) (i : ℕ) → i < length digits
     → (IsInRange 48 57 (get_or digits i 0) → ⊥) → number_in least most greatest digits ≡ None
 unfolding number_in
@@ -68,7 +69,7 @@ number_of_others least most greatest digits i lt other =
           (leb (digits_value 10 digits) greatest) (Some (digits_value 10 digits)))
     ] refl
 
--- nor are digits of a number that is too great
+-- digits of a number that is too great are no number
 pub number_of_great : (least most greatest : ℕ) (digits : List ℕ)
     → greatest < digits_value 10 digits → number_in least most greatest digits ≡ None
 unfolding number_in
@@ -77,7 +78,7 @@ number_of_great least most greatest digits great =
     rw top (no_last (leb least (length digits)) (leb (length digits) most) (all_ascii_digits digits)
     (Some (digits_value 10 digits)))
 
--- nine digits are below a thousand million, so that a tenth fits
+-- at most nine digits spell a number below 10^9, so that one more digit can be read
 pub value_of_few : (digits : List ℕ) (i : ℕ) → i < length digits → length digits ≤ 10
     → AllDigits 10 (take i digits) → digits_value 10 (take i digits) < 1000000000
 value_of_few digits i lt few all = digits_value_short digits_model (take i digits) 9

@@ -15,7 +15,7 @@ last_is : (x d : ℕ) (xs : List ℕ) → last_or (Some x) xs ≡ Some (get_or (
 last_is x d [] = refl
 last_is x d (y ∷ ys) = last_is y d ys
 
--- none is later than the last
+-- no time is later than the last
 none_above : (x : ℕ) (xs : List ℕ) → IsRising (x ∷ xs) → (k d : ℕ) → k < length (x ∷ xs)
     → get_or (x ∷ xs) k d ≤ get_or (x ∷ xs) (length xs) d
 none_above x xs rising k d within =
@@ -30,7 +30,7 @@ is_above : (x time : ℕ) (xs : List ℕ) → is_later_start (last_or (Some x) x
 is_above x time xs behind d =
     leb-true _ _ (ap (λ o. is_later_start o time) (sym (last_is x d xs)) ∙ behind)
 
--- rising times and one that is behind the last of them rise
+-- rising times and one that is later than the last of them rise
 pub more_rising : (times : List ℕ) (time : ℕ) → IsRising times
     → is_later_start (last_or None times) time ≡ true → IsRising (times ++ (time ∷ []))
 more_rising [] time rising behind =
@@ -45,7 +45,7 @@ no_fault a true line none = refl
 no_fault true false line none = absurd (none-some _ none)
 no_fault false false line none = absurd (none-some _ none)
 
--- the times with those of a line more that isn't at fault
+-- the times still rise with one line more that isn't at fault
 pub rises : (before : List CueEntry) (entry : CueEntry) → IsRising (times_of before)
     → None ≡ cue_fault_of before entry → IsRising (times_of before ++ times_of (entry ∷ []))
 unfolding cue_fault_of

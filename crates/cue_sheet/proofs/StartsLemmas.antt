@@ -1,4 +1,4 @@
--- A cue sheet has at most 99 starts, since it has at most 99 tracks and each track has one at most.
+-- A cue sheet has at most 99 starts, since it has at most 99 tracks and each track has at most one.
 use Rattle.std.proofs.Common.{ap, append-nil, append_assoc, arith, Bool, cond, false, length}
 use Rattle.std.proofs.Common.{length-append, List, nat_le, None, not, Ok, Option, refl, Some, subst}
 use Rattle.std.proofs.Common.{sym, true, ℕ, [], ◌++◌, ◌+◌, ◌<◌, ◌||◌, ◌∙◌, ◌∷◌, ◌≡◌, ◌≤◌}
@@ -14,7 +14,7 @@ use Rattle.cue_sheet.specs.declared.entry.CueEntry.TheVariants.{Broken, File, In
 use Rattle.cue_sheet.specs.declared.{entry.CueEntry.TheVariants.Track, place.Place.Place}
 use Rattle.cue_sheet.specs.declared.sheet_state.SheetState.{SheetState}
 
--- what the lines so far and one more say together
+-- what the lines so far and one line more say together
 behind : SheetState → CueEntry → SheetState
 behind s e = record {
   lines = s.lines + 1;
@@ -35,7 +35,8 @@ seen_behind before e s is = seen_more before e s (record {
   last = last_or s.last (times_of (e ∷ []));
 }) is refl refl refl refl refl
 
--- so many starts are in the tracks, of which the last has none before its start
+-- there are at most 99 tracks and at most as many starts, and fewer starts than tracks while the
+-- last track has none
 record IsFew (count : ℕ) (s : SheetState) : Type 0 where
   most : s.tracks ≤ 99
   few : count ≤ s.tracks
@@ -60,7 +61,7 @@ has_one n e = at (nat_le 1 n) refl e
     at true is e = omega (arith, leb-true 1 n is)
     at false is e = absurd cc
 
--- a line more without a fault
+-- the same with one line more that has no fault
 few_more : (before : List CueEntry) (e : CueEntry) (s : SheetState) → IsSheetState before s
     → IsFew (length (times_of before)) s → cue_fault_of before e ≡ None
     → IsFew (length (times_of before) + length (times_of (e ∷ []))) (behind s e)
@@ -133,7 +134,7 @@ starts_parts None (place ∷ more) starts e =
     let same : place ∷ more ≡ starts = cc in
     (refl, same, omega (arith, ap length same))
 
--- the starts that these lines say
+-- there are 1 to 99 starts if no line is at fault
 pub starts-few : (entries : List CueEntry) (starts : List Place) → cue_in entries ≡ Ok starts
     → (1 ≤ length starts) × (length starts ≤ 99)
 starts-few entries starts e =

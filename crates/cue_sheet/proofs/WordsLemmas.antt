@@ -32,7 +32,7 @@ others_are (x ∷ xs) =
           (others_are xs)
     ] refl
 
--- blanks at the beginning make no word
+-- dropping the blanks at the beginning doesn't change the words
 behind_blanks : (t : List ℕ) → words_of (drop (prefix_len is_blank t) t) ≡ words_of t
 unfolding words_of
 behind_blanks [] = refl
@@ -55,7 +55,7 @@ no_more_blanks (x ∷ xs) =
           ∙ at_letter x xs is
     ] refl
 
--- a text that begins with no blank begins with a word
+-- a text that doesn't begin with a blank begins with a word
 some_word : (t : List ℕ) → 0 < length t → prefix_len is_blank t ≡ 0
     → is_some_word (take (position_or_len is_blank t) t) ≡ true
 some_word [] some none = absurd (omega (arith, some))
@@ -77,7 +77,7 @@ here t some none =
     (other_parts is_blank (drop (position_or_len is_blank t) t)))) (some_word t some none)
     ∙ ap (λ words. take (position_or_len is_blank t) t ∷ words) (others_are t)
 
--- the words of a line are the first one, and those after it
+-- the words of a line are the first word and the words after it
 pub next_word_is : (line t : List ℕ) → t ≡ drop (prefix_len is_blank line) line → 0 < length t
     → words_of line
     ≡ take (position_or_len is_blank t) t ∷ words_of (drop (position_or_len is_blank t) t)

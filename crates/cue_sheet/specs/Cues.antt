@@ -1,5 +1,5 @@
 -- The starts of the tracks in a cue sheet, and the first fault of its lines. Cue sheets have no
--- standard, and what is read of them is this project's rule.
+-- standard; what is read of them is this project's rule.
 use Rattle.std.specs.List.{All, AllPairs, count_by, filter_map, last_or, list_any}
 use Rattle.std.specs.Option.{option_or}
 use Rattle.std.specs.Prelude.{Bool, Err, false, find, if◌then◌else◌, length, List, map, nat_le}
@@ -50,12 +50,12 @@ cue_entries_of bytes = map cue_entry_in (lines_of bytes)
 abbrev pub has_track : List CueEntry → Bool
 has_track before = nat_le 1 (count_by is_track before)
 
--- there is a line, and it is a start
+-- there is an entry, and it is a start
 abbrev pub is_start_there : Option CueEntry → Bool
 is_start_there None = false
 is_start_there (Some entry) = is_start entry
 
--- the track has a start: among the TRACK lines and the starts so far, the last line is a start
+-- the current track has a start: the last of the TRACK lines and the starts so far is a start
 abbrev pub is_started : List CueEntry → Bool
 is_started before =
     is_start_there (find (λ entry. is_track entry || is_start entry) (reverse before))
@@ -83,9 +83,9 @@ pub record IsSheetState (before : List CueEntry) (seen : SheetState) : Type 0 wh
 abbrev pub line_fault : Bool → ℕ → Option CueFault
 line_fault is line = if is then Some (Line line) else None
 
--- The fault of a line with this number after others. FILE is there at most
--- once, TRACK at most 99 times; INDEX is after a TRACK line, and its number
--- 1 at most once in a track; a start is later than the one before it.
+-- The fault of a line with this number after others. FILE may be there at most once, TRACK at most
+-- 99 times; INDEX has to be after a TRACK line, with number 1 at most once in a track; a start has
+-- to be later than the one before it.
 abbrev pub fault_in : ℕ → List CueEntry → CueEntry → Option CueFault
 fault_in line before Passed = None
 fault_in line before File = line_fault (list_any is_file before) line
@@ -97,7 +97,7 @@ fault_in line before (Start time) =
     else Some (NotRising line)
 fault_in line before Broken = Some (Line line)
 
--- lines are counted from 1
+-- the fault of a line after others; lines are counted from 1
 unfoldable pub cue_fault_of : List CueEntry → CueEntry → Option CueFault
 cue_fault_of before entry = fault_in (length before + 1) before entry
 
@@ -109,7 +109,7 @@ first_cue_fault before (entry ∷ more) =
 
 -- ---- the cue
 
--- a start as a position: in parts of 1/75 second
+-- a start as a position, in parts of 1/75 second
 abbrev pub place_at : ℕ → Place
 place_at time = Time time 75
 
@@ -122,7 +122,7 @@ abbrev pub some_starts : List Place → Result (List Place) CueFault
 some_starts [] = Err NoTracks
 some_starts (place ∷ more) = Ok (place ∷ more)
 
--- the answer, unless there is a fault
+-- the result, unless there is a fault
 abbrev pub fault_or_cue : Option CueFault → Result (List Place) CueFault
     → Result (List Place) CueFault
 fault_or_cue None answer = answer
@@ -136,7 +136,7 @@ cue_in entries = fault_or_cue (first_cue_fault [] entries) (some_starts (places_
 unfoldable pub cue_of : List ℕ → Result (List Place) CueFault
 cue_of bytes = cue_in (cue_entries_of bytes)
 
--- each is later than those before it
+-- each time is later than the ones before it
 abbrev pub IsRising : List ℕ → Type 0
 IsRising times = AllPairs (λ s t. s < t) times
 
@@ -149,6 +149,6 @@ pub record AreStarts (places : List Place) : Type 0 where
 
 -- ---- the lines from a place on
 
--- the lines from a place on at which a line begins; none after the end
+-- what the lines say from a place on at which a line begins; none past the end
 abbrev pub cue_entries_from : List ℕ → ℕ → List CueEntry
 cue_entries_from text at = map cue_entry_in (lines_from text at)

@@ -14,7 +14,7 @@ number_in least most greatest digits =
 abbrev pub size_in : List ℕ → Option ℤ
 size_in digits = option_map pos (number_in 1 3 255 digits)
 
--- steps: such digits, after `+` or `-` or alone
+-- the steps of gain that a word says: one to three digits up to 255, after `+` or `-` or alone
 abbrev pub steps_in : List ℕ → Option ℤ
 steps_in [] = None
 steps_in (first ∷ rest) =

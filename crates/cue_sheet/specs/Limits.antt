@@ -1,4 +1,4 @@
--- What a sheet is limited to.
+-- Limits of a sheet.
 use Rattle.std.specs.Prelude.{ℕ}
 
 -- the greatest length of a sheet in bytes

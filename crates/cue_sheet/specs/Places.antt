@@ -1,4 +1,4 @@
--- Positions in a stream: the words that say them, as those of mp3splt, and the frames that they are
+-- Positions in a stream: the words that say them, as in mp3splt, and the frames that they are
 -- before, by samples and frequency (ISO/IEC 11172-3 and 13818-3, 2.4.2.1 and 2.4.2.3).
 use Rattle.std.specs.List.{after_first, before_first, position_or_len}
 use Rattle.std.specs.Prelude.{Bool, bytes_eq, codes, drop, if◌then◌else◌, length, List, Option}
@@ -18,24 +18,24 @@ is_dot byte = byte == 46
 abbrev pub frame_number : List ℕ → Option Place
 frame_number word = option_map Frame (number_in 1 7 9999999 word)
 
--- after the seconds there is nothing, or a dot and one or two digits
+-- the hundredths after the seconds: nothing, or a dot and one or two digits
 abbrev pub hundredths_of : List ℕ → Option ℕ
 hundredths_of [] = Some 0
 hundredths_of (dot ∷ digits) = number_in 1 2 99 digits
 
--- so many minutes, seconds and hundredths
+-- the time of this many minutes, seconds and hundredths
 abbrev pub time_in : ℕ → ℕ → ℕ → Place
 time_in minutes seconds hundredths = Time ((60 * minutes + seconds) * 100 + hundredths) 100
 
--- after the first dot there are the seconds, up to the next dot or the end, and then the hundredths
+-- the seconds after the first dot, up to the next dot or the end: one or two digits of at most 59
 abbrev pub seconds_in : List ℕ → Option ℕ
 seconds_in rest = number_in 1 2 59 (before_first is_dot rest)
 
--- the hundredths that are after the seconds
+-- the hundredths after the seconds, from the second dot on
 abbrev pub hundredths_in : List ℕ → Option ℕ
 hundredths_in rest = hundredths_of (drop (position_or_len is_dot rest) rest)
 
--- the time of minutes and what is after the first dot
+-- the time of these minutes and what is after the first dot
 unfoldable pub time_of : List ℕ → List ℕ → Option Place
 time_of minutes rest =
     option_and_then (λ m. option_and_then (λ s. option_map (time_in m s) (hundredths_in rest))

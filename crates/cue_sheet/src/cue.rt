@@ -15,7 +15,7 @@ use std::marker::Model;
 /// Keeps the time of a line that is a start.
 ///
 /// # Errors
-/// Where there is no memory.
+/// If out of memory.
 fn keep_start(starts: &mut Vec<Place>, entry: CueEntry) -> Result<(), AllocError>
     ensures kept { OnOk result
         (starts.new.items ≡ starts.old.items ++ places_of (entry ∷ [])) }
@@ -76,7 +76,7 @@ impl Cue {
     /// Reads a cue sheet of at most 65,536 bytes, and keeps where its tracks start. A byte order mark at
     /// its beginning is skipped. Lines end with a line feed or at the end of the sheet; a carriage return
     /// at a line's end is dropped. Words are separated by spaces and tabs, and keywords are compared
-    /// without ASCII case. The first word decides:
+    /// ignoring ASCII case. The first word decides:
     ///
     /// - `FILE`: the rest of the line isn't read. At most one line is of this kind;
     /// - `TRACK`: one or two digits, from 1 to 99, and `AUDIO` follow. At most 99 lines are of this kind.
@@ -87,12 +87,12 @@ impl Cue {
     ///   before it;
     /// - any other line isn't read.
     ///
-    /// A track without an index of number 1 has no start. There are 1 to 99 starts.
+    /// A track without an index of number 1 has no start. There have to be 1 to 99 starts.
     ///
     /// # Errors
     /// The first line at fault, counted from 1: `Line` where it breaks its rule, `NotRising` where it is a
     /// start that isn't later than the one before it. `NoTracks` where no line is at fault and there is no
-    /// start. `Memory` where there is no memory.
+    /// start. `Memory` if out of memory.
     #[tactic(auto, unfolding(crate::specs::Cues::cue_of))]
     pub fn read(alloc: Global, bytes: &[u8]) -> Result<Cue, CueFault>
         requires { length bytes.now ≤ longest_sheet }

@@ -13,7 +13,7 @@ pub enum CueFault {
     /// No line is at fault, and no track has a start.
     #[error("there are no tracks")]
     NoTracks,
-    /// There was no memory left.
+    /// Out of memory.
     #[error("out of memory")]
     Memory,
 }

@@ -36,8 +36,8 @@ fn read_size(digits: &[u8]) -> Option<i16>
     Some(size as i16)
 }
 
-/// The steps that a word says, from -255 to 255: such digits, after `+` or `-` or alone. `None` for every
-/// other word.
+/// The steps that a word says, from -255 to 255: one to three digits, after `+` or `-` or alone. `None`
+/// for every other word.
 pub fn read_steps(word: &[u8]) -> Option<i16>
     ensures steps { result ≡ steps_in word.now }
     ensures most { IfSome result (λ steps. unsigned_abs steps ≤ 255) }
@@ -50,7 +50,7 @@ pub fn read_steps(word: &[u8]) -> Option<i16>
     }
 }
 
-/// The place of the first byte that is this one, or the length of the text where there is none.
+/// The place of the first such byte, or the length of the text where there is none.
 pub(crate) fn position_of(text: &[u8], byte: u8) -> usize
     ensures place { result ≡ position_or_len (λ b. b == byte) text.now }
     ensures within { result ≤ length text.now }

@@ -6,7 +6,7 @@ ghost use Rattle.cue_sheet.specs.Entries.{is_word, is_track_number, sheet_time, 
 use crate::digits::read_number;
 use crate::words::{next_word, read_pair, text_after, text_before};
 
-/// What a line says by itself, whatever lines are before it.
+/// What a line says by itself, regardless of the lines before it.
 #[derive(Clone, Copy)]
 pub(crate) enum CueEntry {
     /// A line that isn't read.
@@ -21,14 +21,14 @@ pub(crate) enum CueEntry {
     Broken,
 }
 
-/// Whether the word is this keyword, compared without ASCII case.
+/// Whether the word is this keyword, compared ignoring ASCII case.
 fn is_word(word: &[u8], keyword: &[u8]) -> bool
     ensures { result ≡ is_word word.now keyword.now }
 {
     word.eq_ignore_ascii_case(keyword)
 }
 
-/// Whether these are one or two digits of a number from 1 to 99.
+/// Whether these are one or two digits that spell a number from 1 to 99.
 fn is_track_number(digits: &[u8]) -> bool
     ensures { result ≡ is_track_number digits.now }
 {

@@ -11,8 +11,8 @@ use frame_header::Class;
 pub enum Place {
     /// Before the frame with this number.
     Frame(u32),
-    /// A time after the first frame begins: so many parts of a second, and how many parts a second has,
-    /// from 1 to 100. The position is before the frame that sounds then.
+    /// A time after the first frame begins: a number of parts of a second, and how many parts a second
+    /// has, from 1 to 100. The position is before the frame that is played at that time.
     Time(u32, u32),
     /// After the last frame.
     End,
@@ -27,7 +27,7 @@ impl Default for Place {
     }
 }
 
-// What is after the seconds: nothing, or a dot and one or two digits.
+// The hundredths after the seconds: nothing, or a dot and one or two digits.
 fn read_hundredths(tail: &[u8]) -> Option<u32>
     ensures hundredths { result ≡ hundredths_of tail.now }
     ensures most { IfSome result (λ hundredths. hundredths ≤ 99) }
@@ -38,7 +38,7 @@ fn read_hundredths(tail: &[u8]) -> Option<u32>
     }
 }
 
-// Minutes, and what is after the first dot.
+// A time, from its minutes and what is after the first dot.
 #[tactic(auto, unfolding(crate::specs::Places::time_of))]
 fn read_time(minutes: &[u8], rest: &[u8]) -> Option<Place>
     ensures time { result ≡ time_of minutes.now rest.now }
@@ -55,7 +55,7 @@ fn read_time(minutes: &[u8], rest: &[u8]) -> Option<Place>
 impl Place {
     /// The position that a word says, as mp3splt writes them: `EOF`, the end; one to seven digits, the
     /// number of a frame; or one to four digits, a dot, one or two digits of at most 59, and optionally a
-    /// dot and one or two digits: minutes, seconds and hundredths of a second. A single digit counts
+    /// dot and one or two digits: minutes, seconds and hundredths of a second. A single last digit is
     /// hundredths too. `None` exactly for every other word.
     pub fn read(word: &str) -> Option<Place>
         ensures place { result ≡ place_of word.now }
@@ -64,7 +64,7 @@ impl Place {
         Place::of_word(word.as_bytes())
     }
 
-    /// The same of a word of a sheet, whose bytes needn't be UTF-8.
+    /// The same for a word of a sheet, whose bytes needn't be UTF-8.
     pub fn of_word(word: &[u8]) -> Option<Place>
         ensures place { result ≡ place_of word.now }
         ensures sound { IfSome result IsPlace }
@@ -79,7 +79,7 @@ impl Place {
         read_time(&word[..end], &word[end + 1..])
     }
 
-    /// The number of the frame that the position is before, in a stream of so many frames of this class:
+    /// The number of the frame that the position is before, in a stream of `frames` frames of this class:
     /// the number itself, the number of frames for the end, and for a time the number of whole frames that
     /// take no longer. It may be greater than the number of frames.
     pub fn frame_of(&self, class: Class, frames: u32) -> u64

@@ -9,19 +9,19 @@ use crate::entry::CueEntry;
 /// What the lines so far say together.
 #[derive(Clone, Copy)]
 pub(crate) struct SheetState {
-    /// How many lines there were.
+    /// How many lines there have been.
     lines: u32,
     /// Whether a FILE line is among them.
     file: bool,
     /// How many TRACK lines are among them.
     tracks: u32,
-    /// Whether a start is after the last TRACK line.
+    /// Whether there is a start after the last TRACK line.
     started: bool,
     /// The time of the last start.
     last: Option<u32>,
 }
 
-/// A fault of this line, or none.
+/// The fault `Line` with this line, or none.
 fn line_fault(is: bool, line: u32) -> Option<CueFault>
     ensures { result ≡ line_fault is line }
 {

@@ -37,14 +37,14 @@ pub fn without_mark(bytes: &[u8]) -> &[u8]
     }
 }
 
-/// What is before the first byte that is this one, or all of the text where there is none.
+/// What is before the first such byte, or all of the text where there is none.
 pub fn text_before(text: &[u8], byte: u8) -> &[u8]
     ensures { result.now ≡ before_first (λ b. b == byte) text.now }
 {
     &text[..position_of(text, byte)]
 }
 
-/// What is after the first byte that is this one, or nothing where there is none.
+/// What is after the first such byte, or nothing where there is none.
 pub fn text_after(text: &[u8], byte: u8) -> &[u8]
     ensures { result.now ≡ after_first (λ b. b == byte) text.now }
 {
@@ -71,7 +71,7 @@ fn is_blank(byte: u8) -> bool
     byte == b' ' || byte == b'\t'
 }
 
-/// With how many blanks the text begins.
+/// How many blanks the text begins with.
 fn blanks(text: &[u8]) -> usize
     ensures blanks { result ≡ prefix_len is_blank text.now }
     ensures within { result ≤ length text.now }
@@ -83,7 +83,7 @@ fn blanks(text: &[u8]) -> usize
     count
 }
 
-/// How many bytes are before the first blank.
+/// How many bytes are before the first blank, or in all where there is none.
 fn word_length(text: &[u8]) -> usize
     ensures word { result ≡ position_or_len is_blank text.now }
     ensures within { result ≤ length text.now }

@@ -1,5 +1,5 @@
--- What a block's first bytes say: 32 of them show it, the first
--- is its kind's, and so one kind at most begins at an offset.
+-- What a block's first bytes say: 32 of them decide, and the first of them depends on the kind, so
+-- bytes begin with one kind at most.
 use Rattle.std.proofs.Common.{ap, arith, Bool, codes, drop, false, get_or, leb, length, List, lit<}
 use Rattle.std.proofs.Common.{None, Option, refl, Some, subst, sym, take, true, ℕ, ◌+◌, ◌-◌, ◌<◌}
 use Rattle.std.proofs.{Common.{◌∙◌, ◌≡◌, ◌≢◌, ◌≤◌}, lemmas.Bool.{and_parts, leb-false, leb-true}}
@@ -77,7 +77,7 @@ some_cases bytes b (Some x) y z first second third is = front_as-own Id3v2 bytes
 some_cases bytes b None (Some y) z first second third is = front_as-own Id3v1 bytes b (second ∙ is)
 some_cases bytes b None None z first second third is = front_as-own Ape bytes b (third ∙ is)
 
--- the block with which bytes begin is that of its kind
+-- the block with which bytes begin is the block of its kind
 pub block_front-own : (bytes : List ℕ) (b : Block) → block_front bytes ≡ Some b
     → block_of_kind b.kind bytes ≡ Some b
 unfolding block_front
@@ -127,7 +127,7 @@ pub block_front-any : (kind : Kind) (bytes : List ℕ) (b : Block) → block_of_
     → block_front bytes ≡ Some b
 block_front-any kind bytes b is = any_cases kind bytes b is (block_front bytes) refl
 
--- a block begins with its kind's first byte, which is neither 0 nor the first byte of a header
+-- a block begins with the first byte of its kind
 pub block_front-first : (bytes : List ℕ) (b : Block) → block_front bytes ≡ Some b
     → get_or bytes 0 0 ≡ first_byte b.kind
 block_front-first bytes b is = begins-first b.kind bytes (block_front-begins bytes b is).0
@@ -172,12 +172,12 @@ long_cases k n bytes within false true e f = absurd (omega (
 ))
 long_cases k n bytes within _ _ e f = refl
 
--- whether bytes are long enough is seen from any first bytes that are
+-- whether bytes are long enough is seen from their first bytes, if there are enough of these
 pub long_take : (k n : ℕ) (bytes : List ℕ) → k ≤ n
     → leb k (length (take n bytes)) ≡ leb k (length bytes)
 long_take k n bytes within = long_cases k n bytes within _ _ refl refl
 
--- bytes within the first ones are the same in these alone
+-- bytes within the first n are the same in these n alone
 pub part_take : (at many n : ℕ) (bytes : List ℕ) → at + many ≤ n
     → take many (drop at (take n bytes)) ≡ take many (drop at bytes)
 part_take at many n bytes within =

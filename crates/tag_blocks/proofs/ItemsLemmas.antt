@@ -1,5 +1,5 @@
--- Items and their bytes give each other back: one item with
--- which bytes begin, and items one right after the other.
+-- Items and their bytes give each other back: one item with which bytes begin, and items with
+-- nothing between them.
 use Rattle.std.proofs.Common.{ap, append-nil, append_assoc, arith, Bool, cond, drop, false, get_or}
 use Rattle.std.proofs.Common.{length, length-append, length-drop, length-take, List, None, Option}
 use Rattle.std.proofs.Common.{refl, Some, subst, suc, sym, take, take-append-drop, true, zero, ℕ}
@@ -27,7 +27,7 @@ pub length-item_bytes : (item : TagItem) → length (item_bytes item) ≡ item_l
 unfolding item_bytes
 length-item_bytes item = omega (arith, length-append item.key (0 ∷ item.value))
 
--- items are as long as the first and the rest
+-- the length of items is the length of the first plus the length of the rest
 pub items_length-cons : (item : TagItem) (items : List TagItem)
     → items_length (item ∷ items) ≡ item_length item + items_length items
 items_length-cons item items = sum_by-cons item_length item items
@@ -57,7 +57,7 @@ length-items_bytes (item ∷ items) =
 
 -- ---- numbers of 32 bits
 
--- what is left of bytes are bytes
+-- dropping some of a list of bytes leaves bytes
 pub octets-drop : (n : ℕ) (bytes : List ℕ) → AreByteValues bytes → AreByteValues (drop n bytes)
 octets-drop n bytes octets =
     λ i. subst (λ b. b < 256) (sym (get_or-drop n bytes i 0)) (octets (n + i))
@@ -84,14 +84,14 @@ little_number-little_bytes n below = ap (little_number 4) (sym (append-nil (litt
 
 -- ---- an item with which bytes begin
 
--- what is there, part by part
+-- the conditions for a whole item, one by one
 pub record Stands (bytes : List ℕ) : Type 0 where
   pub least : 2 ≤ key_length bytes
   pub most : key_length bytes ≤ 255
   pub within : value_place bytes + ape_number 0 bytes ≤ length bytes
   pub zero_behind : get_or bytes (8 + key_length bytes) 0 ≡ 0
 
--- where an item is whole, all its parts are
+-- if an item is whole, all the conditions hold
 pub stands-parts : (bytes : List ℕ) → has_whole_item bytes ≡ true → Stands bytes
 unfolding has_whole_item
 stands-parts bytes is =
@@ -105,18 +105,18 @@ stands-parts bytes is =
       zero_behind = eqb-true _ _ three.1;
     }
 
--- where all its parts are, an item is whole
+-- if all the conditions hold, an item is whole
 pub stands-from : (bytes : List ℕ) → Stands bytes → true ≡ has_whole_item bytes
 unfolding has_whole_item
 stands-from bytes s = sym (and_from _ _ (and_from _ _ (and_from _ _ (le-leb _ _ s.least)
     (le-leb _ _ s.most)) (le-leb _ _ s.within)) (eq-eqb _ _ s.zero_behind))
 
--- where not all its parts are, no item is whole
+-- if not all the conditions hold, no item is whole
 pub stands_not : (bytes : List ℕ) → (Stands bytes → ⊥) → false ≡ has_whole_item bytes
 stands_not bytes none =
     sym (false_from_ne_true (has_whole_item bytes) (λ is. none (stands-parts bytes is)))
 
--- an item is as long as what is before its value, and its value
+-- an item is as long as the bytes before its value plus its value
 pub length-front : (bytes : List ℕ) → has_whole_item bytes ≡ true
     → item_length (tag_item_front bytes) ≡ value_place bytes + ape_number 0 bytes
 unfolding tag_item_front
@@ -144,7 +144,7 @@ joined a b key value rest =
 split : (n : ℕ) (bytes : List ℕ) → bytes ≡ take n bytes ++ drop n bytes
 split n bytes = sym (take-append-drop n bytes)
 
--- the parts of an item and what is after it, from the first byte on
+-- the parts of an item and what is after it, in order
 parts_of : (bytes : List ℕ) → has_whole_item bytes ≡ true
     → bytes ≡ take 4 bytes ++ (take 4 (drop 4 bytes)
     ++ (take (key_length bytes) (drop 8 bytes) ++ (0 ∷ (take (ape_number 0 bytes)
@@ -168,7 +168,7 @@ parts_of bytes is =
     split 4 bytes ∙ ap (λ l. take 4 bytes ++ l) (flags ∙ ap (λ l. take 4 (drop 4 bytes) ++ l)
     (key ∙ ap (λ l. take k (drop 8 bytes) ++ l) (zeroed ∙ ap (λ l. 0 ∷ l) value)))
 
--- the bytes begin with those of the item that is read from them
+-- the bytes begin with the bytes of the item that is read from them
 pub bytes-front : (bytes : List ℕ) → AreByteValues bytes → has_whole_item bytes ≡ true
     → bytes ≡ item_bytes (tag_item_front bytes) ++ drop (item_length (tag_item_front bytes)) bytes
 unfolding item_bytes tag_item_front
@@ -239,7 +239,7 @@ pub record IsItem (item : TagItem) : Type 0 where
   pub value : length item.value < 2 ^ 32
   pub flags : item.flags < 2 ^ 32
 
--- what passes the test of items is one
+-- what passes the test of items is an item
 pub is_item-parts : (item : TagItem) → is_item item ≡ true → IsItem item
 unfolding is_item
 is_item-parts item is =
@@ -262,7 +262,7 @@ prefix_len-key (c ∷ key) behind all =
     let parts = and_parts (is_key_char c) (list_all is_key_char key) all in
     rw parts.0 (omega (arith, prefix_len-key key behind parts.1))
 
--- the bytes of an item, with what is after them
+-- the bytes of an item, followed by what is after them
 shown : TagItem → List ℕ → List ℕ
 shown item rest = little_bytes 4 (length item.value)
     ++ (little_bytes 4 item.flags ++ (item.key ++ (0 ∷ (item.value ++ rest))))
@@ -366,13 +366,13 @@ next_cases met (Some other) item e =
     let cases = admitted_cases met (is_undo other) other item refl e in
     (cases.0, subst (λ i. (met && is_undo i) ≡ false) (some_same other item cases.0) cases.1)
 
--- the item that comes next is there, and isn't a second undo item
+-- the next item is there, and isn't a second undo item
 pub record IsNext (met : Bool) (bytes : List ℕ) (item : TagItem) : Type 0 where
   pub stands_there : has_whole_item bytes ≡ true
   pub is : tag_item_front bytes ≡ item
   pub admitted : (met && is_undo item) ≡ false
 
--- an item that comes next is whole, and not a second undo item
+-- if there is a next item, it is whole and not a second undo item
 pub next_item-is : (met : Bool) (bytes : List ℕ) (item : TagItem) → next_item met bytes ≡ Some item
     → IsNext met bytes item
 next_item-is met bytes item next =
@@ -380,7 +380,7 @@ next_item-is met bytes item next =
     let here = cond_some (has_whole_item bytes) (tag_item_front bytes) item cases.0 in
     record { stands_there = here.0; is = here.1; admitted = cases.1 }
 
--- it is within the bytes
+-- the next item is within the bytes
 pub next_item-within : (met : Bool) (bytes : List ℕ) (item : TagItem)
     → next_item met bytes ≡ Some item → item_length item ≤ length bytes
 next_item-within met bytes item next = let here = next_item-is met bytes item next in
@@ -398,7 +398,7 @@ one_more : (most : ℕ) (met : Bool) (bytes : List ℕ) → tag_items_from (suc 
 unfolding tag_items_from
 one_more most met bytes = refl
 
--- the items from here on are the one that comes next, and those behind it
+-- the items from here on are the next one and the items after it
 pub items_from-next : (most : ℕ) (met : Bool) (bytes : List ℕ) (item : TagItem)
     → next_item met bytes ≡ Some item → tag_items_from (suc most) met bytes
     ≡ item ∷ tag_items_from most (met || is_undo item) (drop (item_length item) bytes)
@@ -406,7 +406,7 @@ items_from-next most met bytes item next = one_more most met bytes
     ∙ ap (item_and_more (λ i. tag_items_from most (met || is_undo i) (drop (item_length i) bytes)))
     next
 
--- where none comes next there are no items
+-- if there is no next item, there are no items
 pub items_from-none : (most : ℕ) (met : Bool) (bytes : List ℕ) → next_item met bytes ≡ None
     → tag_items_from most met bytes ≡ []
 unfolding tag_items_from
@@ -415,12 +415,12 @@ items_from-none (suc most) met bytes none = one_more most met bytes
     ∙ ap (item_and_more (λ i. tag_items_from most (met || is_undo i) (drop (item_length i) bytes)))
     none
 
--- where no more may come there are none
+-- if no more items may follow, there are none
 pub items_from-zero : (met : Bool) (bytes : List ℕ) → tag_items_from 0 met bytes ≡ []
 unfolding tag_items_from
 items_from-zero met bytes = refl
 
--- steps of a loop over items: one more, none that comes next, and as many as there may be
+-- a step of the loop over items, with one item more
 pub read_more : (whole items : List TagItem) (count at passed : ℕ) (met : Bool) (bytes : List ℕ)
     (item : TagItem) → at < count
     → whole ≡ items ++ tag_items_from (count - at) met (drop passed bytes)
@@ -437,13 +437,13 @@ read_more whole items count at passed met bytes item more is next =
     (tag_items_from (count - (at + 1)) (met || is_undo item)
     (drop (passed + item_length item) bytes)))
 
--- where none comes next the items so far are all
+-- if there is no next item, the items so far are all
 pub read_none : (whole items : List TagItem) (left : ℕ) (met : Bool) (bytes : List ℕ)
     → whole ≡ items ++ tag_items_from left met bytes → next_item met bytes ≡ None → items ≡ whole
 read_none whole items left met bytes is none =
     sym (is ∙ ap (λ l. items ++ l) (items_from-none left met bytes none) ∙ append-nil items)
 
--- as many items as may come are all
+-- if as many items were read as there may be, they are all
 pub read_all : (whole items : List TagItem) (count at : ℕ) (met : Bool) (bytes : List ℕ)
     → count ≤ at → whole ≡ items ++ tag_items_from (count - at) met bytes → items ≡ whole
 read_all whole items count at met bytes done is =
@@ -459,7 +459,7 @@ undo_cases : (items : List TagItem) (item : TagItem) (is : Bool) → is_undo ite
 undo_cases items item true own = omega arith
 undo_cases items item false own = omega arith
 
--- the undo items are one more if the first is one
+-- there is one undo item more if the first item is one
 pub undos-cons : (item : TagItem) (items : List TagItem) → length (filter is_undo (item ∷ items))
     ≡ cond (is_undo item) 1 0 + length (filter is_undo items)
 undos-cons item items = undo_cases items item (is_undo item) refl
@@ -482,8 +482,8 @@ at_most_one : (met : Bool) → cond met 1 0 + 0 ≤ 1
 at_most_one true = omega arith
 at_most_one false = omega arith
 
--- all are items, the bytes begin with theirs, and at most
--- one is an undo item, or none where one was met before
+-- all are items, the bytes begin with theirs, and at most one is an undo item, or none where one
+-- was found before
 pub record AreRead (met : Bool) (bytes : List ℕ) (items : List TagItem) : Type 0 where
   pub all : list_all is_item items ≡ true
   pub front : bytes ≡ items_bytes items ++ drop (items_length items) bytes
@@ -557,7 +557,7 @@ items_from-items_bytes met (item ∷ items) all few =
     (drop_at (item_bytes item) (items_bytes items) (item_length item) (length-item_bytes item))
     ∙ items_from-items_bytes (met || is_undo item) items parts.1 less.1)
 
--- they are within the bytes
+-- the items that are read are within the bytes
 pub items_from-within : (most : ℕ) (met : Bool) (bytes : List ℕ) → AreByteValues bytes
     → items_length (tag_items_from most met bytes) ≤ length bytes
 items_from-within most met bytes octets =
@@ -570,9 +570,9 @@ items_from-within most met bytes octets =
       length-items_bytes items,
     )
 
--- ---- and reading ends only where it has to
+-- ---- reading ends only where it has to
 
--- there are as many items as may come, or no further one comes next
+-- there are as many items as there may be, or there is no next one
 pub record IsStopped (most : ℕ) (met : Bool) (bytes : List ℕ) (items : List TagItem) : Type 0 where
   pub few : length items ≤ most
   pub last : length items < most
@@ -619,7 +619,7 @@ stop_cases most met bytes fewer (Some item) next =
     (stopped_later most met bytes item (tag_items_from most (met || is_undo item)
     (drop (item_length item) bytes)) (fewer (met || is_undo item) (drop (item_length item) bytes)))
 
--- reading goes on to the last item that may come or comes
+-- reading continues up to the most items there may be, or until there is no next one
 pub items_from-stopped : (most : ℕ) (met : Bool) (bytes : List ℕ)
     → IsStopped most met bytes (tag_items_from most met bytes)
 items_from-stopped zero met bytes = subst (IsStopped 0 met bytes) (sym (items_from-zero met bytes))
@@ -627,14 +627,15 @@ items_from-stopped zero met bytes = subst (IsStopped 0 met bytes) (sym (items_fr
 items_from-stopped (suc most) met bytes =
     stop_cases most met bytes (λ m b. items_from-stopped most m b) (next_item met bytes) refl
 
--- ---- and no others are read
+-- ---- no other items are read
 
 only_none : (most : ℕ) (met : Bool) (bytes : List ℕ) → (0 < most → next_item met bytes ≡ None)
     → tag_items_from most met bytes ≡ []
 only_none zero met bytes last = items_from-zero met bytes
 only_none (suc most) met bytes last = items_from-none (suc most) met bytes (last (omega arith))
 
--- items whose bytes are there, and behind which none comes, are those that are read
+-- items with whose bytes the bytes begin, and after which there is no next one, are the items that
+-- are read
 pub items_from-only : (most : ℕ) (met : Bool) (items : List TagItem) (bytes rest : List ℕ)
     → list_all is_item items ≡ true → length items ≤ most
     → cond met 1 0 + length (filter is_undo items) ≤ 1 → bytes ≡ items_bytes items ++ rest

@@ -25,7 +25,7 @@ use Rattle.tag_blocks.specs.Tags.{footer_place, is_footer, is_reserved, IsTag, i
 use Rattle.tag_blocks.specs.Tags.{tag_items_of, tag_of, tag_size, TagFields}
 use Rattle.tag_blocks.specs.declared.{block.Kind.TheVariants.Ape, tag_fault.TagFault.TagFault}
 
--- ---- how long
+-- ---- lengths
 
 -- the items of a tag have at most 2,097,024 bytes
 pub items_length-most : (tag : TagFields) → IsTag tag → items_length tag.items ≤ 2097024
@@ -69,7 +69,7 @@ length-tag_bytes tag =
 
 -- ---- a header or a footer that was written
 
--- what bytes consist of that begin with a header or a footer
+-- bytes begin with a header or a footer, and these are its fields and the bytes after it
 pub record IsEnd (size count flags : ℕ) (bytes rest : List ℕ) : Type 0 where
   pub long : nat_le 32 (length bytes) ≡ true
   pub text : begins_with (codes "APETAGEX") bytes ≡ true
@@ -106,7 +106,7 @@ is_footer-end size count flags bytes is bits =
     (eq-eqb (ape_size bytes) size is.size_is)) (eq-eqb (ape_count bytes) count is.count_is))
     (subst (λ n. are_footer_flags n ≡ true) (sym is.flags_is) bits)) is.reserved
 
--- the bytes of a tag are its header, its items and its footer, each in its place
+-- the block has the header, the items and the footer of a tag, each in its place
 pub record AreParts (tag : TagFields) (block : List ℕ) : Type 0 where
   pub header : IsEnd (tag_size tag) (length tag.items) tag.header_flags block
       (items_bytes tag.items ++ end_bytes (tag_size tag) (length tag.items) tag.footer_flags)
@@ -123,7 +123,7 @@ tag_bytes-is : (tag : TagFields)
 unfolding tag_bytes
 tag_bytes-is tag = refl
 
--- the bytes of a tag are its header, its items and its footer, each where it belongs
+-- the bytes of a tag have its header, items and footer, each in its place
 pub tag_bytes-parts : (tag : TagFields) → IsTag tag → AreParts tag (tag_bytes tag)
 tag_bytes-parts tag is =
     let size : ℕ = tag_size tag in
@@ -154,7 +154,7 @@ tag_bytes-parts tag is =
           (end_bytes-parts size count tag.footer_flags [] s n (ltb-true _ _ is.footer_number));
     }
 
--- header, items and footer, added one after the other to nothing
+-- header, items and footer, appended to nothing in order, are the bytes of the tag
 pub tag_bytes-added : (tag : TagFields) (size count : ℕ) (nothing header items whole : List ℕ)
     → size ≡ tag_size tag → count ≡ length tag.items → nothing ≡ [] → header
     ≡ nothing ++ end_bytes size count tag.header_flags → items ≡ header ++ items_bytes tag.items
@@ -165,7 +165,7 @@ tag_bytes-added tag size count nothing header items whole size_is count_is first
     (length tag.items) tag.header_flags) (items_bytes tag.items)
     (end_bytes (tag_size tag) (length tag.items) tag.footer_flags) ∙ sym (tag_bytes-is tag))
 
--- ---- what a block says of its tag, step by step
+-- ---- the tag of a block, step by step
 
 -- reserved bytes that aren't zeros are a fault at byte 24
 pub tag_of-reserved : (block : List ℕ) → is_reserved block ≡ false
@@ -173,14 +173,14 @@ pub tag_of-reserved : (block : List ℕ) → is_reserved block ≡ false
 unfolding tag_of
 tag_of-reserved block bad = rw bad refl
 
--- if the items aren't as many as the header says, the fault is behind the last one
+-- if there aren't as many items as the header states, the fault is after the last one
 pub tag_of-count : (block : List ℕ) → is_reserved block ≡ true
     → (length (tag_items_of block) == ape_count block) ≡ false
     → tag_of block ≡ Err (TagFault.BadTag (32 + items_length (tag_items_of block)))
 unfolding tag_of
 tag_of-count block good bad = rw (good, bad) refl
 
--- so it is if the footer isn't behind the last item
+-- if the footer isn't right after the last item, the fault is after the last one
 pub tag_of-place : (block : List ℕ) → is_reserved block ≡ true
     → (length (tag_items_of block) == ape_count block) ≡ true
     → (32 + items_length (tag_items_of block) == footer_place block) ≡ false
@@ -188,7 +188,7 @@ pub tag_of-place : (block : List ℕ) → is_reserved block ≡ true
 unfolding tag_of
 tag_of-place block good counted bad = rw (good, counted, bad) refl
 
--- if there is no footer of this header, the fault is where it should be
+-- if there is no footer for this header, the fault is where the footer should be
 pub tag_of-footer : (block : List ℕ) → is_reserved block ≡ true
     → (length (tag_items_of block) == ape_count block) ≡ true
     → (32 + items_length (tag_items_of block) == footer_place block) ≡ true
@@ -204,7 +204,7 @@ tag_in block = record {
   items = tag_items_of block;
 }
 
--- otherwise the block is a tag
+-- if nothing is at fault, the block is a tag
 pub tag_of-whole : (block : List ℕ) → is_reserved block ≡ true
     → (length (tag_items_of block) == ape_count block) ≡ true
     → (32 + items_length (tag_items_of block) == footer_place block) ≡ true
@@ -213,7 +213,7 @@ pub tag_of-whole : (block : List ℕ) → is_reserved block ≡ true
 unfolding tag_of
 tag_of-whole block good counted placed footed = rw (good, counted, placed, footed) refl
 
--- the tag that is read from what was written is the one that was written
+-- the bytes of a tag are read as that tag
 pub tag_of-tag_bytes : (tag : TagFields) → IsTag tag → tag_of (tag_bytes tag) ≡ Ok tag
 tag_of-tag_bytes tag is =
     let block : List ℕ = tag_bytes tag in
@@ -248,7 +248,7 @@ is_ape-end size count flags bytes rest is most bits =
     (subst (λ n. (bit_at n 31 == 1) ≡ true) (sym is.flags_is) flag.0))
     (subst (λ n. (bit_at n 29 == 1) ≡ true) (sym is.flags_is) flag.1)
 
--- the bytes of a tag begin with an APEv2 block as long as they are
+-- the bytes of a tag begin with an APEv2 block that is as long as they are
 pub block_front-tag_bytes : (tag : TagFields) → IsTag tag
     → block_front (tag_bytes tag) ≡ Some (record { kind = Ape; length = length (tag_bytes tag) })
 unfolding ape_length
@@ -309,7 +309,7 @@ end_bytes-back bytes octets long text version reserved =
     (length-take-le 8 (drop 24 bytes) (omega (arith, long, length-drop 24 bytes))) in
     six bytes ∙ glued _ _ _ _ _ _ _ _ _ _ _ _ front number size count flags zero
 
--- a block as `block_at` tells it
+-- a block that `block_at` takes as an APEv2 block of its own length
 pub record IsBlock (block : List ℕ) : Type 0 where
   pub least : 32 ≤ length block
   pub text : begins_with (codes "APETAGEX") block ≡ true
@@ -318,7 +318,8 @@ pub record IsBlock (block : List ℕ) : Type 0 where
   pub long : 32 + ape_size block ≡ length block
   pub header_bits : are_header_flags (ape_flags block) ≡ true
 
--- a block that is all of its bytes begins with an APEv2 header that gives its length
+-- a block for which `block_at` returns its own length begins with an APEv2 header that gives this
+-- length
 pub block_front-is : (block : List ℕ)
     → block_front block ≡ Some (record { kind = Ape; length = length block }) → IsBlock block
 unfolding is_ape ape_length
@@ -347,7 +348,7 @@ pub record IsFooter (size count : ℕ) (footer : List ℕ) : Type 0 where
   pub bits : are_footer_flags (ape_flags footer) ≡ true
   pub reserved : is_reserved footer ≡ true
 
--- what passes the test of footers is one
+-- what passes the test of footers is a footer
 pub is_footer-parts : (size count : ℕ) (footer : List ℕ) → is_footer size count footer ≡ true
     → IsFooter size count footer
 unfolding is_footer
@@ -380,7 +381,7 @@ part-octets : (block : List ℕ) → AreByteValues block → AreByteValues (item
 part-octets block octets =
     octets-take (footer_place block - 32) (drop 32 block) (octets-drop 32 block octets)
 
--- the items of a block are those of a tag
+-- the items of a block without fault are the items of a tag
 pub IsTag-in : (block : List ℕ) → IsWhole block → IsTag (tag_in block)
 IsTag-in block whole =
     let read =
@@ -406,7 +407,7 @@ none_left n bytes few = nil_from_length (drop n bytes) (omega (arith, few, lengt
 up_to : (end n : ℕ) → 32 + n ≡ end → 32 + (end - 32) ≡ end
 up_to end n is = omega (arith, is)
 
--- and the bytes of that tag are the block
+-- the bytes of the tag of a block without fault are the block
 pub tag_bytes-in : (block : List ℕ) → IsWhole block → tag_bytes (tag_in block) ≡ block
 unfolding tag_bytes
 tag_bytes-in block whole =
@@ -445,7 +446,7 @@ tag_bytes-in block whole =
 
 -- ---- the steps of reading, by what was found at each
 
--- the items that were read, how many and how long they are, and the count that the header says
+-- the items that were read, their number and length, and the count that the header states
 pub record AreFound (block : List ℕ) (items : List TagItem) (many long count : ℕ) : Type 0 where
   pub items_is : items ≡ tag_items_of block
   pub many_is : many ≡ length items
@@ -454,7 +455,7 @@ pub record AreFound (block : List ℕ) (items : List TagItem) (many long count :
   pub reserved : is_reserved block ≡ true
 
 module _ (block : List ℕ) (items : List TagItem) (many long count : ℕ) where
-  -- if not as many items were read as the header says, the fault is behind the last one
+  -- if not as many items were read as the header states, the fault is after the last one
   pub count_fault : AreFound block items many long count → (many ≡ count → ⊥)
       → tag_of block ≡ Err (TagFault.BadTag (32 + long))
   count_fault found bad =
@@ -468,7 +469,7 @@ module _ (block : List ℕ) (items : List TagItem) (many long count : ℕ) where
       → length (tag_items_of block) ≡ ape_count block
   counted found good = sym (found.many_is ∙ ap length found.items_is) ∙ good ∙ found.count_is
 
-  -- if the footer isn't behind the items that were read, the fault is behind the last one
+  -- if the footer isn't right after the items that were read, the fault is after the last one
   pub place_fault : AreFound block items many long count → many ≡ count
       → (32 + long ≡ footer_place block → ⊥) → tag_of block ≡ Err (TagFault.BadTag (32 + long))
   place_fault found good bad =
@@ -484,7 +485,7 @@ module _ (block : List ℕ) (items : List TagItem) (many long count : ℕ) where
       → 32 + items_length (tag_items_of block) ≡ footer_place block
   placed found good = sym (ap (λ n. 32 + n) (found.long_is ∙ ap items_length found.items_is)) ∙ good
 
-  -- if it isn't a footer of this header, the fault is at it
+  -- if what is there isn't a footer for this header, the fault is at its place
   pub footer_fault : AreFound block items many long count → many ≡ count
       → 32 + long ≡ footer_place block
       → is_footer (ape_size block) (ape_count block) (drop (footer_place block) block) ≡ false
@@ -495,7 +496,7 @@ module _ (block : List ℕ) (items : List TagItem) (many long count : ℕ) where
       (eq-eqb (32 + items_length (tag_items_of block)) (footer_place block) (placed found place))
       bad
 
-  -- otherwise the block has no fault
+  -- if nothing is at fault, the block has no fault
   pub whole_found : block_front block ≡ Some (record { kind = Ape; length = length block })
       → AreByteValues block → length block ≤ 1048576 → AreFound block items many long count
       → many ≡ count → 32 + long ≡ footer_place block

@@ -1,5 +1,5 @@
--- The undo item among the items: where it is, what the items
--- are with another one or without it, and that all others stay.
+-- The undo item among the items: where it is, what the items are with another one or without it,
+-- and that all others stay.
 use Rattle.std.proofs.Common.{ap, arith, Bool, cond, drop, false, get_or, length, List, map, None}
 use Rattle.std.proofs.Common.{not, pos, refl, set, Some, subst, suc, sym, take, true, ℕ, [], ◌++◌}
 use Rattle.std.proofs.Common.{◌+◌, ◌<◌, ◌^◌, ◌∙◌, ◌∷◌, ◌≡◌, ◌≤◌}
@@ -30,13 +30,13 @@ pub position-some : (items : List TagItem) (at : ℕ) → position is_undo items
 position-some items at e = let cases = found_cases (nat_lt (position_or_len is_undo items)
     (length items)) (position_or_len is_undo items) at e in (ltb-true _ _ cases.0, cases.1)
 
--- where there is no undo item, the index is past the items
+-- if there is no undo item, its index is past the items
 pub position-none : (items : List TagItem) → position is_undo items ≡ None
     → length items ≤ position_or_len is_undo items
 position-none items e = ltb-false _ _ (missed_cases (nat_lt (position_or_len is_undo items)
     (length items)) (position_or_len is_undo items) e)
 
--- ---- the items with another one or without it, by its place
+-- ---- the items with another undo item or without one, by its place
 
 set_cases : (undo : Undo) (item : TagItem) (items : List TagItem) (d : TagItem) (is : Bool)
     → is_undo item ≡ is → position_or_len is_undo (item ∷ items) < length (item ∷ items)
@@ -78,7 +78,7 @@ add_cases undo item items false own past rest =
     let behind = rest (omega (arith, more)) in
     (rw own (ap (λ l. item ∷ l) behind.0), rw own (ap (λ l. item ∷ l) behind.1))
 
--- where there is none a new one is added, and none is removed
+-- if there is no undo item, a new one is added, and none is removed
 pub with_undo-added : (undo : Undo) (items : List TagItem)
     → length items ≤ position_or_len is_undo items
     → (with_undo undo items ≡ items ++ (new_undo_item undo ∷ [])) × (without_undo items ≡ items)
@@ -102,7 +102,7 @@ remove_cases item items false own within rest =
     (λ b. cond (not b) (1 + position_or_len is_undo items) 0 < length (item ∷ items)) own within in
     rw (own, one, two) (ap (λ l. item ∷ l) (rest (omega (arith, less))))
 
--- without the undo item the items are those before it and those behind it
+-- without the undo item the items are the ones before it and the ones after it
 pub without_undo-removed : (items : List TagItem) → position_or_len is_undo items < length items
     → without_undo items
     ≡ take (position_or_len is_undo items) items ++ drop (position_or_len is_undo items + 1) items
@@ -110,21 +110,22 @@ without_undo-removed [] within = absurd (omega (arith, within))
 without_undo-removed (item ∷ items) within =
     remove_cases item items (is_undo item) refl within (λ less. without_undo-removed items less)
 
--- ---- one item more, of a filtered list
+-- ---- one item more in a filtered list
 
--- the other items have the first among them unless it is an undo item
+-- the first item is among the other items unless it is an undo item
 pub other-cons : (item : TagItem) (items : List TagItem) (is : Bool) → is_undo item ≡ is
     → other_items (item ∷ items) ≡ cond is (other_items items) (item ∷ other_items items)
 other-cons item items true own = rw own refl
 other-cons item items false own = rw own refl
 
--- the undo items have the first among them if it is one
+-- the first item is among the undo items if it is one
 pub undo-cons : (item : TagItem) (items : List TagItem) (is : Bool) → is_undo item ≡ is
     → undo_items (item ∷ items) ≡ cond is (item ∷ undo_items items) (undo_items items)
 undo-cons item items true own = rw own refl
 undo-cons item items false own = rw own refl
 
--- all others together and the undo item are all items
+-- the lengths of the other items and of the undo items add up to the length of all, with one item
+-- more
 sum_cases : (item : TagItem) (items : List TagItem) (is : Bool) → is_undo item ≡ is
     → items_length items ≡ items_length (other_items items) + items_length (undo_items items)
     → items_length (item ∷ items)
@@ -148,7 +149,7 @@ sum_cases item items false own rest =
       items_length-cons item (other_items items),
     )
 
--- the items are as long as the undo items and all others
+-- the length of the items is the length of the other items plus the length of the undo items
 pub items_length-parts : (items : List TagItem)
     → items_length items ≡ items_length (other_items items) + items_length (undo_items items)
 items_length-parts [] = omega arith
@@ -157,7 +158,7 @@ items_length-parts (item ∷ items) =
 
 -- ---- the undo item itself
 
--- its key has 12 characters
+-- the key of the undo item has 12 characters
 pub undo-key : (item : TagItem) → is_undo item ≡ true → length item.key ≡ 12
 unfolding is_undo
 undo-key item is =
@@ -209,7 +210,7 @@ with_undo-all undo [] all = and_from (is_item (new_undo_item undo)) true (new-it
 with_undo-all undo (item ∷ items) all =
     all_cases undo item items (is_undo item) refl all (λ rest. with_undo-all undo items rest)
 
--- an undo item was put in: there is at most one, of at most 32 bytes
+-- after an undo item was put in, there is at most one, of at most 32 bytes
 pub record HasOne (items : List TagItem) : Type 0 where
   pub one : length (undo_items items) ≤ 1
   pub own : items_length (undo_items items) ≤ 32
@@ -222,7 +223,7 @@ others_cases undo item items true own rest = rw own
 others_cases undo item items false own rest =
     rw own (other-cons item (with_undo undo items) false own ∙ ap (λ l. item ∷ l) rest)
 
--- all others stay
+-- all other items stay when an undo item is put in
 pub others-with_undo : (undo : Undo) (items : List TagItem)
     → other_items (with_undo undo items) ≡ other_items items
 others-with_undo undo [] = other-cons (new_undo_item undo) [] true (new-is undo)
@@ -283,7 +284,7 @@ IsTag-with_undo undo tag is =
 
 -- ---- a tag without its undo item
 
--- all are items, none is an undo item, and the others are the same
+-- all are items, none is an undo item, and the other items are the same
 pub record AreWithout (items left : List TagItem) : Type 0 where
   pub all : list_all is_item left ≡ true
   pub others : other_items left ≡ other_items items
@@ -312,7 +313,7 @@ without_cases item items false own all few rest =
       none = undo-cons item (without_undo items) false own ∙ behind.none;
     })
 
--- of items with at most one undo item all others are left
+-- taking the undo item out of items with at most one leaves all others
 pub without_undo-parts : (items : List TagItem) → list_all is_item items ≡ true
     → length (undo_items items) ≤ 1 → AreWithout items (without_undo items)
 without_undo-parts [] all few = record { all = refl; others = refl; none = refl }
@@ -337,7 +338,7 @@ IsTag-without_undo tag is =
 
 -- ---- by the place that was found
 
--- to remove the item at the index of the undo item leaves the items without it
+-- removing the item at the index of the undo item gives the items without it
 pub removed : (items left : List TagItem) (at : ℕ) → position is_undo items ≡ Some at
     → left ≡ take at items ++ drop (at + 1) items → left ≡ without_undo items
 removed items left at found is =
@@ -345,13 +346,13 @@ removed items left at found is =
     is ∙ ap (λ k. take k items ++ drop (k + 1) items) (sym place.1)
     ∙ sym (without_undo-removed items place.0)
 
--- items without an undo item are left as they are
+-- items without an undo item stay as they are
 pub none_removed : (items : List TagItem) → position is_undo items ≡ None
     → items ≡ without_undo items
 none_removed items none = sym ((with_undo-added
     (record { left = pos 0; right = pos 0; wrap = false }) items (position-none items none)).1)
 
--- to set the value at the index of the undo item is to put the undo in
+-- setting the value at the index of the undo item puts the undo in
 pub replaced : (undo : Undo) (items changed : List TagItem) (at : ℕ) (item : TagItem)
     → position is_undo items ≡ Some at → item ≡ get_or items at item → changed
     ≡ set items at (record item { value = undo_text undo }) → changed ≡ with_undo undo items
@@ -366,12 +367,12 @@ replaced undo items changed at item found own is =
       value = undo_text undo;
     })) (sym place.1) ∙ sym (with_undo-set undo items item place.0)
 
--- where there is none, to add a new undo item at the end is to put it in
+-- if there is no undo item, adding a new one at the end puts the undo in
 pub added : (undo : Undo) (items more : List TagItem) → position is_undo items ≡ None
     → more ≡ items ++ (new_undo_item undo ∷ []) → more ≡ with_undo undo items
 added undo items more none is = is ∙ sym ((with_undo-added undo items (position-none items none)).0)
 
--- ---- what the tag then says
+-- ---- what the tag says then
 
 put_cases : (undo : Undo) (item : TagItem) (items : List TagItem) (place : ℕ) (is : Bool)
     → is_undo item ≡ is → undo_of (undo_text undo) ≡ Some undo
@@ -397,7 +398,7 @@ missing_cases item items place true own none rest = let some : item ∷ undo_ite
 missing_cases item items place false own none rest =
     rw own (rest (sym (undo-cons item items false own) ∙ none))
 
--- where there is no undo item none is found
+-- if there is no undo item, none is found
 pub undo_from-missing : (items : List TagItem) (place : ℕ) → undo_items items ≡ []
     → undo_from place items ≡ Missing
 undo_from-missing [] place none = refl
@@ -410,7 +411,7 @@ back_cases : (undo : Undo) (item : TagItem) (items : List TagItem) (is : Bool) �
 back_cases undo item items true own rest = rw (own, changed-is undo item, own) refl
 back_cases undo item items false own rest = rw (own, own) (ap (λ l. item ∷ l) rest)
 
--- to put an undo item in and remove it leaves what removing one leaves
+-- putting in an undo item and removing it has the same result as removing it
 pub without_undo-with_undo : (undo : Undo) (items : List TagItem)
     → without_undo (with_undo undo items) ≡ without_undo items
 without_undo-with_undo undo [] = rw (new-is undo) refl
@@ -440,7 +441,7 @@ stay_cases item items true own rest = rw own refl
 stay_cases item items false own rest =
     rw own (other-cons item (without_undo items) false own ∙ ap (λ l. item ∷ l) rest)
 
--- all others stay without it
+-- all other items stay when the undo item is taken out
 pub others-without_undo : (items : List TagItem)
     → other_items (without_undo items) ≡ other_items items
 others-without_undo [] = refl

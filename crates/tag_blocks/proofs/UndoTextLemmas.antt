@@ -59,7 +59,7 @@ of_wrap : (left right : ℤ) (wrap : Bool)
 of_wrap left right true = refl
 of_wrap left right false = refl
 
--- what a value says that says this
+-- the text of an undo is read as that undo
 pub undo_of-undo_text : (undo : Undo) → UndoFitsText undo → undo_of (undo_text undo) ≡ Some undo
 unfolding undo_of is_undo_text
 undo_of-undo_text undo fits =
@@ -91,7 +91,7 @@ pub no_undo : (value : List ℕ) → is_undo_text value ≡ false → undo_of va
 unfolding undo_of
 no_undo value not = rw not refl
 
--- steps stay what they are in 16 bits
+-- steps of three digits don't change in 16 bits
 in_bits : (steps : ℤ) → unsigned_abs steps ≤ 999 → to_z w16 (of_z w16 steps) ≡ steps
 in_bits steps most = to_z-of_z w16 steps (fits_signed_from_abs w16 steps (omega (arith, most)))
 
@@ -100,7 +100,7 @@ pub most_in_bits : (steps : ℤ) → unsigned_abs steps ≤ 999
     → unsigned_abs (to_z w16 (of_z w16 steps)) ≤ 999
 most_in_bits steps most = rw (in_bits steps most) most
 
--- the steps and the letter of such a text are its undo
+-- the steps and the letter of such a text are the undo that it is read as
 pub undo_read : (value : List ℕ) (left right : ℤ) → is_undo_text value ≡ true
     → left ≡ spelled_steps (take 4 value) → unsigned_abs left ≤ 999
     → right ≡ spelled_steps (take 4 (drop 5 value)) → unsigned_abs right ≤ 999 → Some (record {
@@ -123,7 +123,7 @@ digit_back b c d b_least b_most c_least c_most d_least d_most n is = (
   omega (arith, b_least, b_most, c_least, c_most, d_least, d_most, is),
 )
 
--- the digits of a number and its sign
+-- the digits of a number, without its sign
 record AreDigits (b c d n : ℕ) : Type 0 where
   pub first : 48 + n / 100 ≡ b
   pub second : 48 + n / 10 % 10 ≡ c

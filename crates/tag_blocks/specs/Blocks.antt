@@ -1,6 +1,6 @@
 -- Where a block of a tag begins, and how long it is: ID3v2 by the informal standards ID3v2.3.0
 -- (3.1) and ID3v2.4.0 (3.1, 3.4 and 6.2), ID3v1 and APEv2 by the public descriptions of their
--- layout. A block is known by its first bytes alone; what is in it isn't judged.
+-- layout. A block is recognized by its first bytes alone; its contents aren't checked.
 use Rattle.std.specs.{Int.bit_at, List.list_all, Option.option_or}
 use Rattle.std.specs.Prelude.{Bool, bytes_eq, codes, drop, if◌then◌else◌, length, List, nat_le}
 use Rattle.std.specs.Prelude.{nat_lt, None, not, Option, slice_index, Some, take, ℕ, ◌&&◌, ◌*◌, ◌+◌}
@@ -15,7 +15,7 @@ begins_with text bytes = bytes_eq text (take (length text) bytes)
 
 -- ---- ID3v2 (ID3v2.3.0, 3.1; ID3v2.4.0, 3.1, 3.4 and 6.2)
 
--- the number of four bytes of 7 bits, the first the most significant (ID3v2.4.0, 6.2)
+-- the number of four bytes of 7 bits each, the first the most significant (ID3v2.4.0, 6.2)
 abbrev pub seven_bit_number : List ℕ → ℕ
 seven_bit_number four = slice_index four 0 * 2 ^ 21 + slice_index four 1 * 2 ^ 14
     + slice_index four 2 * 2 ^ 7 + slice_index four 3
@@ -35,7 +35,7 @@ is_id3v2 bytes =
 abbrev pub footer_length : ℕ → ℕ
 footer_length flags = if bit_at flags 4 == 1 then 10 else 0
 
--- the header, what its size counts, and the footer
+-- the length of the header, of what its size counts, and of the footer
 unfoldable pub id3v2_length : List ℕ → ℕ
 id3v2_length bytes = 10 + seven_bit_number (id3v2_size bytes) + footer_length (slice_index bytes 5)
 
@@ -63,16 +63,16 @@ ape_size bytes = ape_number 12 bytes
 abbrev pub ape_flags : List ℕ → ℕ
 ape_flags bytes = ape_number 20 bytes
 
--- a header of 32 bytes: `APETAGEX`, version 2000, a size that has room
--- for the footer, any count of items, flags that say that the tag has a
--- header (bit 31) and that this is the header (bit 29), and any 8 bytes
+-- a header of 32 bytes: `APETAGEX`, version 2000, a size that has room for the footer, any count of
+-- items, flags which say that the tag has a header (bit 31) and that this is the header (bit 29),
+-- and any 8 bytes
 unfoldable pub is_ape : List ℕ → Bool
 is_ape bytes =
     nat_le 32 (length bytes) && begins_with (codes "APETAGEX") bytes && (ape_version bytes == 2000)
     && nat_le 32 (ape_size bytes) && (bit_at (ape_flags bytes) 31 == 1)
     && (bit_at (ape_flags bytes) 29 == 1)
 
--- the header and what its size counts
+-- the length of the header and of what its size counts
 unfoldable pub ape_length : List ℕ → ℕ
 ape_length bytes = 32 + ape_size bytes
 
@@ -84,7 +84,7 @@ begins Id3v2 bytes = is_id3v2 bytes
 begins Id3v1 bytes = is_id3v1 bytes
 begins Ape bytes = is_ape bytes
 
--- the length in bytes of the block of this kind that begins there
+-- the length in bytes of the block of this kind with which the bytes begin
 abbrev pub length_of_kind : Kind → List ℕ → ℕ
 length_of_kind Id3v2 bytes = id3v2_length bytes
 length_of_kind Id3v1 bytes = 128

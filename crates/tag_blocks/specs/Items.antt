@@ -1,5 +1,5 @@
--- Items of an APEv2 tag: what they are, their bytes, and the
--- items with which bytes begin, one right after the other.
+-- Items of an APEv2 tag: what they are, their bytes, and the items with which bytes begin, with
+-- nothing between them.
 use Rattle.std.specs.List.{list_all, prefix_len}
 use Rattle.std.specs.Prelude.{Bool, codes, drop, flat_map, if◌then◌else◌, length, List, nat_le}
 use Rattle.std.specs.Prelude.{nat_lt, None, Option, slice_index, Some, suc, sum_by, take, zero, ℕ}
@@ -28,7 +28,7 @@ is_key key = nat_le 2 (length key) && nat_le (length key) 255 && list_all is_key
 unfoldable pub is_item : TagItem → Bool
 is_item item = is_key item.key && nat_lt (length item.value) (2 ^ 32) && nat_lt item.flags (2 ^ 32)
 
--- the item with the key `MP3GAIN_UNDO`, compared without ASCII case, in which mp3gain keeps its
+-- the item with the key `MP3GAIN_UNDO`, compared ignoring ASCII case, in which mp3gain keeps its
 -- undo
 unfoldable pub is_undo : TagItem → Bool
 is_undo item = str_eq_ignore_ascii_case item.key (codes "MP3GAIN_UNDO")
@@ -45,11 +45,11 @@ item_bytes item = little_bytes 4 (length item.value)
 abbrev pub item_length : TagItem → ℕ
 item_length item = 9 + length item.key + length item.value
 
--- the items one after the other
+-- the bytes of all items, joined in order
 abbrev pub items_bytes : List TagItem → List ℕ
 items_bytes items = flat_map item_bytes items
 
--- how many bytes items have together
+-- how many bytes the items have together
 abbrev pub items_length : List TagItem → ℕ
 items_length items = sum_by item_length items
 
@@ -70,7 +70,7 @@ has_whole_item bytes =
     && nat_le (value_place bytes + ape_number 0 bytes) (length bytes)
     && (slice_index bytes (8 + key_length bytes) == 0)
 
--- where the key ends, and where the value begins and ends; all of it is there
+-- where the key ends, and where the value begins and ends; all of them are within the bytes
 pub record IsItemLayout (bytes : List ℕ) (key_end value_at end : ℕ) : Type 0 where
   pub key : key_end ≡ 8 + key_length bytes
   pub value : value_at ≡ value_place bytes
@@ -92,7 +92,7 @@ tag_item_of bytes = if has_whole_item bytes then Some (tag_item_front bytes) els
 
 -- ---- items end to end
 
--- an item, unless it is an undo item and one was met before
+-- an item, unless it is an undo item and one was found before
 abbrev pub admitted_item : Bool → TagItem → Option TagItem
 admitted_item met item = if met && is_undo item then None else Some item
 
@@ -105,13 +105,13 @@ next_if_admitted met (Some item) = admitted_item met item
 abbrev pub next_item : Bool → List ℕ → Option TagItem
 next_item met bytes = next_if_admitted met (tag_item_of bytes)
 
--- an item and those behind it, or none where there is no item
+-- an item and the items after it, or none where there is no item
 abbrev pub item_and_more : (TagItem → List TagItem) → Option TagItem → List TagItem
 item_and_more behind None = []
 item_and_more behind (Some item) = item ∷ behind item
 
--- the items with which the bytes begin, one right after the other:
--- so many at most, and only those before a second undo item
+-- the items with which the bytes begin, with nothing between them: at most `most` of them, and only
+-- those before a second undo item
 unfoldable pub tag_items_from : ℕ → Bool → List ℕ → List TagItem
 tag_items_from zero met bytes = []
 tag_items_from (suc most) met bytes =

@@ -15,16 +15,16 @@ use Rattle.tag_blocks.specs.declared.undo.UndoItem.TheVariants.{Found, Missing}
 abbrev pub AreByteValues : List ℕ → Type 0
 AreByteValues bytes = (i : ℕ) → slice_index bytes i < 256
 
--- a block is a tag exactly where its bytes are those of the tag
+-- a block is read as a tag exactly if this is a legal tag whose bytes are the block
 abbrev pub TagsAreTheirBytes : Type 0
 TagsAreTheirBytes =
     (block : List ℕ) (tag : TagFields) → AreByteValues block
     → block_front block ≡ Some (record { kind = Ape; length = length block })
     → length block ≤ 1048576 → (tag_of block ≡ Ok tag) ↔ (IsTag tag × (tag_bytes tag ≡ block))
 
--- The bytes begin with these items, one right after the other. They
--- are so many at most, and at most one of them is the undo item.
--- Where they are fewer, no item that may be there comes after them.
+-- The bytes begin with these items, with nothing between them. There are at most `most` of them,
+-- and at most one of them is the undo item. Where there are fewer, no item that may be there comes
+-- after them.
 pub record AreItemsOf (most : ℕ) (bytes : List ℕ) (items : List TagItem) : Type 0 where
   pub all : list_all is_item items ≡ true
   pub few : length items ≤ most
@@ -33,13 +33,13 @@ pub record AreItemsOf (most : ℕ) (bytes : List ℕ) (items : List TagItem) : T
   pub last : length items < most
       → next_item (list_any is_undo items) (drop (items_length items) bytes) ≡ None
 
--- what the items are without recursion: those of the definition, and no other list
+-- the items by a definition without recursion: exactly one list meets it, the one that is read
 abbrev pub ItemsAreAll : Type 0
 ItemsAreAll = (most : ℕ) (bytes : List ℕ) (items : List TagItem) → AreByteValues bytes
     → AreItemsOf most bytes items ↔ (tag_items_from most false bytes ≡ items)
 
--- With another undo put in, the undo item says it; with the
--- undo item taken out, there is none; and all others stay.
+-- After another undo is put in, the undo item says it; after the undo item is taken out, there is
+-- none; and all others stay.
 pub record ChangesUndoAlone (undo : Undo) (items : List TagItem) : Type 0 where
   pub put : (place : ℕ) → undo_from place (with_undo undo items) ≡ Found undo
   pub put_others : other_items (with_undo undo items) ≡ other_items items
@@ -47,7 +47,7 @@ pub record ChangesUndoAlone (undo : Undo) (items : List TagItem) : Type 0 where
   pub gone_others : other_items (without_undo items) ≡ other_items items
   pub back : without_undo (with_undo undo items) ≡ without_undo items
 
--- another undo, and none, change the undo item alone
+-- putting in another undo, or taking it out, changes the undo item alone
 abbrev pub UndoItemsAloneChange : Type 0
 UndoItemsAloneChange = (undo : Undo) (items : List TagItem) → UndoFitsText undo
     → length (undo_items items) ≤ 1 → ChangesUndoAlone undo items

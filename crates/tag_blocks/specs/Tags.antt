@@ -1,5 +1,5 @@
--- APEv2 tags: a header, items and a footer. What a tag is, its bytes,
--- and the tag that a block is, or the first place at fault in it.
+-- APEv2 tags: a header, items and a footer. What a tag is, its bytes, and the tag that a block is,
+-- or the place of the first fault in it.
 use Rattle.std.specs.{Int.bit_at, List.list_all}
 use Rattle.std.specs.Prelude.{Bool, codes, drop, Err, false, filter, if◌then◌else◌, length, List}
 use Rattle.std.specs.Prelude.{nat_lt, not, Ok, replicate, Result, take, true, ℕ, ⊤, ◌&&◌, ◌++◌, ◌+◌}
@@ -35,7 +35,7 @@ abbrev pub undo_items : List TagItem → List TagItem
 undo_items items = filter is_undo items
 
 -- Keys, flags and lengths are legal, and at most one item is the undo item. It has at most
--- 1,048,512 bytes, and so have all others together: no tag is longer than 2,097,088 bytes.
+-- 1,048,512 bytes, and so have all other items together: no tag is longer than 2,097,088 bytes.
 pub record IsTag (tag : TagFields) : Type 0 where
   pub items : list_all is_item tag.items ≡ true
   pub one : length (undo_items tag.items) ≤ 1
@@ -54,7 +54,7 @@ unfoldable pub end_bytes : ℕ → ℕ → ℕ → List ℕ
 end_bytes size count flags = codes "APETAGEX" ++ (little_bytes 4 2000
     ++ (little_bytes 4 size ++ (little_bytes 4 count ++ (little_bytes 4 flags ++ replicate 8 0))))
 
--- the size that header and footer say: that of the items and the footer
+-- the size that header and footer state: the length of the items and the footer
 abbrev pub tag_size : TagFields → ℕ
 tag_size tag = items_length tag.items + 32
 
@@ -82,7 +82,7 @@ footer_place block = length block - 32
 abbrev pub item_part : List ℕ → List ℕ
 item_part block = take (footer_place block - 32) (drop 32 block)
 
--- the items that are there, of those that the header counts
+-- the items that are there, up to as many as the header counts
 abbrev pub tag_items_of : List ℕ → List TagItem
 tag_items_of block = tag_items_from (ape_count block) false (item_part block)
 
@@ -112,7 +112,7 @@ tag_of block =
       items = tag_items_of block;
     })
 
--- the place of a fault is one of the block's bytes
+-- the place of a fault is a byte of the block
 abbrev pub IsPlaceIn : List ℕ → TagFault → Type 0
 IsPlaceIn block (BadTag place) = place < length block
 IsPlaceIn block Memory = ⊤

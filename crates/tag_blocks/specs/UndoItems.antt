@@ -1,17 +1,17 @@
--- The undo item of a tag: what it says, and the items with
--- another one or without it. All other items stay as they are.
+-- The undo item of a tag: what it says, and the items with another one or without it. All other
+-- items stay as they are.
 use Rattle.std.specs.Prelude.{codes, if◌then◌else◌, List, None, Option, Some, ℕ, [], ◌+◌, ◌∷◌}
 use Rattle.tag_blocks.specs.{Items.{is_undo, item_length, TagItem}, UndoText.{undo_of, undo_text}}
 use Rattle.tag_blocks.specs.declared.undo.{Undo.Undo, UndoItem.UndoItem}
 use Rattle.tag_blocks.specs.declared.undo.UndoItem.TheVariants.{Bad, Found, Missing}
 
--- what an item at a place says by its value
+-- what an undo item at this place says, by its value
 abbrev pub undo_at : ℕ → Option Undo → UndoItem
 undo_at place None = Bad place
 undo_at place (Some undo) = Found undo
 
--- what the undo item says, of items of which the first is at this place: nothing where there is
--- none, the place of the item where its value is of another form, else what its value says
+-- what the undo item says, where the first of these items is at `place`: `Missing` where there is
+-- none, the place of the item where its value has another form, otherwise what its value says
 abbrev pub undo_from : ℕ → List TagItem → UndoItem
 undo_from place [] = Missing
 undo_from place (item ∷ items) = if is_undo item then undo_at place (undo_of item.value)
@@ -21,8 +21,8 @@ undo_from place (item ∷ items) = if is_undo item then undo_at place (undo_of i
 abbrev pub new_undo_item : Undo → TagItem
 new_undo_item undo = record { key = codes "MP3GAIN_UNDO"; flags = 0; value = undo_text undo }
 
--- the same items with this undo: it is the value of the undo
--- item, or a new item after all others where there is none
+-- the same items with this undo: as the value of the undo item, or in a new item after all others
+-- where there is none
 abbrev pub with_undo : Undo → List TagItem → List TagItem
 with_undo undo [] = new_undo_item undo ∷ []
 with_undo undo (item ∷ items) = if is_undo item then record item { value = undo_text undo } ∷ items

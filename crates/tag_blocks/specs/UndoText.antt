@@ -1,5 +1,5 @@
--- The value of the undo item, as mp3gain writes it: the steps that undo applies to the left and to
--- the right channel, and whether gains wrap.
+-- The value of the undo item, as mp3gain writes it: the steps that undoing applies to the left and
+-- to the right channel, and whether gains wrap.
 use Rattle.std.specs.Char.{is_ascii_digit}
 use Rattle.std.specs.Prelude.{Bool, drop, if◌then◌else◌, int_lt, length, List, neg_ℤ, None, Option}
 use Rattle.std.specs.Prelude.{pos, slice_index, Some, take, unsigned_abs, ℕ, ℤ, [], ◌%◌, ◌&&◌, ◌*◌}
@@ -42,7 +42,7 @@ abbrev pub digits_number : List ℕ → ℕ
 digits_number four =
     (slice_index four 1 - 48) * 100 + (slice_index four 2 - 48) * 10 + (slice_index four 3 - 48)
 
--- the number that they spell with the sign
+-- the number that the sign and the digits spell
 abbrev pub spelled_steps : List ℕ → ℤ
 spelled_steps four =
     if slice_index four 0 == 45 then neg_ℤ (pos (digits_number four)) else pos (digits_number four)

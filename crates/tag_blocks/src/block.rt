@@ -67,14 +67,14 @@ pub(crate) fn is_set(flags: u32, bit: u32) -> bool
     (flags >> bit) % 2 == 1
 }
 
-/// Whether each byte has 7 bits.
+/// Whether each byte is below 80 (hexadecimal).
 fn have_seven_bits(bytes: &[u8]) -> bool
     ensures { result ≡ list_all (λ b. nat_lt b 128) bytes.now }
 {
     bytes.iter().all(|byte| *byte < 0x80)
 }
 
-/// The number of four bytes of 7 bits, the first the most significant.
+/// The number of four bytes of 7 bits each, the first the most significant.
 fn seven_bit_number(four: &[u8]) -> u64
     requires { length four.now ≡ 4 }
     ensures number { result ≡ seven_bit_number four.now }
@@ -86,7 +86,7 @@ fn seven_bit_number(four: &[u8]) -> u64
         + u64::from(four[3])
 }
 
-/// Whether so many bytes are there, and begin with this text.
+/// Whether there are at least `least` bytes, and they begin with this text.
 fn has_front(bytes: &[u8], least: usize, text: &[u8]) -> bool
     ensures front { result ≡ (nat_le least (length bytes.now) && begins_with text.now bytes.now) }
     ensures there { IsTrue result → least ≤ length bytes.now }
@@ -149,7 +149,7 @@ fn is_ape(front: &[u8]) -> bool
 /// - APEv2: 32 bytes are there, which are `APETAGEX`, version 2000, a size of at least 32, any count, flags
 ///   with bits 31 and 29 set, and any 8 bytes.
 ///
-/// The length is in bytes, from 10 to 4,294,967,327. Whether so many bytes are there isn't judged.
+/// The length is in bytes, from 10 to 4,294,967,327. It isn't checked whether that many bytes are there.
 #[tactic(auto, unfolding(crate::specs::Blocks::block_front, crate::specs::Blocks::is_id3v1, crate::specs::Blocks::ape_length))]
 pub fn block_at(front: &[u8]) -> Option<Block>
     ensures block { result ≡ block_front front.now }

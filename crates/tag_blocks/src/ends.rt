@@ -15,10 +15,10 @@ const TEXT: &[u8] = b"APETAGEX";
 /// The version of a tag with a header.
 const VERSION: u32 = 2000;
 
-/// Where the count of items is in a header or a footer, in bytes.
+/// Where the count of items begins in a header or a footer.
 pub(crate) const COUNT_AT: usize = 16;
 
-/// Where the 8 bytes begin that have to be zero, in bytes.
+/// Where the 8 bytes begin that have to be zero.
 pub(crate) const RESERVED_AT: usize = 24;
 
 /// Whether the last 8 bytes of a header or a footer are zero.
@@ -29,7 +29,7 @@ pub(crate) fn is_reserved(bytes: &[u8]) -> bool
     bytes[RESERVED_AT..APE_HEADER].iter().all(|byte| *byte == 0)
 }
 
-/// Whether a footer is right for the size and the count that the header says.
+/// Whether a footer has the size and the count that the header states.
 #[tactic(auto, unfolding(crate::specs::Tags::is_footer))]
 pub(crate) fn is_footer(footer: &[u8], size: u32, count: u32) -> bool
     requires { 32 ≤ length footer.now }
@@ -43,10 +43,10 @@ pub(crate) fn is_footer(footer: &[u8], size: u32, count: u32) -> bool
         && is_reserved(footer)
 }
 
-/// Adds a header or a footer after the bytes.
+/// Appends a header or a footer to the bytes.
 ///
 /// # Errors
-/// Where there is no memory.
+/// If out of memory.
 #[tactic(auto, unfolding(crate::specs::Tags::end_bytes))]
 pub(crate) fn append_end(
     bytes: &mut Vec<u8>,

@@ -11,7 +11,7 @@ use std::marker::Model;
 /// The key of the undo item.
 pub(crate) const UNDO_KEY: &[u8] = b"MP3GAIN_UNDO";
 
-/// The length of what is before the key in bytes: the length of the value, and the flags.
+/// The length in bytes of what is before the key: the length of the value, and the flags.
 const KEY_AT: usize = 8;
 
 /// An item: flags, a key of 2 to 255 characters from 20 to 7e (hexadecimal), and a value.
@@ -37,7 +37,7 @@ fn is_key_char(byte: u8) -> bool
     (0x20..=0x7e).contains(&byte)
 }
 
-/// With how many characters of a key the bytes begin.
+/// How many characters of a key the bytes begin with.
 fn key_length(bytes: &[u8]) -> usize
     ensures length { result ≡ prefix_len is_key_char bytes.now }
     ensures within { result ≤ length bytes.now }
@@ -85,7 +85,7 @@ fn layout_at(bytes: &[u8]) -> Option<Layout>
 /// A copy of the bytes.
 ///
 /// # Errors
-/// Where there is no memory.
+/// If out of memory.
 pub(crate) fn copy_of(alloc: Global, bytes: &[u8]) -> Result<Vec<u8>, AllocError>
     ensures { IfOk result (λ copy. copy.items ≡ bytes.now) }
 {
@@ -95,10 +95,10 @@ pub(crate) fn copy_of(alloc: Global, bytes: &[u8]) -> Result<Vec<u8>, AllocError
 }
 
 impl ApeItem {
-    /// The item with which the bytes begin, and `None` where they begin with none.
+    /// The item with which the bytes begin, or `None` where they begin with none.
     ///
     /// # Errors
-    /// Where there is no memory.
+    /// If out of memory.
     #[tactic(auto, unfolding(crate::specs::Items::tag_item_front))]
     pub(crate) fn read(alloc: Global, bytes: &[u8]) -> Result<Option<ApeItem>, AllocError>
         ensures { IfOk result (λ item. item ≡ tag_item_of bytes.now) }
@@ -113,7 +113,7 @@ impl ApeItem {
         }))
     }
 
-    /// Whether this is the undo item: its key is `MP3GAIN_UNDO`, compared without ASCII case.
+    /// Whether this is the undo item: its key is `MP3GAIN_UNDO`, compared ignoring ASCII case.
     pub(crate) fn is_undo(&self) -> bool
         ensures { result ≡ is_undo self.now }
     {
@@ -128,10 +128,10 @@ impl ApeItem {
         KEY_AT + self.key.len() + 1 + self.value.len()
     }
 
-    /// Adds its bytes after these.
+    /// Appends its bytes to these.
     ///
     /// # Errors
-    /// Where there is no memory.
+    /// If out of memory.
     #[tactic(auto, unfolding(crate::specs::Items::is_item, crate::specs::Items::item_bytes))]
     pub(crate) fn append(&self, bytes: &mut Vec<u8>) -> Result<(), AllocError>
         requires { is_item self.now ≡ true }

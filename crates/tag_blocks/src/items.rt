@@ -1,4 +1,4 @@
-//! The items of an APEv2 tag, one after the other.
+//! The items of an APEv2 tag, in order.
 ghost use Rattle.std.specs.Prelude.{◌≡◌, ◌^◌, ◌<◌, ◌≤◌, ◌++◌, true, false, length, IfOk, OnOk, OnErr, position};
 ghost use Rattle.std.specs.List.{list_all};
 ghost use Rattle.tag_blocks.specs.UndoText.{UndoFitsText};
@@ -9,10 +9,10 @@ use crate::item::{ApeItem, UNDO_KEY, copy_of};
 use crate::undo::Undo;
 use std::alloc::{AllocError, Global};
 
-/// The item with which the bytes begin, unless it is an undo item and one was met before.
+/// The item with which the bytes begin, unless it is an undo item and one was found before.
 ///
 /// # Errors
-/// Where there is no memory.
+/// If out of memory.
 fn next_item(alloc: Global, bytes: &[u8], met: bool) -> Result<Option<ApeItem>, AllocError>
     ensures { IfOk result (λ item. item ≡ next_item met bytes.now) }
 {
@@ -25,11 +25,11 @@ fn next_item(alloc: Global, bytes: &[u8], met: bool) -> Result<Option<ApeItem>, 
     Ok(Some(item))
 }
 
-/// The items with which the bytes begin, one right after the other: at most `count` of them, and only those
+/// The items with which the bytes begin, with nothing between them: at most `count` of them, and only those
 /// before a second undo item.
 ///
 /// # Errors
-/// Where there is no memory.
+/// If out of memory.
 pub(crate) fn read_items(
     alloc: Global,
     bytes: &[u8],
@@ -52,7 +52,7 @@ pub(crate) fn read_items(
     Ok(items)
 }
 
-/// The length of the bytes of all items, which is less than 2^32.
+/// The length of the bytes of all items together, which is less than 2^32.
 pub(crate) fn items_length(items: &[ApeItem]) -> usize
     requires { items_length items.now < 2 ^ 32 }
     ensures { result ≡ items_length items.now }
@@ -64,7 +64,7 @@ pub(crate) fn items_length(items: &[ApeItem]) -> usize
     length
 }
 
-/// The place of the undo item among the items.
+/// The index of the undo item among the items.
 pub(crate) fn undo_place(items: &[ApeItem]) -> Option<usize>
     ensures { result ≡ position is_undo items.now }
 {
@@ -74,7 +74,7 @@ pub(crate) fn undo_place(items: &[ApeItem]) -> Option<usize>
 /// Makes this the value of the undo item, or adds a new undo item after all others where there is none.
 ///
 /// # Errors
-/// Where there is no memory. Then the items stay as they were.
+/// If out of memory. Then the items stay as they were.
 pub(crate) fn put_undo(
     alloc: Global,
     items: &mut Vec<ApeItem>,
@@ -102,10 +102,10 @@ pub(crate) fn put_undo(
     Ok(())
 }
 
-/// Adds the bytes of all items after these.
+/// Appends the bytes of all items to these.
 ///
 /// # Errors
-/// Where there is no memory.
+/// If out of memory.
 pub(crate) fn append_items(bytes: &mut Vec<u8>, items: &[ApeItem]) -> Result<(), AllocError>
     requires { list_all is_item items.now ≡ true }
     ensures { IfOk result (λ _. bytes.new.items ≡ bytes.old.items ++ items_bytes items.now) }

@@ -2,20 +2,20 @@
 //! calls it.
 ghost use Rattle.tag_blocks.specs.Laws.{TagsAreTheirBytes, ItemsAreAll, UndoItemsAloneChange, UndosAreTheirTexts};
 
-/// An APEv2 block of at most 1,048,576 bytes is a tag exactly where its bytes are those of the tag: what is read is
-/// written again, and what is written is read again.
+/// An APEv2 block of at most 1,048,576 bytes is a tag exactly if its bytes are the bytes of the tag: what is read
+/// is written again, and what is written is read again.
 pub fn tags_are_their_bytes()
     ensures { TagsAreTheirBytes }
 {}
 
-/// The items of a block are those that follow end to end, and no others: where they are fewer than the
-/// header counts, no item that may be there comes after them.
+/// The items of a block are the ones that follow each other with nothing between them, and no others: where there
+/// are fewer than the header counts, no item that may be there comes after them.
 pub fn items_are_all()
     ensures { ItemsAreAll }
 {}
 
-/// Another undo item, or none, changes no other item. What is put in is what the tag then says. Without its
-/// undo item, a tag has the same items before and after another one is put in.
+/// Another undo item, or none, changes no other item. The tag then says what was put in. Taking the undo item out
+/// has the same result before and after another one is put in.
 pub fn undo_items_alone_change()
     ensures { UndoItemsAloneChange }
 {}

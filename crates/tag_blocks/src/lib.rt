@@ -1,9 +1,9 @@
 //! Blocks of tags beside the frames of a file: where an ID3v2, ID3v1 or APEv2 block begins and how long it
 //! is, and APEv2 tags with the undo item, in which changes of gain are recorded. The calls in their order:
-//! `block_at(front)` knows a block by its first 32 bytes; `Tag::read(alloc, block)` gives the tag that an
-//! APEv2 block is, `tag.undo()` what its undo item says; `tag.set_undo(&undo)` or `tag.drop_undo()` changes
-//! that item alone, and `tag.write(alloc)` gives the block again. `Undo::read` and `Undo::text` are the
-//! value of that item.
+//! `block_at(front)` recognizes a block by its first 32 bytes; `Tag::read(alloc, block)` returns the tag
+//! that an APEv2 block is, and `tag.undo()` what its undo item says; `tag.set_undo(&undo)` or
+//! `tag.drop_undo()` changes that item alone, and `tag.write(alloc)` returns the block again. `Undo::read`
+//! and `Undo::text` read and write the value of that item.
 #![tactic(auto)]
 
 mod block;

@@ -17,8 +17,8 @@ use crate::undo::{Undo, UndoItem};
 use std::alloc::{AllocError, Global};
 use std::marker::Model;
 
-/// An APEv2 tag. Contracts see it as the flags of its header and of its footer, and its items in their order
-/// (`TagFields`). Values aren't looked at, except that of the undo item.
+/// An APEv2 tag. In contracts it is the flags of its header and of its footer, and its items in their order
+/// (`TagFields`). No value is looked at except the value of the undo item.
 #[derive(Drop)]
 pub struct Tag {
     alloc: Global,
@@ -75,7 +75,7 @@ fn read_block(alloc: Global, block: &[u8]) -> Result<Tag, TagFault>
     })
 }
 
-/// What an undo item at this place says by its value. The place is in bytes from the block's first byte.
+/// What an undo item at this place says, by its value. The place is in bytes from the block's first byte.
 fn undo_item_of(place: u64, item: &ApeItem) -> UndoItem
     ensures { result ≡ undo_at place (undo_of item.now.value) }
 {
@@ -86,8 +86,8 @@ fn undo_item_of(place: u64, item: &ApeItem) -> UndoItem
 }
 
 impl Tag {
-    /// A tag without items. Its flags are those of a tag with a header and a footer: a0000000 and 80000000
-    /// (hexadecimal). It takes no memory.
+    /// A tag without items. Its flags are the flags of a tag with a header and a footer: a0000000 and 80000000
+    /// (hexadecimal). It allocates nothing.
     pub fn new(alloc: Global) -> Tag
         ensures { result ≡ record {
           header_flags = 0xa0000000;
@@ -103,21 +103,21 @@ impl Tag {
         }
     }
 
-    /// The tag that a block is. `block_at` has to give an APEv2 block of exactly this length for it, which is at
-    /// most 1,048,576 bytes.
+    /// The tag that a block is. `block_at` has to return an APEv2 block of exactly this length for it, at most
+    /// 1,048,576 bytes.
     ///
     /// # Errors
     /// `BadTag` with the place of the first fault, in bytes from the block's first byte. Faults are looked
     /// for in this order (APEv2):
     /// - the last 8 bytes of the header aren't zero: 24;
     /// - one of the items that the header counts isn't whole before the footer, has no key of 2 to 255 characters
-    ///   from 20 to 7e (hexadecimal), or is a second one with the key `MP3GAIN_UNDO`, compared without ASCII case:
+    ///   from 20 to 7e (hexadecimal), or is a second one with the key `MP3GAIN_UNDO`, compared ignoring ASCII case:
     ///   the place of the first such item;
     /// - the last item doesn't end where the footer begins: its end;
-    /// - the footer hasn't the text, version 2000, the header's size and count, flag bit 29 clear and 8 zero bytes:
+    /// - the footer lacks the text, version 2000, the header's size and count, a clear flag bit 29 or 8 zero bytes:
     ///   the place of the footer.
     ///
-    /// `Memory` where there is no memory.
+    /// `Memory` if out of memory.
     pub fn read(alloc: Global, block: &[u8]) -> Result<Tag, TagFault>
         requires block { block_front block.now ≡ Some
             (record { kind = Ape; length = length block.now }) }
@@ -138,7 +138,7 @@ impl Tag {
         self.items.is_empty()
     }
 
-    /// The length of the block that `write` gives, in bytes: header, items and footer. It is at most 2,097,088.
+    /// The length in bytes of the block that `write` returns: header, items and footer. It is at most 2,097,088.
     pub fn length(&self) -> u64
         ensures length { result ≡ 64 + items_length self.now.items }
         ensures bytes { result ≡ length (tag_bytes self.now) }
@@ -147,7 +147,7 @@ impl Tag {
         (2 * APE_HEADER + items_length(&self.items)) as u64
     }
 
-    /// What the undo item says: the item with the key `MP3GAIN_UNDO`, compared without ASCII case.
+    /// What the undo item says: the item with the key `MP3GAIN_UNDO`, compared ignoring ASCII case.
     pub fn undo(&self) -> UndoItem
         ensures { result ≡ undo_from 32 self.now.items }
     {
@@ -165,7 +165,7 @@ impl Tag {
     /// with flags 0. Both numbers have to be from -999 to 999. All other items stay as they are.
     ///
     /// # Errors
-    /// Where there is no memory. Then the tag stays as it was.
+    /// If out of memory. Then the tag stays as it was.
     pub fn set_undo(&mut self, undo: &Undo) -> Result<(), AllocError>
         requires { UndoFitsText undo.now }
         ensures set { OnOk result (self.new
@@ -175,8 +175,8 @@ impl Tag {
         put_undo(self.alloc, &mut self.items, undo)
     }
 
-    /// Takes the undo item out of the tag, where there is one. All other items stay as they are. It takes no
-    /// memory.
+    /// Takes the undo item out of the tag, where there is one. All other items stay as they are. It allocates
+    /// nothing.
     pub fn drop_undo(&mut self)
         ensures { self.new ≡ record self.old { items = without_undo self.old.items } }
     {
@@ -185,10 +185,10 @@ impl Tag {
         }
     }
 
-    /// The bytes of the block: header, items and footer. The tag that is read from them is this one.
+    /// The bytes of the block: header, items and footer. They are read as this tag again.
     ///
     /// # Errors
-    /// Where there is no memory.
+    /// If out of memory.
     pub fn write(&self, alloc: Global) -> Result<Vec<u8>, AllocError>
         ensures bytes { IfOk result (λ block. block.items ≡ tag_bytes self.now) }
         ensures back { IfOk result (λ block. tag_of block.items ≡ Ok self.now) }

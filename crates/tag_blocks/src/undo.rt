@@ -5,7 +5,7 @@ ghost use Rattle.tag_blocks.specs.UndoText.{steps_text, wrap_letter, undo_text, 
 /// The length of the value of an undo item in bytes.
 pub(crate) const UNDO_LENGTH: usize = 11;
 
-/// What an undo item says: how many steps undo applies to each channel. A step is 1.5 dB.
+/// What an undo item says: how many steps undoing applies to each channel. A step is 1.5 dB.
 #[derive(Clone, Copy, Debug, PartialEq, Eq)]
 pub struct Undo {
     /// Steps for the left channel, from -999 to 999 in a tag.
@@ -86,7 +86,7 @@ fn is_undo_text(value: &[u8]) -> bool
         && (value[10] == b'N' || value[10] == b'W')
 }
 
-/// The value of the undo item that says this.
+/// The value of an undo item that says this.
 fn text_of(undo: &Undo) -> [u8; 11]
     requires { UndoFitsText undo.now }
     ensures { result ≡ undo_text undo.now }
@@ -111,7 +111,7 @@ fn text_of(undo: &Undo) -> [u8; 11]
 impl Undo {
     /// What the value of an undo item says. `None` exactly where the value isn't of this form, 11 bytes: a sign
     /// (`+` or `-`), three digits, a comma, a sign, three digits, a comma, and `N` or `W`. The numbers are the
-    /// steps that undo applies, left then right; `W` says that gains wrap.
+    /// steps that undoing applies, first left, then right; `W` says that gains wrap.
     #[tactic(auto, unfolding(crate::specs::UndoText::undo_of, crate::specs::UndoText::is_undo_text))]
     pub fn read(value: &[u8]) -> Option<Undo>
         ensures undo { result ≡ undo_of value.now }
@@ -127,8 +127,8 @@ impl Undo {
         })
     }
 
-    /// The value of the undo item that says this. A number that isn't negative has `+`. Both numbers have
-    /// to be from -999 to 999.
+    /// The value of an undo item that says this. A number that isn't negative has `+`. Both numbers have to be
+    /// from -999 to 999.
     pub fn text(&self) -> [u8; 11]
         requires { UndoFitsText self.now }
         ensures text { result ≡ undo_text self.now }

@@ -1,4 +1,4 @@
--- A line more without a fault, a fault, and the end.
+-- One line more without a fault, a fault, and the end.
 use Rattle.std.proofs.{Common.{arith, inr, subst, sym, ◌∙◌}, lemmas.Bool.{eqb-false, eqb-true}}
 use Rattle.cue_sheet.proofs.CuesLemmas.{are_starts, ends, goes_on, HaveRead, none_are, refused}
 use Rattle.cue_sheet.proofs.{CuesLemmas.some_are, LinesLemmas.first_said, StartsLemmas.starts-few}

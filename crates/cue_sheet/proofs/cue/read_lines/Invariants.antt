@@ -1,4 +1,4 @@
--- The lines so far have no fault and these starts, and the others are after them.
+-- The lines so far have no fault and these starts, and the other lines are after them.
 use Rattle.std.proofs.Common.{length, ◌+◌, ◌-◌, ◌≤◌}
 use Rattle.cue_sheet.proofs.CuesLemmas.{HaveRead}
 use Rattle.cue_sheet.proofs.cue.read_lines.Given as goal

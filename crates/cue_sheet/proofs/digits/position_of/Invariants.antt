@@ -1,4 +1,4 @@
--- None of the bytes so far is the one that is looked for.
+-- None of the bytes so far is the one that is searched for.
 use Rattle.std.{proofs.Common.{drop, length, ◌+◌, ◌-◌, ◌==◌, ◌≡◌, ◌≤◌}, specs.List.position_or_len}
 use Rattle.cue_sheet.proofs.digits.position_of.Given as goal
 

@@ -1,4 +1,4 @@
--- A digit more, and what isn't read.
+-- One digit more, and what isn't read.
 use Rattle.std.proofs.Common.{ap, arith, get_or, Some, subst, sym, ◌+◌, ◌∙◌, ◌≡◌}
 use Rattle.std.proofs.lemmas.{Int.Digits.{digits_more, digits_value_more}, List.take_all}
 use Rattle.std.{proofs.lemmas.Str.digit_value_digit, specs.Char.digit_value}

@@ -1,4 +1,4 @@
--- All bytes so far are digits, and the number that they spell.
+-- All bytes so far are digits, and this is the number that they spell.
 use Rattle.std.{proofs.Common.{length, take, ◌≡◌, ◌≤◌}, specs.Str.Parse.{AllDigits, digits_value}}
 use Rattle.cue_sheet.proofs.digits.read_number.Given as goal
 

@@ -1,4 +1,4 @@
--- The texts are equal exactly where their letters are, in one case.
+-- The texts are equal exactly if their letters are, ignoring case.
 use Rattle.std.proofs.lemmas.{Bool.Decides.same_from_decides, Slice.Eq.bytes_eq-Decides}
 use Rattle.std.specs.{Char.to_ascii_lowercase, Prelude.map}
 use Rattle.cue_sheet.specs.Entries.{is_word}

@@ -1,4 +1,4 @@
--- The text, and behind it the four numbers and the zeros.
+-- The text, and after it the four numbers and the zeros.
 use Rattle.std.proofs.Common.{ap, append_assoc, cond, drop, Err, List, Ok, refl, replicate, Result}
 use Rattle.std.{proofs.Common.{take, ℕ, ◌++◌, ◌∙◌, ◌≡◌}, specs.Prelude.{codes, IfOk, is_ok}}
 use Rattle.byteorder.specs.Endian.{little_bytes}

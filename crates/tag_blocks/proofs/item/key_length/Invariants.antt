@@ -1,4 +1,4 @@
--- All characters so far are those of a key.
+-- All characters so far are characters of a key.
 use Rattle.std.{proofs.Common.{drop, ◌+◌, ◌≡◌}, specs.List.prefix_len}
 use Rattle.tag_blocks.specs.Items.{is_key_char}
 use Rattle.tag_blocks.proofs.item.key_length.Given as goal

@@ -1,4 +1,4 @@
--- The places are those of the definition.
+-- The places are the ones of the definition.
 use Rattle.std.proofs.Common.{ap, arith, get_or, length, ◌+◌, ◌-◌, ◌∙◌, ◌≡◌, ◌≤◌}
 use Rattle.std.{proofs.lemmas.List.take_rest, specs.List.prefix_len}
 use Rattle.tag_blocks.proofs.ItemsLemmas.{stands-from, stands_not}
@@ -10,7 +10,7 @@ use Rattle.tag_blocks.proofs.item.layout_at.Goals.{then-length-lt2-via-then-leng
 use Rattle.tag_blocks.specs.{Blocks.ape_number, Items.{is_key_char, key_length}}
 use Rattle.tag_blocks.proofs.item.layout_at.Goals as goal
 
--- the key's length is that of the definition
+-- the key's length is the length by the definition
 key : (c : After-ape_number) → c.key_length-length.result ≡ key_length c.args.bytes.now
 key c =
     c.key_length-length.ensures.length ∙ ap (prefix_len is_key_char) (take_rest c.args.bytes.now 8)

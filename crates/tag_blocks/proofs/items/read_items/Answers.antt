@@ -1,4 +1,4 @@
--- One item more, until none comes next or all that are counted were read.
+-- One item more, until there is no next one or as many were read as are counted.
 use Rattle.std.proofs.Common.{ap, arith, drop, false, length-drop, Some, sym, ◌-◌, ◌||◌, ◌∙◌, ◌≡◌}
 use Rattle.std.proofs.lemmas.List.{take_rest}
 use Rattle.tag_blocks.proofs.ItemsLemmas.{next_item-within, read_all, read_more, read_none}

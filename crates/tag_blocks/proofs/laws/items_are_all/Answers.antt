@@ -1,4 +1,5 @@
--- The items follow end to end, no other that may be there is after them, and no other items are so.
+-- The items follow each other, no other that may be there is after them, and no other list of items
+-- does this.
 use Rattle.std.proofs.Common.{arith, drop, false, List, subst, ℕ}
 use Rattle.tag_blocks.proofs.ItemsLemmas.{items_from-only, items_from-read, items_from-stopped}
 use Rattle.tag_blocks.specs.{Items.{items_length, tag_items_from}, Laws.{AreByteValues, AreItemsOf}}

@@ -1,4 +1,4 @@
--- A block is a tag exactly where its bytes are those of the tag.
+-- A block is a tag exactly if its bytes are the bytes of the tag.
 use Rattle.std.proofs.Common.{ap, subst, sym, ◌∙◌}
 use Rattle.tag_blocks.proofs.TagsLemmas.{IsTag-in, tag_bytes-in, tag_of-ok, tag_of-tag_bytes}
 use Rattle.tag_blocks.specs.Tags.{IsTag, tag_bytes, tag_of}

@@ -1,4 +1,4 @@
--- Each step is one of the definition's.
+-- Each step is a step of the definition.
 use Rattle.std.proofs.Common.{ap, arith, drop, false, inr, length, Ok, refl, rules, subst, sym, ◌∙◌}
 use Rattle.std.proofs.{Common.◌≡◌, lemmas.List.take_rest}
 use Rattle.tag_blocks.proofs.TagsLemmas.{AreFound, count_fault, footer_fault, found-within}
@@ -16,12 +16,12 @@ pub returns-then-not-is_reserved-clause-tag : goal.returns-then-not-is_reserved-
 returns-then-not-is_reserved-clause-tag c =
     inr (tag_of-reserved c.args.block.now (sym c.is_reserved.ensures ∙ c.if-not-is_reserved.true))
 
--- the items that were read are those of the block
+-- the items that were read are the items of the block
 items : (c : After-deref) → c.in-Ok.items.items ≡ tag_items_of c.args.block.now
 items c = c.in-Ok.ensures
     ∙ ap (λ k. tag_items_from k false (item_part c.args.block.now)) c.ape_number-count.ensures
 
--- so are the numbers beside them
+-- their number, their length and the count are the block's too
 found : (c : After-len) → c.in-Ok.items.items ≡ tag_items_of c.args.block.now
     → AreFound c.args.block.now c.in-Ok.items.items c.len.result c.items_length-place.result
     c.ape_number-count.result
@@ -91,7 +91,7 @@ whole c is =
       ← take_rest block (footer_place block),
     ) (sym c.is_footer.ensures ∙ c.if-not-is_footer.false))
 
--- the fields that were read are those of the block's tag
+-- the fields that were read are the fields of the block's tag
 same : (c : goal.After-ape_number-3) → c.in-Ok.items.items ≡ tag_items_of c.args.block.now
     → tag_in c.args.block.now ≡ record {
       header_flags = c.ape_number-2.result;

@@ -1,4 +1,4 @@
--- The texts are equal exactly where their letters are, in one case.
+-- The texts are equal exactly if their letters are, ignoring case.
 use Rattle.std.proofs.{Common.{rules, ◌≡◌}, lemmas.Bool.Decides.same_from_decides}
 use Rattle.std.{proofs.lemmas.Slice.Eq.bytes_eq-Decides, specs.Char.to_ascii_lowercase}
 use Rattle.std.specs.Prelude.{codes, map}

@@ -1,4 +1,4 @@
--- The undo item goes, and all others stay.
+-- The undo item is removed, and all others stay.
 use Rattle.std.{proofs.Common.{ap, refl, subst, sym, ◌∙◌, ◌≡◌}, specs.Prelude.position}
 use Rattle.tag_blocks.proofs.UndoItemsLemmas.{IsTag-without_undo, none_removed, removed}
 use Rattle.tag_blocks.specs.{Items.is_undo, Tags.IsTag, UndoItems.without_undo}

@@ -1,4 +1,4 @@
--- What the items from here on say is what all say; so many bytes are before them.
+-- The items from here on say what all items say, and this many bytes are before them.
 use Rattle.std.proofs.Common.{drop, ◌+◌, ◌≡◌}
 use Rattle.tag_blocks.specs.{Items.items_length, UndoItems.undo_from}
 use Rattle.tag_blocks.proofs.tag.Tag.undo.Given as goal

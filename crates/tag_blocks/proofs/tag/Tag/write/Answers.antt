@@ -1,4 +1,4 @@
--- Header, items and footer, one after the other.
+-- Header, items and footer, in order.
 use Rattle.std.proofs.Common.{ap, arith, length, subst, ◌++◌, ◌+◌, ◌∙◌, ◌≡◌}
 use Rattle.tag_blocks.proofs.TagsLemmas.{block_front-tag_bytes, count-most, items_length-most}
 use Rattle.tag_blocks.proofs.TagsLemmas.{tag_bytes-added, tag_of-tag_bytes}
