@@ -12,7 +12,7 @@ use Rattle.info_header.specs.declared.fields.Info.{Info}
 
 -- ---- what is kept
 
--- an extension that says nothing has 36 bytes
+-- an extension without numbers has 36 bytes
 pub plain-length : length plain_extension ≡ 36
 plain-length = refl
 
@@ -31,7 +31,7 @@ kept-is : (info : Option Info) → IfSome info AreInfoFields
 kept-is None whole = (plain-length, plain-encoder)
 kept-is (Some info) whole = kept-if info.extension (has_encoder info.extension) refl whole.extension
 
--- ---- what is said
+-- ---- the numbers
 
 -- the encoder's name is in the first four bytes
 same-encoder : (xs ys : List ℕ) → take 4 xs ≡ take 4 ys → has_encoder xs ≡ has_encoder ys
@@ -56,7 +56,7 @@ padding-said front rest delay padding long small =
     let three = three_bytes delay padding ++ rest in
     omega (arith, byte-of front three 1 22 long refl, byte-of front three 2 23 long refl)
 
--- what is said is in the first 28 bytes
+-- encoder, delay and padding are in the first 28 bytes
 pub says-front : (xs ys : List ℕ) (d p : ℕ) → take 28 xs ≡ take 28 ys → SaysNumbers d p ys
     → SaysNumbers d p xs
 says-front xs ys d p same says =
@@ -90,7 +90,7 @@ says-by old delay padding long encoder small =
       padding = padding-said front rest delay padding many small;
     }
 
--- an extension says the delay and the padding that it was written with
+-- an extension has the delay and the padding that it was written with
 pub extension-says : (info : Option Info) (delay padding : ℕ) → IfSome info AreInfoFields
     → delay < 4096 → padding < 4096 →
     SaysNumbers delay padding (extension_of info delay padding)
@@ -103,7 +103,7 @@ kept-length : (info : Option Info) → IfSome info (λ (i : Info). length i.exte
 kept-length None long = plain-length
 kept-length (Some info) long = (kept-if info.extension (has_encoder info.extension) refl long).0
 
--- it has 36 bytes
+-- an extension that is written has 36 bytes
 pub extension-length : (info : Option Info) (delay padding : ℕ)
     → IfSome info (λ (i : Info). length i.extension ≡ 36)
     → length (extension_of info delay padding) ≡ 36

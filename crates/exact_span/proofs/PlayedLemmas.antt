@@ -60,8 +60,8 @@ end-own samples frames padding enough =
     (frames * samples + decoder_delay - padding))) (le-ltb frames frames (omega arith))
     ∙ min-eq_right (omega arith)
 
--- a piece of so many frames with these numbers plays from
--- delay and 529 on, up to padding less 529 before its end
+-- a piece of `frames` frames with these numbers plays the positions from `delay` + 529 on, up to
+-- `padding` - 529 before its end
 piece-played : (class : ClassFields) (piece : Info) (frames delay padding : ℕ)
     → piece.frames ≡ Some frames → 1 ≤ frames → 529 ≤ padding
     → SaysNumbers delay padding piece.extension → played_of (Some piece) class frames ≡ record {
@@ -96,7 +96,7 @@ ends-at One leads p q some = omega arith
 ends-at Two leads p q some = omega arith
 ends-at TwoFive leads p q some = omega arith
 
--- positions that differ by whole frames
+-- positions that differ by whole frames are at one offset in one and the same frame
 at-one-place : (version : Version) (leads first x y : ℕ)
     → x + first * samples_of version ≡ y + leads * samples_of version
     → (x / samples_of version + first ≡ y / samples_of version + leads)
@@ -155,7 +155,7 @@ module _ (class : ClassFields) (frames p q leads : ℕ) where
         padding_most = in_range.padding_most;
       }
 
-  -- the positions of a piece
+  -- the played positions of a piece keep their places
   piece-kept : (piece : Info) → p < q → SpanFits class frames leads (span_of class p q)
       → IsPieceHead class leads (span_of class p q) piece →
       let played = played_of (Some piece) class
@@ -187,7 +187,8 @@ spans-fit head class frames a b leads played are =
     span-fits class frames (start + a) (start + b) leads (omega (arith, played.some))
     (omega (arith, played.some, played.most, played-within head class frames)) are
 
--- the played positions of a piece begin and end as far from its frames as those of the file do
+-- the played positions of a piece begin and end as far from its frames as the chosen positions of
+-- the file do
 pub places-kept : (file : Option Info) (piece : Info) (class : ClassFields) (frames a b leads : ℕ)
     → ArePlayed file class frames a b → AreLeads (played_span file class frames a b) leads
     → IsPieceHead class leads (played_span file class frames a b) piece

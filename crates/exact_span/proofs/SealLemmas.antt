@@ -20,7 +20,7 @@ use Rattle.info_header.specs.declared.fields.Info.{Info}
 
 -- ---- parts of a list
 
--- what is taken past the first part
+-- taking more than the first part takes all of it and some of the second
 take-behind : (xs ys : List ℕ) (k n : ℕ) → n ≡ length xs + k → take n (xs ++ ys) ≡ xs ++ take k ys
 take-behind xs ys k n is = ap (λ i. take i (xs ++ ys)) is ∙ take-append-add xs ys k
 
@@ -29,12 +29,12 @@ drop-behind xs ys k n is = ap (λ i. drop i (xs ++ ys)) is ∙ drop-append-add x
 
 -- ---- the parts of an Info frame
 
--- header and side information
+-- the header and the side information
 front_of : HeaderFields → List ℕ
 front_of first =
     bytes (header_bits (info_header_of first)) ++ replicate (side_size_of (class_of first)) 0
 
--- text, flags and number of frames
+-- the text, the flags and the number of frames
 head_of : Info → List ℕ
 head_of info = vbr_text info.vbr ++ (big_bytes 4 15 ++ big_bytes 4 (number_or_zero info.frames))
 
@@ -42,7 +42,7 @@ head_of info = vbr_text info.vbr ++ (big_bytes 4 15 ++ big_bytes 4 (number_or_ze
 number_of : Info → List ℕ
 number_of info = big_bytes 4 (number_or_zero info.bytes)
 
--- table and quality
+-- the table and the quality
 tail_of : Info → List ℕ
 tail_of info = table_or_zeros info.table ++ big_bytes 4 (number_or_zero info.quality)
 
@@ -213,7 +213,7 @@ frame-room first info whole =
       length-append info.extension rest,
     )
 
--- both fields are after the first 28 bytes of the extension
+-- sealing doesn't change the first 28 bytes of the extension
 field-front : (first : HeaderFields) (info : Info) → AreInfoFields info
     → take 28 (sealed_info first info).extension ≡ take 28 info.extension
 field-front first info whole =
@@ -230,7 +230,7 @@ field-front first info whole =
     (big_bytes 4 (number_or_zero info.bytes) ++ drop 32 info.extension) (omega (arith, few))
     ∙ take-take 28 28 info.extension (omega arith)
 
--- a sealed Info frame is that of fields with another music length and tag CRC alone
+-- a sealed Info frame is the Info frame of fields that differ in music length and tag CRC alone
 pub frames-sealed : (first : HeaderFields) (info : Info) → AreInfoFields info
     → IsInfoSealed first info
 frames-sealed first info whole = record {
@@ -242,7 +242,7 @@ frames-sealed first info whole = record {
       (field-front first info whole);
 }
 
--- the fields of a sealed frame are those that a struct can have
+-- the fields of a sealed frame are fields that a struct can have
 pub sealed-whole : (first : HeaderFields) (info : Info) → AreInfoFields info
     → AreInfoFields (sealed_info first info)
 sealed-whole first info whole =

@@ -30,14 +30,14 @@ spans-warm class p q =
 
 -- ---- the numbers of a span
 
--- both numbers are in range, and the difference that the delay is isn't negative
+-- both numbers are in range, and the subtraction in the delay doesn't go below 0
 pub record AreInRange (class : ClassFields) (leads : ℕ) (span : Span) : Type 0 where
   pub delay_least : decoder_delay ≤ leads * samples_in class + span.from
   pub delay_most : delay_of class leads span ≤ 2830
   pub padding_least : 529 ≤ padding_of span
   pub padding_most : padding_of span ≤ 1680
 
--- the decoder's delay is over, or there is a lead-in
+-- either the first position is after the decoder's delay, or there is a lead-in
 enough : (p leads : ℕ) → (IsTrue (ltb p decoder_delay) → leads ≡ 1)
     → decoder_delay ≤ leads * 576 + p
 enough p leads led =
@@ -74,7 +74,7 @@ numbers-in_range class p q leads are =
           padding-in_range class.version q;
     }
 
--- those of any span of positions are in range too
+-- the numbers of any span of positions are in range too
 pub span-in_range : (class : ClassFields) (span : Span) (leads : ℕ) → IsSpan class span
     → AreLeads span leads → AreInRange class leads span
 span-in_range class span leads of are =

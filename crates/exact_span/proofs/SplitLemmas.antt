@@ -1,9 +1,9 @@
--- The pieces of ascending points are the whole.
+-- The pieces between ascending points are the whole.
 use Rattle.std.proofs.Common.{add-zero, ap, arith, List, suc, zero, ℕ, [], ◌++◌, ◌+◌, ◌-◌, ◌∙◌, ◌∷◌}
 use Rattle.std.{proofs.Common.{◌≡◌, ◌≤◌}, specs.List.range_with_len}
 use Rattle.exact_span.specs.Laws.{last_point, pieces_samples, PointsAscend, samples_between}
 
--- numbers from a on, and as many more from where they end, are one range
+-- m numbers from a on, followed by n more, are one range
 pub ranges : (a m n : ℕ) → range_with_len a m ++ range_with_len (a + m) n ≡ range_with_len a (m + n)
 ranges a zero n = let many : n ≡ 0 + n = omega arith in
     ap (λ k. range_with_len k n) (add-zero a) ∙ ap (range_with_len a) many
@@ -25,7 +25,7 @@ last-after : (a : ℕ) (points : List ℕ) → PointsAscend a points → a ≤ l
 last-after a [] ascend = omega arith
 last-after a (b ∷ points) ascend = omega (arith, ascend.0, last-after b points ascend.1)
 
--- the samples of all pieces one after the other are those between the first and the last point
+-- the samples of all pieces, joined, are the samples between the first and the last point
 pub pieces-whole : (a : ℕ) (points : List ℕ) → PointsAscend a points
     → pieces_samples a points ≡ samples_between a (last_point a points)
 unfolding pieces_samples

@@ -1,6 +1,6 @@
--- Places of samples, and the words that say them: the positions of mp3splt, samples as sox has them
--- (digits and `s`), times with thousandths of a second, and times before the end as mp3splt has
--- them (`EOF-`).
+-- Places of samples, and the words that say them: the positions of mp3splt, samples as in sox
+-- (digits and `s`), times with thousandths of a second, and times before the end as in mp3splt
+-- (`EOF-`).
 use Rattle.std.specs.{List.{after_first, before_first, position_or_len}, Option.option_or}
 use Rattle.std.specs.Prelude.{bytes_eq, codes, drop, if◌then◌else◌, length, List, None, Option}
 use Rattle.std.specs.Prelude.{option_and_then, option_map, slice_index, Some, take, ℕ, [], ⊤, ◌*◌}
@@ -26,13 +26,13 @@ clock_seconds_in word = number_in 1 2 59 (before_first is_dot (after_first is_do
 abbrev pub whole_seconds : ℕ → ℕ → ℕ
 whole_seconds minutes seconds = 60 * minutes + seconds
 
--- both, in seconds
+-- minutes and seconds, together in seconds
 unfoldable pub clock_of : List ℕ → Option ℕ
 clock_of word =
     option_and_then (λ m. option_map (whole_seconds m) (clock_seconds_in word))
     (clock_minutes_in word)
 
--- what is after the seconds: nothing, or the second dot and what is after it
+-- what is after the seconds: nothing, or the second dot and what follows it
 abbrev pub seconds_tail : List ℕ → List ℕ
 seconds_tail word = let rest = after_first is_dot word in drop (position_or_len is_dot rest) rest
 
@@ -90,25 +90,25 @@ exact_place_of word =
 
 -- ---- samples
 
--- a position is one, with 1 to 100 parts in a second
+-- a place that is a position has 1 to 100 parts in a second
 abbrev pub IsExactPlace : ExactPlace → Type 0
 IsExactPlace (Place position) = IsPlace position
 IsExactPlace (Sample number) = ⊤
 IsExactPlace (Millis time) = ⊤
 IsExactPlace (Back time) = ⊤
 
--- how many whole samples take no longer than so many parts of a second
+-- how many whole samples take no longer than `time` parts of a second
 abbrev pub samples_until : ClassFields → ℕ → ℕ → ℕ
 samples_until class time parts = time * frequency_of class / parts
 
--- a frame's number counts the time of so many frames
+-- the sample of a position; the number of a frame is the time of that many frames
 abbrev pub sample_of_position : ClassFields → ℕ → Position → ℕ
 sample_of_position class length (Frame number) = number * samples_of class.version
 sample_of_position class length (Time time parts) = samples_until class time parts
 sample_of_position class length End = length
 
--- the sample of a file that a place names, by how many it plays; a time that is before its start is
--- its start
+-- the sample that a place names, in a file that plays `length` samples; a time before the start is
+-- the start
 unfoldable pub sample_at : ClassFields → ℕ → ExactPlace → ℕ
 sample_at class length (Place position) = sample_of_position class length position
 sample_at class length (Sample number) = number

@@ -1,16 +1,16 @@
--- The frames that a decoder needs for some positions, and the delay and the padding by which a
+-- The frames that a decoder needs for some positions, and the delay and the padding with which a
 -- player plays exactly these.
 use Rattle.std.specs.Prelude.{IsTrue, nat_lt, ℕ, ◌*◌, ◌+◌, ◌-◌, ◌/◌, ◌<◌, ◌≡◌, ◌≤◌}
 use Rattle.exact_span.specs.{PlayedPositions.{decoder_delay, samples_in}, declared.span.Span.Span}
 use Rattle.frame_header.specs.Fields.{ClassFields}
 
--- How many positions before the first wanted one a decoder has to begin: it adds to each granule
--- the second half of the one before (576), and its filterbank looks 15 steps of 32 samples back
--- (480); both are in ISO/IEC 11172-3, 2.4.3.
+-- How many positions before the first wanted one a decoder has to begin: it adds the second half of
+-- each granule to the next (576), and its filterbank looks 15 steps of 32 samples back (480); both
+-- are in ISO/IEC 11172-3, 2.4.3.
 abbrev pub warm_up : ℕ
 warm_up = 1056
 
--- the frame in which position p is, or its warm-up begins; the first where that is before the first
+-- the frame in which the warm-up of position p begins; the first frame if it would begin earlier
 abbrev pub warm_up_frame : ℕ → ℕ → ℕ
 warm_up_frame samples p = (p - warm_up) / samples
 
@@ -19,8 +19,8 @@ abbrev pub frames_before : ℕ → ℕ → ℕ
 frames_before samples q = (q + samples - 1) / samples
 
 -- The span of the positions from p to before q: its first frame, the frame after its last one,
--- whether a lead-in has to be before it, since p is before a decoder's delay is over, and how far p
--- is from its beginning and q from its end.
+-- whether there has to be a lead-in before it because p is within the decoder's delay, and how far
+-- p is from its beginning and q from its end.
 unfoldable pub span_of : ClassFields → ℕ → ℕ → Span
 span_of class p q =
     let samples = samples_in class in
@@ -32,14 +32,14 @@ span_of class p q =
       to = frames_before samples q * samples - q;
     }
 
--- it is the span of some positions
+-- this is the span of some positions
 pub record IsSpan (class : ClassFields) (span : Span) : Type 0 where
   pub p : ℕ
   pub q : ℕ
   pub some : p < q
   pub is : span ≡ span_of class p q
 
--- there is at most one lead-in before the span, and one where it has to be
+-- there is at most one lead-in before the span, and one where there has to be one
 pub record AreLeads (span : Span) (leads : ℕ) : Type 0 where
   pub one : leads ≤ 1
   pub led : IsTrue span.led → leads ≡ 1
@@ -49,6 +49,7 @@ pub record AreLeads (span : Span) (leads : ℕ) : Type 0 where
 abbrev pub delay_of : ClassFields → ℕ → Span → ℕ
 delay_of class leads span = leads * samples_in class + span.from - decoder_delay
 
--- the padding to be written: how far the end is from that of the frames, and what players take off
+-- the padding to be written: how far the last wanted position is from the end of the frames, plus
+-- what players take off
 abbrev pub padding_of : Span → ℕ
 padding_of span = span.to + decoder_delay

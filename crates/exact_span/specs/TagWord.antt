@@ -1,17 +1,17 @@
 -- The last fields of the extension: music length and tag CRC. The tag CRC is the CRC of 16 bits
--- with the polynomial x^16 + x^15 + x^2 + 1, the least significant bit first, from 0 on, not
--- inverted: CRC-16/ARC. It is over the bytes of the Info frame before its own.
+-- with the polynomial x^16 + x^15 + x^2 + 1, the least significant bit first, starting from 0, not
+-- inverted: CRC-16/ARC. It covers the bytes of the Info frame before it.
 use Rattle.std.specs.Prelude.{bit_xor, drop, fold, if◌then◌else◌, List, suc, take, zero, ℕ, ◌%◌}
 use Rattle.std.specs.Prelude.{◌++◌, ◌+◌, ◌/◌, ◌==◌}
 use Rattle.byteorder.specs.Endian.{big_bytes}
 use Rattle.frame_header.specs.{Fields.{ClassFields, HeaderFields}, Tables.{class_of, side_size_of}}
 use Rattle.info_header.specs.{Info.number_or_zero, InfoFrame.info_frame, declared.fields.Info.Info}
 
--- one bit further on: shifted to the right, with the divisor where the bit that went out was 1
+-- one bit further on: shifted right, and the divisor added if the bit that was shifted out is 1
 unfoldable pub arc_bit : ℕ → ℕ
 arc_bit word = if word % 2 == 1 then bit_xor (word / 2) 0xa001 else word / 2
 
--- so many bits further on
+-- `bits` bits further on
 unfoldable pub arc_bits : ℕ → ℕ → ℕ
 arc_bits zero word = word
 arc_bits (suc bits) word = arc_bit (arc_bits bits word)
@@ -38,17 +38,17 @@ bytes_place class = text_place class + 12
 abbrev pub music_place : ClassFields → ℕ
 music_place class = text_place class + 148
 
--- where the tag CRC is: in the bytes 34 and 35
+-- where the tag CRC is: in the bytes 34 and 35 of the extension
 abbrev pub crc_place : ClassFields → ℕ
 crc_place class = text_place class + 154
 
--- the music length is the number of bytes
+-- the frame with the number of bytes as its music length
 unfoldable pub with_music_length : ClassFields → List ℕ → List ℕ
 with_music_length class frame =
     take (music_place class) frame
     ++ (take 4 (drop (bytes_place class) frame) ++ drop (music_place class + 4) frame)
 
--- the tag CRC is that of all bytes before it
+-- the frame with the CRC of all bytes before the tag CRC as its tag CRC
 unfoldable pub with_tag_crc : ClassFields → List ℕ → List ℕ
 with_tag_crc class frame =
     take (crc_place class) frame

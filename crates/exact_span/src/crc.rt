@@ -29,8 +29,8 @@ fn arc_byte(word: u16, byte: u8) -> u16
 }
 
 /// The CRC of 16 bits of these bytes, by x^16 + x^15 + x^2 + 1 with the least significant bit first
-/// and not inverted (CRC-16/ARC), from `start` on. From 0 on it is 0xbb3d for the nine bytes
-/// `123456789`.
+/// and not inverted (CRC-16/ARC), starting from `start`. Starting from 0 it is 0xbb3d for the nine
+/// bytes `123456789`.
 pub fn arc(start: u16, bytes: &[u8]) -> u16
     ensures { result ≡ arc_of start bytes.now }
 {

@@ -10,16 +10,16 @@ use cue_sheet::Place;
 use cue_sheet::digits::read_number;
 use frame_header::Class;
 
-/// A place among the samples of a file, to a sample.
+/// A place among the samples of a file, exact to the sample.
 #[derive(Clone, Copy, Debug, PartialEq, Eq)]
 pub enum ExactPlace {
-    /// A position: a frame's number counts the time of so many frames.
+    /// A position: the number of a frame is the time of that many frames.
     Place(Place),
     /// Before the sample with this number, counted from 0.
     Sample(u32),
-    /// So many thousandths of a second after the first sample.
+    /// This many thousandths of a second after the first sample.
     Millis(u32),
-    /// So many thousandths of a second before the end.
+    /// This many thousandths of a second before the end.
     Back(u32),
 }
 
@@ -54,7 +54,7 @@ fn read_back(word: &[u8]) -> Option<u32>
     }
 }
 
-/// How many whole samples take no longer than so many parts of a second.
+/// How many whole samples take no longer than `time` parts of a second.
 fn samples_until(class: Class, time: u32, parts: u32) -> u64
     requires { 1 ≤ parts }
     ensures { result ≡ samples_until class time parts }
@@ -62,7 +62,7 @@ fn samples_until(class: Class, time: u32, parts: u32) -> u64
     u64::from(time) * u64::from(class.frequency()) / u64::from(parts)
 }
 
-/// The sample before which a position is, in a file that plays so many.
+/// The sample that a position is before, in a file that plays `length` samples.
 fn sample_of_position(class: Class, length: u64, place: Place) -> u64
     requires { IsPlace place }
     ensures { result ≡ sample_of_position class length place }
@@ -103,9 +103,10 @@ impl ExactPlace {
         read_back(word).map(ExactPlace::Back)
     }
 
-    /// The sample of a file that it names, where the file plays `length` samples: the number of
-    /// whole samples that take no longer, for a time; for one before the end, as many samples
-    /// before it, or the first sample where there aren't as many. It may be greater than `length`.
+    /// The sample of a file that it names, where the file plays `length` samples: for a time, the
+    /// number of whole samples that take no longer; for a time before the end, as many samples
+    /// before the end, or the first sample where there aren't as many. It may be greater than
+    /// `length`.
     pub fn sample(&self, class: Class, length: u64) -> u64
         requires { IsExactPlace self.now }
         ensures { result ≡ sample_at class length self.now }

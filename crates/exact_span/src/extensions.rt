@@ -30,7 +30,7 @@ fn delay_in(extension: &[u8; 36]) -> u32
     16 * u32::from(extension[21]) + u32::from(extension[22] / 16)
 }
 
-/// The lower 12.
+/// The lower 12 of these bits.
 fn padding_in(extension: &[u8; 36]) -> u32
     ensures padding { result ≡ padding_in extension.now }
     ensures most { result < 4096 }
@@ -38,8 +38,8 @@ fn padding_in(extension: &[u8; 36]) -> u32
     256 * u32::from(extension[22] % 16) + u32::from(extension[23])
 }
 
-/// What the head counts. `None` where there is no head, or it has no number of frames or the number
-/// 0, or its extension doesn't begin with `LAME`, `Lavf` or `Lavc`.
+/// What the head counts. `None` where there is no head, or its number of frames is missing or 0, or
+/// its extension doesn't begin with `LAME`, `Lavf` or `Lavc`.
 pub fn counts_of(info: Option<&Info>) -> Option<HeadCounts>
     ensures counts { result ≡ counts_of (option_copied info.entry) }
     ensures padding { IfSome result (λ counts. counts.padding < 4096) }
@@ -66,7 +66,7 @@ fn plain() -> [u8; 36]
     extension
 }
 
-/// The extension of the input where it begins with the name of an encoder that counts, else the
+/// The extension of the input where it begins with the name of an encoder that counts, otherwise the
 /// name LAME and zeros.
 fn kept(info: Option<&Info>) -> [u8; 36]
     ensures { result ≡ kept_extension (option_copied info.entry) }
@@ -77,10 +77,10 @@ fn kept(info: Option<&Info>) -> [u8; 36]
     }
 }
 
-/// The extension of the input with this delay and padding, two numbers of 12 bits, in samples.
-/// Where the input has no head, or its extension doesn't begin with `LAME`, `Lavf` or `Lavc`, it is
-/// `LAME` with zeros in place of all else. The bytes 28 to 35 are 0: `seal` makes music length and
-/// tag CRC of them.
+/// The extension of the input with this delay and padding, two numbers of 12 bits, in samples. Where
+/// the input has no head, or its extension doesn't begin with `LAME`, `Lavf` or `Lavc`, it is `LAME`
+/// followed by zeros, with these numbers. The bytes 28 to 35 are 0: `seal` writes music length and
+/// tag CRC into them.
 #[tactic(auto, unfolding(crate::specs::Extensions::extension_of))]
 pub fn extension(info: Option<&Info>, delay: u16, padding: u16) -> [u8; 36]
     requires delay { delay < 4096 }

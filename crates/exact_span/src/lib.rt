@@ -1,9 +1,9 @@
 //! Exact pieces: which frames a decoder needs for the samples from one to before another, and the
-//! delay and the padding by which players play exactly these. `Played::of(info, class, frames)` has
-//! the positions of a file that are played, `ExactPlace::read(word)` reads a place among its
-//! samples, and `Span::of(class, p, q)` is the span of some positions. `extension` makes the 36
-//! bytes of the Info head that say delay and padding, and `seal` puts music length and tag CRC into
-//! the whole Info frame.
+//! delay and the padding with which players play exactly these. `Played::of(info, class, frames)`
+//! is the range of positions of a file that are played, `ExactPlace::read(word)` reads a place
+//! among its samples, and `Span::of(class, p, q)` is the span of a range of positions. `extension`
+//! makes the 36 bytes of the Info head that contain delay and padding, and `seal` puts music length
+//! and tag CRC into the whole Info frame.
 #![tactic(auto)]
 
 mod crc;

@@ -6,7 +6,7 @@ use crate::extensions::{HeadCounts, counts_of};
 use frame_header::Class;
 use info_header::Info;
 
-/// By how many samples a decoder is late, as players reckon it.
+/// The delay of a decoder in samples, as players reckon it.
 pub(crate) const DECODER_DELAY: u32 = 529;
 
 /// The positions from `start` to before `end`, counted in samples from the beginning of the first
@@ -17,7 +17,7 @@ pub struct Played {
     pub end: u64,
 }
 
-/// Where they end, by what the head counts.
+/// Where the played positions end, by what the head counts.
 fn end_of(samples: u32, frames: u32, counts: HeadCounts) -> u64
     requires samples { samples ≤ 1152 }
     requires padding { counts.padding < 4096 }
@@ -34,12 +34,12 @@ fn end_of(samples: u32, frames: u32, counts: HeadCounts) -> u64
 
 #[tactic(auto, unfolding(crate::specs::PlayedPositions::played_of, crate::specs::PlayedPositions::counted_positions))]
 impl Played {
-    /// The played positions of a file with this head and so many frames after it, as players reckon
-    /// them. Without a head that counts they are all positions. A head counts where it has a number
-    /// of frames that isn't 0, and an extension that begins with `LAME`, `Lavf` or `Lavc`. Then
-    /// they begin after its delay and the decoder's of 529 samples. Where it counts no fewer frames
-    /// than there are, they end as many samples before the end of the frames that it counts as its
-    /// padding is above 529, else with the last frame.
+    /// The played positions of a file with this head and `frames` frames after it, as players reckon
+    /// them. Without a head that counts, these are all positions. A head counts if it has a number of
+    /// frames that isn't 0, and an extension that begins with `LAME`, `Lavf` or `Lavc`. Then they begin
+    /// after its delay and the decoder's of 529 samples. Where it counts at least as many frames as
+    /// there are, they end `padding` - 529 samples before the end of the frames that it counts, if that
+    /// is earlier than the end of the last frame; otherwise they end with the last frame.
     pub fn of(info: Option<&Info>, class: Class, frames: u32) -> Played
         ensures { result ≡ played_of (option_copied info.entry) class frames }
     {
@@ -52,7 +52,7 @@ impl Played {
         }
     }
 
-    /// The same where the head counts, else `None`. They begin at 529 to 4,624, and at most 3,566
+    /// The same where the head counts, otherwise `None`. They begin at 529 to 4,624, and at most 3,566
     /// positions are after them.
     pub fn counted(info: Option<&Info>, class: Class, frames: u32) -> Option<Played>
         ensures played { result ≡ counted_positions (option_copied info.entry) class frames }
@@ -72,8 +72,8 @@ impl Played {
         self.end.saturating_sub(self.start)
     }
 
-    /// How many positions of so many frames are after the last played one: none where they end after the
-    /// frames.
+    /// How many positions of `frames` frames are after the last played one: none where the played ones
+    /// end after the frames.
     pub fn rest(&self, class: Class, frames: u32) -> u64
         ensures { result ≡ rest_of class frames self.now }
     {

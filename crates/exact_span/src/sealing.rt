@@ -17,7 +17,7 @@ const MUSIC_AT: usize = 148;
 /// Where the tag CRC is: in the bytes 34 and 35.
 const CRC_AT: usize = 154;
 
-/// Puts in the music length, by the place of the text.
+/// Writes the music length, given the place of the text.
 fn put_length(frame: &mut [u8], text: usize)
     requires text { text ≤ 100 }
     requires room { text + 156 ≤ length frame.old }
@@ -28,7 +28,7 @@ fn put_length(frame: &mut [u8], text: usize)
     frame.copy_within(bytes..bytes + 4, text + MUSIC_AT);
 }
 
-/// Puts in the tag CRC, by its place.
+/// Writes the tag CRC at this place.
 fn put_crc(frame: &mut [u8], at: usize)
     requires at { at ≤ 1000 }
     requires room { at + 2 ≤ length frame.old }
@@ -39,7 +39,7 @@ fn put_crc(frame: &mut [u8], at: usize)
     frame[at..at + 2].copy_from_slice(&word.to_be_bytes());
 }
 
-/// Puts both into the bytes of the frame.
+/// Writes both into the bytes of the frame.
 #[tactic(auto, unfolding(crate::specs::TagWord::with_music_length, crate::specs::TagWord::with_tag_crc))]
 fn seal_bytes(class: Class, frame: &mut [u8])
     requires { text_place class + 156 ≤ length frame.old }
@@ -50,10 +50,10 @@ fn seal_bytes(class: Class, frame: &mut [u8])
     put_crc(frame, text + CRC_AT);
 }
 
-/// Puts music length and tag CRC into a whole Info frame of `write_info`, of a file of this class:
-/// in the bytes 28 to 31 of the extension the number of bytes that the frame says, and in the bytes
-/// 34 and 35 the CRC of all bytes of the frame before them, both with the most significant byte
-/// first. All else stays.
+/// Writes music length and tag CRC into a whole Info frame of `write_info`, of a file of this
+/// class: into the bytes 28 to 31 of the extension the number of bytes that the frame states, and
+/// into the bytes 34 and 35 the CRC of all bytes of the frame before them, both with the most
+/// significant byte first. Everything else stays.
 pub fn seal(class: Class, frame: &mut ArrayVec<u8, 1441>)
     requires { text_place class + 156 ≤ length frame.old.items }
     ensures { frame.new.items ≡ sealed_frame class frame.old.items }

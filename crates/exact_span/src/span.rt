@@ -16,19 +16,19 @@ const WARM_UP: u64 = 1_056;
 pub struct Span {
     pub first: u32,
     pub last: u32,
-    /// Whether a lead-in has to be before the first frame.
+    /// Whether there has to be a lead-in before the first frame.
     pub led: bool,
     /// How many positions of these frames are before the first wanted one.
     pub from: u32,
-    /// How many are after the last.
+    /// How many positions of these frames are after the last wanted one.
     pub to: u32,
 }
 
 impl Span {
     /// The span of the positions from p to before q. Its first frame is the one in which the
     /// position 1,056 before p is, or the first of all, and its last the one in which position
-    /// q - 1 is. A lead-in has to be before it where p is below 529, since players add 529 to a
-    /// delay that is written.
+    /// `q - 1` is. There has to be a lead-in before it if p is below 529, since players add 529 to
+    /// a delay that is written.
     #[tactic(auto, unfolding(crate::specs::Spans::span_of))]
     pub fn of(class: Class, p: u64, q: u64) -> Span
         requires some { p < q }
@@ -48,8 +48,8 @@ impl Span {
         }
     }
 
-    /// The delay and the padding to be written, in samples, for the frames of the span after so
-    /// many lead-ins: at most one, and one where it has to be.
+    /// The delay and the padding to be written, in samples, for the frames of the span after
+    /// `leads` lead-ins: at most one, and one where there has to be one.
     pub fn numbers(&self, class: Class, leads: u32) -> (u16, u16)
         requires span { IsSpan class self.now }
         requires leads { AreLeads self.now leads }

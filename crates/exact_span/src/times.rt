@@ -16,7 +16,7 @@ fn read_clock(word: &[u8]) -> Option<u32>
     Some(60 * minutes + seconds)
 }
 
-/// What is after the seconds.
+/// What is after the seconds: nothing, or the second dot and what follows it.
 fn behind_seconds(word: &[u8]) -> &[u8]
     ensures { result.now ≡ seconds_tail word.now }
 {
@@ -58,7 +58,8 @@ pub(crate) fn read_millis(word: &[u8]) -> Option<u32>
     Some(seconds * 1_000 + thousandths)
 }
 
-/// The same, where the digits may be two or missing.
+/// Minutes, seconds and optionally two or three digits, in thousandths of a second. `None` exactly
+/// for every other word.
 #[tactic(auto, unfolding(crate::specs::Places::fine_millis_of))]
 pub(crate) fn read_fine_millis(word: &[u8]) -> Option<u32>
     ensures { result ≡ fine_millis_of word.now }

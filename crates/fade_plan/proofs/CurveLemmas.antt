@@ -1,4 +1,4 @@
--- The last point up to a frame and the first one after it, among points that are parted there.
+-- The last point up to a frame and the first point after it, among points that are split there.
 use Rattle.std.proofs.Common.{ap, ap₂, arith, Bool, cond, drop, false, find, get_or, length}
 use Rattle.std.proofs.Common.{length-append, length-drop, List, map, nat_le, nat_lt, None}
 use Rattle.std.proofs.Common.{option_map, refl, reverse, Some, subst, suc, sym, take, true, ℕ, []}
@@ -14,7 +14,7 @@ use Rattle.fade_plan.specs.{Points.{curve_point_of, IsKeptPoint}, declared.point
 
 -- ---- finding in mapped lists
 
--- the first that passes among values of a function is the value of the first whose value passes
+-- the first value of a function that passes is the value of the first item whose value passes
 pub find_mapped : {X Y : Type 0} (p : Y → Bool) (f : X → Y) (xs : List X)
     → find p (map f xs) ≡ option_map f (find (λ x. p (f x)) xs)
 find_mapped p f [] = refl
@@ -25,7 +25,7 @@ find_mapped p f (x ∷ xs) =
       | false ↦ find_mapped p f xs
     ]
 
--- values in reverse are the values of the reverse
+-- the values in reverse are the values of the reverse
 pub reverse_mapped : {X Y : Type 0} (f : X → Y) (xs : List X)
     → reverse (map f xs) ≡ map f (reverse xs)
 reverse_mapped f [] = refl
@@ -33,9 +33,9 @@ reverse_mapped f (x ∷ xs) =
     reverse-append (f x ∷ []) (map f xs) ∙ ap (λ t. t ++ (f x ∷ [])) (reverse_mapped f xs)
     ∙ sym (map-append f (reverse xs) (x ∷ [])) ∙ ap (map f) (sym (reverse-append (x ∷ []) xs))
 
--- ---- finding in parted lists
+-- ---- finding in split lists
 
--- where none passes none is found
+-- if none passes, none is found
 pub none_passes : {X : Type 0} (p : X → Bool) (xs : List X) → All (λ x. p x ≡ false) xs
     → find p xs ≡ None
 none_passes p [] fails = refl
@@ -48,7 +48,7 @@ first_passes : {X : Type 0} (p : X → Bool) (xs : List X) (d : X) → 0 < lengt
 first_passes p [] d some is = absurd (omega (arith, some))
 first_passes p (x ∷ xs) d some is = ap (λ b. cond b (Some x) (find p xs)) is
 
--- nor is one from the end on
+-- if none passes, none is found from the end on either
 pub none_passes_back : {X : Type 0} (p : X → Bool) (xs : List X) → All (λ x. p x ≡ false) xs
     → find p (reverse xs) ≡ None
 none_passes_back {X} p xs fails =
@@ -56,7 +56,7 @@ none_passes_back {X} p xs fails =
     let within : k < length xs = omega (arith, less, length-reverse xs) in
     ap p (get_or-reverse xs k d within) ∙ fails (length xs - 1 - k) d (omega (arith, within)))
 
--- where all pass the last is found first from the end on
+-- if all pass, the last is the first that is found from the end on
 pub last_passes : {X : Type 0} (p : X → Bool) (xs : List X) (d : X) → 0 < length xs
     → All (λ x. p x ≡ true) xs → find p (reverse xs) ≡ Some (get_or xs (length xs - 1) d)
 last_passes {X} p xs d some all =
@@ -100,7 +100,7 @@ first_of frame xs ys all =
     ∙ ap (option_map curve_point_of) (find-append (behind frame) xs ys ∙ ap (λ o. option_or o
     (find (behind frame) ys)) (none_passes (behind frame) xs (not_behind frame xs all)))
 
--- the points are those up to a frame, and those after it
+-- the points are the ones up to a frame, followed by the ones after it
 pub record AreParted (frame : ℕ) (points xs ys : List Point) : Type 0 where
   pub whole : points ≡ xs ++ ys
   pub front : All (λ p. up_to frame p ≡ true) xs
@@ -136,7 +136,7 @@ module _ (frame : ℕ) (points xs ys : List Point) (q : Point)
       first_passes (behind frame) ys q there.0 (is_behind frame ys parted.back 0 q there.0)
       ∙ ap Some (sym (there.1 q))
 
-  -- before the first point the steps are its own
+  -- before the first point, the steps are its steps
   pub steps_of_first : length xs ≡ 0 → first_there ys q
       → steps_at (map curve_point_of points) frame ≡ q.steps
   steps_of_first none first =
@@ -145,7 +145,7 @@ module _ (frame : ℕ) (points xs ys : List Point) (q : Point)
       (option_map curve_point_of b) frame)
       (no_last (up_to frame) xs none) (first_is first)
 
-  -- the first point after a frame is kept, and is after it
+  -- the first point after a frame has the bounds of a kept point, and is after the frame
   pub first_kept : All IsKeptPoint points → first_there ys q → IsKeptPoint q × (frame < q.frame)
   first_kept all there =
       let first = there.1 q in
@@ -165,7 +165,7 @@ module _ (frame : ℕ) (points xs ys : List Point) (p : Point) where
   last_is parted there =
       last_passes (up_to frame) xs p there.0 parted.front ∙ ap Some (sym (there.1 p))
 
-  -- between two points the steps are those that the line from the one to the other has at the frame
+  -- between two points, the steps are on the line from the one to the other
   pub steps_of_two : (q : Point) → AreParted frame points xs ys → last_there xs p → first_there ys q
       → steps_at (map curve_point_of points) frame
       ≡ neighbour_steps (Some (curve_point_of p)) (Some (curve_point_of q)) frame
@@ -175,7 +175,7 @@ module _ (frame : ℕ) (points xs ys : List Point) (p : Point) where
       (option_map curve_point_of b) frame)
       (last_is parted last) (first_is frame points xs ys q parted first)
 
-  -- after the last point the steps are its own
+  -- after the last point, the steps are its steps
   pub steps_of_last : AreParted frame points xs ys → last_there xs p → length ys ≡ 0
       → steps_at (map curve_point_of points) frame ≡ p.steps
   steps_of_last parted last none =
@@ -184,7 +184,7 @@ module _ (frame : ℕ) (points xs ys : List Point) (p : Point) where
       (option_map curve_point_of b) frame)
       (last_is parted last) (empty_find (behind frame) ys none)
 
-  -- the last point up to a frame is kept, and isn't after it
+  -- the last point up to a frame has the bounds of a kept point, and isn't after the frame
   pub last_kept : AreParted frame points xs ys → All IsKeptPoint points → last_there xs p
       → IsKeptPoint p × (p.frame ≤ frame)
   last_kept parted all there =
@@ -198,7 +198,7 @@ module _ (frame : ℕ) (points xs ys : List Point) (p : Point) where
         leb-true p.frame frame (ap (up_to frame) last ∙ parted.front (length xs - 1) p within),
       )
 
--- without points the steps are those of no points
+-- without points, the steps are 0
 pub steps_of_none : (frame : ℕ) (points xs ys : List Point) → AreParted frame points xs ys
     → length xs ≡ 0 → length ys ≡ 0
     → steps_at (map curve_point_of points) frame ≡ neighbour_steps None None frame
@@ -207,7 +207,7 @@ steps_of_none frame points xs ys parted none other =
     ∙ ap₂ (λ a b. neighbour_steps (option_map curve_point_of a) (option_map curve_point_of b) frame)
     (no_last (up_to frame) xs none) (empty_find (behind frame) ys other)
 
--- at the place where they part the points are parted
+-- points are split where the ones up to a frame end and the ones after it begin
 pub parted_at : (frame : ℕ) (points : List Point) (k : ℕ) → k ≤ length points
     → ((j : ℕ) (d : Point) → 0 ≤ j → j < k → nat_le (get_or points j d).frame frame ≡ true)
     → ((j : ℕ) (d : Point) → k ≤ j → j < length points → nat_le (get_or points j d).frame frame
@@ -222,7 +222,7 @@ parted_at frame points k within front back = record {
       ∙ back (k + j) d (omega arith) (omega (arith, less, length-drop k points, within));
 }
 
--- the same of two lists that are these parts
+-- the same for two lists that are these parts
 pub parted_as : (frame : ℕ) (points : List Point) (k : ℕ) (xs ys : List Point) → k ≤ length points
     → ((j : ℕ) (d : Point) → 0 ≤ j → j < k → nat_le (get_or points j d).frame frame ≡ true)
     → ((j : ℕ) (d : Point) → k ≤ j → j < length points → nat_le (get_or points j d).frame frame
@@ -245,7 +245,7 @@ pub first_some : (ys : List Point) (q : Point) → Some q ≡ slice_get ys 0 →
 first_some [] q is = absurd (none-some _ (sym is))
 first_some (y ∷ ys) q is = (omega arith, λ d. sym (get_or_from_slice_get (y ∷ ys) 0 q d (sym is)))
 
--- without a point at the first place there are none
+-- if there is no point at the first place, there are no points
 pub first_none : (ys : List Point) → None ≡ slice_get ys 0 → length ys ≡ 0
 first_none [] is = refl
 first_none (y ∷ ys) is = absurd (none-some _ is)
@@ -255,15 +255,15 @@ some_at : (xs : List Point) (x : Point)
 some_at [] x = refl
 some_at (y ∷ ys) x = some_at ys y ∙ ap Some (get_or_default (y ∷ ys) (length ys) y x (omega arith))
 
--- nor are there without one at the last
+-- if there is no point at the last place, there are no points
 pub last_none : (xs : List Point) → None ≡ slice_get xs (length xs - 1) → length xs ≡ 0
 last_none [] is = refl
 last_none (x ∷ xs) is =
     absurd (none-some _ (is ∙ ap (slice_get (x ∷ xs)) (omega arith) ∙ some_at xs x))
 
--- ---- so many points of rising ones are up to a frame
+-- ---- how many of rising points are up to a frame
 
--- if the last of them is, all are
+-- if the last of the first `count` points is up to the frame, all of them are
 pub all_up_to : (frame : ℕ) (points : List Point) (count : ℕ) (e : Point)
     → IsNonDecreasingBy (λ p. p.frame) points → count ≤ length points → 0 < count
     → up_to frame (get_or points (count - 1) e) ≡ true
@@ -279,7 +279,7 @@ all_up_to frame points count e rising within some last k d from below =
       same,
     ))
 
--- and the others aren't, if the first of them isn't
+-- if the first of the points after these is after the frame, all of them are
 pub all_behind : (frame : ℕ) (points : List Point) (count : ℕ) (e : Point)
     → IsNonDecreasingBy (λ p. p.frame) points → count < length points
     → behind frame (get_or points count e) ≡ true

@@ -29,7 +29,7 @@ all_later x y xs less rising k d within =
           omega (arith, less, here)
     ]
 
--- where neither of two has a fault, the first holds and the other has none
+-- if there is no fault at all, the first test passes and the rest has no fault
 pub none_of : (b : Bool) (o : Option ℕ) (line : ℕ) → cond b o (Some line) ≡ None
     → (b ≡ true) × (o ≡ None)
 none_of true o line e = (refl, e)
@@ -55,7 +55,7 @@ rises class frames (p ∷ q ∷ more) none =
     (all_later (curve_point class frames p) (curve_point class frames q)
     (map (curve_point class frames) more) (ltb-true _ _ parts.0) later) later
 
--- a curve was made only of points without a fault, and is these
+-- there is a curve only if no point is at fault, and it is these points
 pub made_of : (o : Option ℕ) (points curve : List CurvePoint) → line_or_curve o points ≡ Ok curve
     → (o ≡ None) × (points ≡ curve)
 made_of None points curve e = (refl, cc)

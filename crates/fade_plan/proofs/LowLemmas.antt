@@ -1,5 +1,5 @@
--- The first point that is no later than the one before,
--- from point to point, and the points at their frames.
+-- The first point that is no later than the one before, searched from point to point, and the
+-- points at their frames.
 use Rattle.std.proofs.Common.{ap, append-nil, append_assoc, ap₂, arith, cond, drop, Err, get_or}
 use Rattle.std.proofs.Common.{inl, inr, length, length-drop, List, map, nat_lt, None, Ok, refl}
 use Rattle.std.proofs.Common.{Some, subst, sym, take, ℕ, [], ◌++◌, ◌+◌, ◌-◌, ◌<◌, ◌∙◌, ◌∷◌, ◌≡◌}
@@ -23,7 +23,7 @@ two_of : (xs : List Point) (n : ℕ) (d : Point) → n + 1 < length xs
 two_of xs n d less = drop_more xs n d (omega (arith, less))
     ∙ ap (λ t. get_or xs n d ∷ t) (drop_more xs (n + 1) d less)
 
--- where the next point is at a later frame, the first that isn't is after it
+-- if the next point is at a later frame, the first point that isn't later comes after it
 pub low_past : (xs : List Point) (n : ℕ) (d : Point) → n + 1 < length xs → (get_or xs n d).frame
     < (get_or xs (n + 1) d).frame
     → first_not_rising (drop n xs) ≡ first_not_rising (drop (n + 1) xs)
@@ -35,7 +35,7 @@ low_past xs n d less rises =
     (n + 1) d).line)) (lt-ltb (get_or xs n d).frame (get_or xs (n + 1) d).frame rises)
     ∙ ap first_not_rising (sym (drop_more xs (n + 1) d less))
 
--- where the next point is at no later frame, it is the first
+-- if the next point is at no later frame, it is the first
 pub low_here : (xs : List Point) (n : ℕ) (d : Point) → n + 1 < length xs
     → (get_or xs (n + 1) d).frame ≤ (get_or xs n d).frame
     → first_not_rising (drop n xs) ≡ Some (get_or xs (n + 1) d).line
@@ -80,7 +80,7 @@ placed_of class frames (p ∷ q ∷ more) =
     ap (λ o. cond (nat_lt (placed_point class frames p).frame (placed_point class frames q).frame) o
     (Some q.line)) (placed_of class frames (q ∷ more))
 
--- the first line that doesn't rise is the same by the points' frames and by their positions
+-- the first line that doesn't rise is the same by the frames of the points and by their positions
 pub low_placed : (class : ClassFields) (frames : ℕ) (xs : List Point)
     → first_not_rising (map (placed_point class frames) xs)
     ≡ line_not_rising class frames (map envelope_point_of xs)
@@ -91,7 +91,7 @@ low_placed class frames xs = placed_of class frames xs
 before_next : (m : ℕ) → 1 ≤ m → m - 1 + 1 ≡ m
 before_next m some = omega (arith, some)
 
--- a point behind the one before it is passed
+-- a point after the one before it is passed
 pub passes : (xs : List Point) (m : ℕ) (d : Point) → 1 ≤ m → m < length xs
     → (get_or xs (m - 1) d).frame < (get_or xs m d).frame
     → first_not_rising (drop (m - 1) xs) ≡ first_not_rising (drop (m + 1 - 1) xs)
@@ -102,7 +102,7 @@ passes xs m d some less =
     (λ rises. low_past xs (m - 1) d (omega (arith, some, less)) rises
     ∙ ap (λ k. first_not_rising (drop k xs)) (omega (arith, some)))
 
--- a point that isn't behind the one before it is the first fault
+-- a point that isn't after the one before it is the first fault
 pub stops : (xs : List Point) (m : ℕ) (d : Point) → 1 ≤ m → m < length xs → (get_or xs m d).frame
     ≤ (get_or xs (m - 1) d).frame → first_not_rising (drop (m - 1) xs) ≡ Some (get_or xs m d).line
 stops xs m d some less =
@@ -110,12 +110,12 @@ stops xs m d some less =
     → first_not_rising (drop (m - 1) xs) ≡ Some (get_or xs k d).line) (before_next m some)
     (low_here xs (m - 1) d (omega (arith, some, less)))
 
--- after the last point there is none
+-- after the last point there is no fault
 pub ends : (xs : List Point) (m : ℕ) → 1 ≤ m → length xs ≤ m
     → first_not_rising (drop (m - 1) xs) ≡ None
 ends xs m some end = short_low (drop (m - 1) xs) (omega (arith, some, end, length-drop (m - 1) xs))
 
--- points in order and one behind the last of them are in order
+-- points in order and one that is after the last of them are in order
 pub adjacent_more : (xs : List Point) (m : ℕ) (e : Point) → m < length xs
     → AllAdjacentBelow (λ x y. x.frame ≤ y.frame) xs m → (get_or xs (m - 1) e).frame
     < (get_or xs m e).frame → AllAdjacentBelow (λ x y. x.frame ≤ y.frame) xs (m + 1)
@@ -136,7 +136,7 @@ adjacent_more xs m e within so rises k d less =
 
 -- ---- the loop that places points
 
--- to give the point at i its frame is to have placed one point more
+-- giving the point at i its frame places one point more
 pub placed_step : (class : ClassFields) (frames : ℕ) (xs ps : List Point) (i frame : ℕ) (d : Point)
     → i < length xs → ps ≡ map (placed_point class frames) (take i xs) ++ drop i xs
     → frame ≡ frame_at class frames (get_or ps i d).place
@@ -158,7 +158,7 @@ placed_step class frames xs ps i frame d less is at =
 
 -- ---- the curve of placed points
 
--- if some point isn't behind the one before it, its line is the fault
+-- if some point isn't after the one before it, its line is the fault
 pub curve_refused : (class : ClassFields) (frames : ℕ) (xs ys : List Point) (line : ℕ)
     → ys ≡ map (placed_point class frames) xs → Some line ≡ first_not_rising ys
     → Err line ≡ curve_of class frames (map envelope_point_of xs)
@@ -174,7 +174,7 @@ same_points class frames [] = refl
 same_points class frames (x ∷ xs) =
     ap (λ t. curve_point_of (placed_point class frames x) ∷ t) (same_points class frames xs)
 
--- otherwise the placed points are the curve
+-- if no line is at fault, the placed points are the curve
 pub curve_made : (class : ClassFields) (frames : ℕ) (xs ys : List Point)
     → ys ≡ map (placed_point class frames) xs → None ≡ first_not_rising ys
     → Ok (map curve_point_of ys) ≡ curve_of class frames (map envelope_point_of xs)
@@ -184,14 +184,14 @@ curve_made class frames xs ys is low =
     ∙ ap (λ o. line_or_curve o (map (curve_point class frames) (map envelope_point_of xs)))
     (low ∙ ap first_not_rising is ∙ low_placed class frames xs)
 
--- what a vector holds after its points were written again
+-- what a vector contains after its points were overwritten
 pub whole_again : (n : ℕ) (new old : List Point) → length new ≡ n → length old ≡ n
     → take n (new ++ drop (length new) old) ≡ new
 whole_again n new old size same =
     ap (λ t. take n (new ++ t)) (drop_all (length new) old (omega (arith, size, same)))
     ∙ ap (take n) (append-nil new) ∙ take_all n new (omega (arith, size))
 
--- so points that are written again with their frames are the placed points
+-- points that are overwritten with their frames are the placed points
 pub written_again : (class : ClassFields) (frames n : ℕ) (xs ms new ys : List Point) → n ≡ length xs
     → ms ≡ xs → new ≡ map (placed_point class frames) ms → ys ≡ take n (new ++ drop (length new) xs)
     → ys ≡ map (placed_point class frames) xs

@@ -31,7 +31,7 @@ points_are : (line : ℕ) (e : FadeEntry) (more : List FadeEntry)
 unfolding points_from
 points_are line e more = refl
 
--- the points of lines and one more
+-- the points of lines, with one line more
 points_more : (line : ℕ) (before : List FadeEntry) (e : FadeEntry)
     → points_from line (before ++ (e ∷ []))
     ≡ points_from line before ++ point_at (line + length before) e
@@ -61,7 +61,7 @@ pub record HaveRead (text : List ℕ) (at line : ℕ) (points : List Point) : Ty
   pub count : length points ≡ count_by is_point before
   pub kept : map envelope_point_of points ≡ points_from 1 before
 
--- at the beginning no line was read
+-- at the beginning, no line was read
 pub at_front : (text : List ℕ) → HaveRead text 0 1 []
 at_front text = record {
   before = [];
@@ -72,7 +72,7 @@ at_front text = record {
   kept = sym (no_points 1);
 }
 
--- if the next line is at fault, the sheet is refused with its number
+-- if the next line is at fault, the sheet is refused with the number of this line
 pub refused : (text : List ℕ) (at line : ℕ) (points : List Point) (e : FadeEntry)
     (more : List FadeEntry) → HaveRead text at line points → fade_entries_from text at ≡ e ∷ more
     → is_at_fault (length points) e ≡ true
@@ -85,7 +85,7 @@ refused text at line points e more read here wrong =
     (ap (λ n. is_at_fault n e) (sym read.count) ∙ wrong)
     ∙ ap Some (sym read.number))
 
--- if it isn't, its point is one more
+-- if the next line isn't at fault, it is read, and if it is a point, there is one point more
 pub goes_on : (text : List ℕ) (at next line : ℕ) (points then : List Point) (e : FadeEntry)
     → HaveRead text at line points → fade_entries_from text at ≡ e ∷ fade_entries_from text next
     → is_at_fault (length points) e ≡ false → map envelope_point_of
@@ -110,7 +110,7 @@ goes_on text at next line points then e read here right kept = record {
 none_left : (text : List ℕ) (at : ℕ) → length text < at → fade_entries_from text at ≡ []
 none_left text at end = ap (map fade_entry_in) (no_lines text at end)
 
--- after the last line the sheet has the points so far
+-- after the last line, the sheet has the points so far
 pub ends : (text : List ℕ) (at line : ℕ) (points : List Point) → HaveRead text at line points
     → length text < at
     → envelope_in (fade_entries_from text 0) ≡ some_points (map envelope_point_of points)
@@ -122,13 +122,13 @@ ends text at line points read end =
     (read.lines ∙ ap (λ es. read.before ++ es) none ∙ append-nil read.before)
     ∙ ap some_points (sym read.kept)
 
--- with a point these are the sheet's
+-- if there is a point, these are the points of the sheet
 pub some_are : (points : List Point) → 0 < length points
     → some_points (map envelope_point_of points) ≡ Ok (map envelope_point_of points)
 some_are [] some = absurd (omega (arith, some))
 some_are (point ∷ more) some = refl
 
--- without one the sheet has no points
+-- if there is no point, the sheet is refused for having none
 pub none_are : (points : List Point) → length points ≡ 0
     → some_points (map envelope_point_of points) ≡ Err NoPoints
 none_are [] none = refl

@@ -1,4 +1,4 @@
--- The steps between two points are no more than those of the points.
+-- The steps between two points are no larger than the steps of the points.
 use Rattle.std.proofs.Common.{ap, ap₂, arith, cond, false, FitsSigned, int_div, ltb, neg_ℤ, negsuc}
 use Rattle.std.proofs.Common.{of_z, pos, refl, subst, suc, sym, to_z, true, unsigned_abs, w64, zero}
 use Rattle.std.proofs.Common.{ℕ, ℤ, ◌*ℤ◌, ◌+ℤ◌, ◌*◌, ◌+◌, ◌-◌, ◌/◌, ◌<◌, ◌^◌, ◌∙◌, ◌≡◌, ◌≤◌}
@@ -7,7 +7,7 @@ use Rattle.std.proofs.lemmas.Bool.{ltb-true}
 use Rattle.std.proofs.lemmas.Int.{fits_signed_from_abs, to_z-of_z, to_z_pos, unsigned_abs-mul}
 use mir.Syntax.{w16}
 
--- the opposite number is as large
+-- the opposite number has the same absolute value
 pub size_of_negated : (z : ℤ) → unsigned_abs (neg_ℤ z) ≡ unsigned_abs z
 size_of_negated (pos n) = at n
   where

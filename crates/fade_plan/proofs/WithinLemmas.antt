@@ -46,7 +46,7 @@ near zero up (negsuc n) is = absurd (omega (arith, is.down_to))
 near (suc down) up (negsuc n) is =
     and_from (leb n down) true (le-leb n down (omega (arith, is.down_to))) refl
 
--- the opposite number is as far up as it is down
+-- the opposite number is as far up as the number is down
 pub within-opposite : (down up : ℕ) (z : ℤ)
     → is_step_within down up (neg_ℤ z) ≡ is_step_within up down z
 unfolding above below
@@ -136,7 +136,7 @@ weights most left passed =
     turned ∙ ap₂ (λ (a b : ℕ). a + b) (mul_comm most passed) (mul_comm most left)
     ∙ sym (add-mul passed left most)
 
--- so many frames on the one side and on the other
+-- a sum of steps weighted by the frames on both sides is at most `up` for each frame
 weighted_above : (up : ℕ) (a b : ℤ) (left passed : ℕ) → above a ≤ up → above b ≤ up
     → above ((a *ℤ pos left) +ℤ (b *ℤ pos passed)) ≤ (passed + left) * up
 weighted_above up a b left passed few other =
@@ -200,7 +200,7 @@ none_far : (down up : ℕ) → IsFar down up (pos 0)
 unfolding above below
 none_far down up = record { down_to = omega arith; up_to = omega arith }
 
--- the steps at a frame are no further up or down than those of all points
+-- the steps at a frame are no further up or down than the steps of all points
 pub steps_within : (down up : ℕ) (points : List CurvePoint)
     → All (λ p. IsTrue (is_step_within down up p.steps)) points → (frame : ℕ)
     → is_step_within down up (steps_at points frame) ≡ true

@@ -1,5 +1,5 @@
--- The curve of an envelope over a stream: the steps
--- of 1.5 dB by which the gains of each frame move.
+-- The curve of an envelope over a stream: the steps of 1.5 dB by which the gains of each frame
+-- move.
 use Rattle.std.specs.Prelude.{Bool, Err, find, if◌then◌else◌, int_div, List, map, nat_le, nat_lt}
 use Rattle.std.specs.Prelude.{neg_ℤ, None, Ok, Option, pos, Result, reverse, Some, ℕ, ℤ, ◌*ℤ◌, ◌+ℤ◌}
 use Rattle.std.specs.Prelude.{[], ◌-◌, ◌∷◌}
@@ -18,12 +18,12 @@ pub record CurvePoint : Type 0 where
 abbrev pub point_frame : ClassFields → ℕ → EnvelopePoint → ℕ
 point_frame class frames point = frame_at class frames point.place
 
--- a point at the frame of its position
+-- the point at the frame of its position
 abbrev pub curve_point : ClassFields → ℕ → EnvelopePoint → CurvePoint
 curve_point class frames point =
     record { frame = point_frame class frames point; steps = point.steps }
 
--- the line of the first point whose frame isn't greater than that of the point before
+-- the line of the first point whose frame isn't greater than the frame of the point before
 unfoldable pub line_not_rising : ClassFields → ℕ → List EnvelopePoint → Option ℕ
 line_not_rising class frames [] = None
 line_not_rising class frames (point ∷ []) = None
@@ -37,7 +37,7 @@ abbrev pub line_or_curve : Option ℕ → List CurvePoint → Result (List Curve
 line_or_curve None points = Ok points
 line_or_curve (Some line) points = Err line
 
--- the points at their frames, or the line that doesn't rise
+-- the points at their frames, or the first line that doesn't rise
 unfoldable pub curve_of : ClassFields → ℕ → List EnvelopePoint → Result (List CurvePoint) ℕ
 curve_of class frames points =
     line_or_curve (line_not_rising class frames points) (map (curve_point class frames) points)
@@ -52,15 +52,15 @@ last_point_up_to points frame = find (λ point. nat_le point.frame frame) (rever
 abbrev pub first_point_after : List CurvePoint → ℕ → Option CurvePoint
 first_point_after points frame = find (λ point. nat_lt frame point.frame) points
 
--- between two points the steps go evenly from those of
--- the one to those of the other, rounded toward zero
+-- between two points the steps go evenly from the steps of the one to the steps of the other,
+-- rounded toward zero
 abbrev pub steps_between : CurvePoint → CurvePoint → ℕ → ℤ
 steps_between p q frame =
     int_div ((p.steps *ℤ pos (q.frame - frame)) +ℤ (q.steps *ℤ pos (frame - p.frame)))
     (pos (q.frame - p.frame))
 
--- before the first point the steps are those of the first,
--- and from the last point's frame on those of the last
+-- before the first point the steps are its steps, from the last point's frame on the steps of the
+-- last, and without points 0
 abbrev pub neighbour_steps : Option CurvePoint → Option CurvePoint → ℕ → ℤ
 neighbour_steps None None frame = pos 0
 neighbour_steps None (Some q) frame = q.steps
@@ -72,6 +72,6 @@ unfoldable pub steps_at : List CurvePoint → ℕ → ℤ
 steps_at points frame =
     neighbour_steps (last_point_up_to points frame) (first_point_after points frame) frame
 
--- a fade that is taken back has the opposite steps
+-- a fade that is reversed has the opposite steps
 abbrev pub steps_back : Bool → ℤ → ℤ
 steps_back back steps = if back then neg_ℤ steps else steps

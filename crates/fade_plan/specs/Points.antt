@@ -5,11 +5,11 @@ use Rattle.fade_plan.specs.{Curves.CurvePoint, Sheets.{EnvelopePoint, IsPoint}}
 use Rattle.fade_plan.specs.declared.point.Point.{Point}
 use Rattle.frame_header.specs.Fields.{ClassFields}
 
--- what an envelope shows of a point
+-- what contracts see of a point of an envelope
 abbrev pub envelope_point_of : Point → EnvelopePoint
 envelope_point_of point = record { line = point.line; place = point.place; steps = point.steps }
 
--- what a curve shows of a point
+-- what contracts see of a point of a curve
 abbrev pub curve_point_of : Point → CurvePoint
 curve_point_of point = record { frame = point.frame; steps = point.steps }
 
@@ -22,7 +22,7 @@ pub record IsKeptPoint (point : Point) : Type 0 where
 abbrev pub placed_point : ClassFields → ℕ → Point → Point
 placed_point class frames point = record point { frame = frame_at class frames point.place }
 
--- the line of the first point whose frame isn't greater than that of the point before
+-- the line of the first point whose frame isn't greater than the frame of the point before
 unfoldable pub first_not_rising : List Point → Option ℕ
 first_not_rising [] = None
 first_not_rising (point ∷ []) = None

@@ -1,5 +1,5 @@
--- Sheets of a fade: what a line says, the first line at fault, and
--- the points. Lines and words are cut as those of a cue sheet.
+-- Sheets of a fade: what a line says, the first line at fault, and the points. Lines and words are
+-- split as in a cue sheet.
 use Rattle.std.specs.Prelude.{Bool, count_by, Err, false, if◌then◌else◌, length, List, map, nat_le}
 use Rattle.std.specs.Prelude.{None, Ok, Option, Result, Some, true, unsigned_abs, ℕ, ℤ, [], ◌++◌}
 use Rattle.std.specs.Prelude.{◌+◌, ◌==◌, ◌∷◌, ◌≤◌}
@@ -9,7 +9,7 @@ use Rattle.fade_plan.specs.declared.entry.FadeEntry.{FadeEntry, TheVariants.{At,
 use Rattle.fade_plan.specs.declared.envelope_fault.EnvelopeFault.{EnvelopeFault}
 use Rattle.fade_plan.specs.declared.envelope_fault.EnvelopeFault.TheVariants.{Line, NoPoints}
 
--- a point of gain: the line that it is in, counted from 1, its position, and its steps
+-- a point of gain: the line in which it is, counted from 1, its position, and its steps
 pub record EnvelopePoint : Type 0 where
   pub line : ℕ
   pub place : Place
@@ -35,8 +35,8 @@ point_of (place ∷ []) = Broken
 point_of (place ∷ steps ∷ []) = point_entry (place_of place) (steps_in steps)
 point_of (place ∷ steps ∷ third ∷ more) = Broken
 
--- what a line says by its words: a comment and a line
--- without words are skipped, every other is a point
+-- what a line says by its words: a comment and a line without words are skipped, every other line
+-- is a point
 unfoldable pub fade_entry_of : List (List ℕ) → FadeEntry
 fade_entry_of [] = Passed
 fade_entry_of (first ∷ rest) = if is_comment first then Passed else point_of (first ∷ rest)
@@ -61,14 +61,14 @@ is_point Passed = false
 is_point (At place steps) = true
 is_point Broken = false
 
--- after so many points a line is at fault if it breaks its
--- rule or is one point too many: a sheet has at most 1,000
+-- after `points` points a line is at fault if it breaks its rule or is one point too many: a sheet
+-- has at most 1,000
 abbrev pub is_at_fault : ℕ → FadeEntry → Bool
 is_at_fault points Passed = false
 is_at_fault points (At place steps) = nat_le 1000 points
 is_at_fault points Broken = true
 
--- the number of the first line at fault, of lines after others; lines are counted from 1
+-- the number of the first line at fault, among lines after others; lines are counted from 1
 unfoldable pub first_faulty_line : List FadeEntry → List FadeEntry → Option ℕ
 first_faulty_line before [] = None
 first_faulty_line before (entry ∷ more) =
@@ -77,13 +77,13 @@ first_faulty_line before (entry ∷ more) =
 
 -- ---- the envelope
 
--- the point of a line with this number
+-- the point of a line with this number, if the line is a point
 abbrev pub point_at : ℕ → FadeEntry → List EnvelopePoint
 point_at line Passed = []
 point_at line (At place steps) = record { line = line; place = place; steps = steps } ∷ []
 point_at line Broken = []
 
--- the points of lines of which the first has this number
+-- the points of lines whose numbers begin with this one
 unfoldable pub points_from : ℕ → List FadeEntry → List EnvelopePoint
 points_from line [] = []
 points_from line (entry ∷ more) = point_at line entry ++ points_from (line + 1) more
@@ -93,7 +93,7 @@ abbrev pub some_points : List EnvelopePoint → Result (List EnvelopePoint) Enve
 some_points [] = Err NoPoints
 some_points (point ∷ more) = Ok (point ∷ more)
 
--- the answer, unless a line is at fault
+-- the result, unless a line is at fault
 abbrev pub fault_or_envelope : Option ℕ → Result (List EnvelopePoint) EnvelopeFault
     → Result (List EnvelopePoint) EnvelopeFault
 fault_or_envelope None answer = answer

@@ -45,7 +45,7 @@ fn all_after(points: &[Point], frame: u64, count: usize) -> bool
     frame < points[count].frame
 }
 
-/// How many points are at or before the frame. `near` is tried first, which saves the search where it is
+/// How many points are at or before the frame. `near` is tried first, which saves the search if it is
 /// right.
 #[inline]
 fn count_from_hint(points: &[Point], frame: u64, near: usize) -> usize
@@ -71,7 +71,7 @@ fn weighted(steps: i16, frames: u64) -> i64
     i64::from(steps) * frames as i64
 }
 
-/// A sum of steps times frames, divided by the number of all the frames, and rounded toward zero.
+/// A sum of steps times frames, divided by the number of all these frames, and rounded toward zero.
 fn rounded_steps(sum: i64, frames: u64) -> i16
     requires some { 0 < frames }
     requires few { frames < 2 ^ 48 }
@@ -116,8 +116,8 @@ fn steps_at(points: &[Point], frame: u64, count: usize) -> i16
     }
 }
 
-/// By how many steps of 1.5 dB the gains of each frame of a stream move. Contracts see it as the list of
-/// its points: frame and steps.
+/// By how many steps of 1.5 dB the gains of each frame of a stream move. In contracts it is the list of its
+/// points: frame and steps.
 #[derive(Drop)]
 pub struct Curve {
     points: Vec<Point>,
@@ -150,9 +150,9 @@ impl Curve {
     }
 
     /// By how many steps of 1.5 dB the gains of this frame move, from -255 to 255: before the first point
-    /// by its steps, from the last point's frame on by those of the last, and between two points evenly
+    /// by its steps, from the last point's frame on by the steps of the last, and between two points evenly
     /// from the one to the other, rounded toward zero. With `back` the steps have the opposite sign. It
-    /// takes no memory.
+    /// allocates nothing.
     pub fn steps(&self, frame: u32, back: bool) -> i16
         ensures steps { result ≡ steps_back back (steps_at self.now frame) }
         ensures most { unsigned_abs result ≤ 255 }
@@ -160,9 +160,8 @@ impl Curve {
         self.steps_near(frame, back, &mut 0)
     }
 
-    /// The same, faster for frames one after another: `near` is how many points were at or before the frame
-    /// that was asked for last, and becomes that number for this one. With any other number the steps are
-    /// the same.
+    /// The same, but faster for frames in order: `near` is how many points were at or before the frame of
+    /// the last call, and becomes that number for this frame. With any other number the steps are the same.
     #[inline]
     pub fn steps_near(&self, frame: u32, back: bool, near: &mut usize) -> i16
         ensures steps { result ≡ steps_back back (steps_at self.now frame) }

@@ -16,10 +16,10 @@ use frame_header::Class;
 use std::alloc::{AllocError, Global};
 use std::marker::Model;
 
-/// How many points a sheet has at most.
+/// The most points that a sheet may have.
 const MOST_POINTS: usize = 1_000;
 
-/// Whether a line is at fault after so many points.
+/// Whether a line is at fault after `points` points.
 fn is_at_fault(points: usize, entry: FadeEntry) -> bool
     ensures { result ≡ is_at_fault points entry }
 {
@@ -33,7 +33,7 @@ fn is_at_fault(points: usize, entry: FadeEntry) -> bool
 /// Keeps the point of a line that is one.
 ///
 /// # Errors
-/// Where there is no memory.
+/// If out of memory.
 fn keep(points: &mut Vec<Point>, line: u32, entry: FadeEntry) -> Result<(), AllocError>
     requires sound { IsFadeEntry entry }
     requires kept { All IsKeptPoint points.old.items }
@@ -81,7 +81,7 @@ fn read_points(alloc: Global, text: &[u8]) -> Result<Vec<Point>, EnvelopeFault>
     Ok(points)
 }
 
-/// The points of gain that a sheet lists. Contracts see it as the list of these points: line, position and
+/// The points of gain that a sheet lists. In contracts it is the list of these points: line, position and
 /// steps.
 #[derive(Drop)]
 pub struct Envelope {
@@ -107,12 +107,11 @@ impl Envelope {
     /// separated by spaces and tabs. A line without words, or whose first word begins with `#`, is skipped.
     /// Every other line has exactly two words and is a point: a position, as `Place::read` takes it, and
     /// steps of 1.5 dB, which are an optional `+` or `-` and one to three digits, from -255 to 255. There
-    /// are 1 to 1,000 points.
+    /// have to be 1 to 1,000 points.
     ///
     /// # Errors
     /// `Line` with the first line, counted from 1, that is neither skipped nor a point, or is the 1,001st
-    /// point. `NoPoints` where no line is at fault and there is no point. `Memory` where there is no
-    /// memory.
+    /// point. `NoPoints` where no line is at fault and there is no point. `Memory` if out of memory.
     #[tactic(auto, unfolding(crate::specs::Sheets::envelope_of))]
     pub fn read(alloc: Global, bytes: &[u8]) -> Result<Envelope, EnvelopeFault>
         requires { length bytes.now ≤ longest_sheet }
@@ -124,10 +123,10 @@ impl Envelope {
         Ok(Envelope { points })
     }
 
-    /// The curve over a stream of so many frames of this class. It takes no memory.
+    /// The curve over a stream of `frames` frames of this class. It allocates nothing.
     ///
     /// # Errors
-    /// The line of the first point whose frame isn't greater than that of the point before.
+    /// The line of the first point whose frame isn't greater than the frame of the point before.
     pub fn place_on(self, class: Class, frames: u32) -> Result<Curve, u32>
         ensures { result ≡ curve_of class frames self }
     {

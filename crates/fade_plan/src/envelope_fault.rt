@@ -4,13 +4,13 @@ use thiserror::Error;
 /// Why a sheet isn't read. Lines are counted from 1.
 #[derive(Clone, Copy, Debug, PartialEq, Eq, Error)]
 pub enum EnvelopeFault {
-    /// This line is neither skipped nor a point, or it is a point too many.
+    /// This line is neither skipped nor a point, or is one point too many.
     #[error("line {0} is not well-formed")]
     Line(u32),
     /// No line is at fault, and there is no point.
     #[error("there are no points")]
     NoPoints,
-    /// There was no memory left.
+    /// Out of memory.
     #[error("out of memory")]
     Memory,
 }

@@ -7,14 +7,14 @@ ghost use Rattle.fade_plan.specs.Points.{IsKeptPoint, placed_point, first_not_ri
 use cue_sheet::Place;
 use frame_header::Class;
 
-/// A point, and the frame that its position is before. An envelope becomes a curve without memory, so its list is the curve's,
-/// and both have points of this one type.
+/// A point, and the frame that its position is before. An envelope becomes a curve without
+/// allocating, so the curve takes over its list, and both have points of this one type.
 #[derive(Clone, Copy)]
 pub(crate) struct Point {
     /// The frame that the position is before; 0 in an envelope.
     pub(crate) frame: u64,
     pub(crate) place: Place,
-    /// The line that it is in, counted from 1.
+    /// The line in which it is, counted from 1.
     pub(crate) line: u32,
     /// Steps of 1.5 dB, from -255 to 255.
     pub(crate) steps: i16,
@@ -40,7 +40,7 @@ pub(crate) fn place_all(points: &mut [Point], class: Class, frames: u32)
     }
 }
 
-/// The line of the first point whose frame isn't greater than that of the point before.
+/// The line of the first point whose frame isn't greater than the frame of the point before.
 pub(crate) fn first_not_rising(points: &[Point]) -> Option<u32>
     ensures line { result ≡ first_not_rising points.now }
     ensures rising { result ≡ None → IsNonDecreasingBy (λ point. point.frame) points.now }

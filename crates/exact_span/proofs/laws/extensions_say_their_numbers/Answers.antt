@@ -1,4 +1,4 @@
--- The bytes 21 to 23 are those of both numbers.
+-- The bytes 21 to 23 are the bytes of both numbers.
 use Rattle.exact_span.proofs.ExtensionLemmas.{extension-says}
 use Rattle.exact_span.proofs.laws.extensions_say_their_numbers.Goals as goal
 

@@ -1,4 +1,4 @@
--- Frames that rise are parted at any frame.
+-- Rising frames are split at any frame.
 use Rattle.std.proofs.Common.{nat_le, rules}
 use Rattle.std.proofs.lemmas.List.Sorted.{IsPartitionedBy-leb, IsPartitionPoint-from_clause}
 use Rattle.fade_plan.proofs.curve.count_up_to.Goals as goal

@@ -1,4 +1,4 @@
--- The quotient is no more than the steps.
+-- The quotient is no larger than the steps.
 use Rattle.std.proofs.Common.{subst, sym, unsigned_abs, ◌≤◌}
 use Rattle.fade_plan.proofs.StepsLemmas.{evenly, size_between}
 use Rattle.fade_plan.proofs.curve.rounded_steps.Goals as goal

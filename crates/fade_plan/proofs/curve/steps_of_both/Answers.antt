@@ -1,4 +1,4 @@
--- The sum is no more than the greatest steps times all the frames.
+-- The sum is no larger than the greatest steps times the number of frames.
 use Rattle.std.proofs.Common.{ap, arith, int_div, pos, subst, sym, unsigned_abs, ◌*ℤ◌, ◌+ℤ◌, ◌*◌}
 use Rattle.std.proofs.Common.{◌+◌, ◌-◌, ◌<◌, ◌^◌, ◌∙◌, ◌≡◌, ◌≤◌}
 use Rattle.fade_plan.proofs.StepsLemmas.{size_of_weighted, small_fits, weighted_sum}

@@ -1,4 +1,4 @@
--- A line more, a fault, and the end.
+-- One line more, a fault, and the end.
 use Rattle.std.proofs.Common.{ap, arith, inr, length, subst, sym, ◌∙◌}
 use Rattle.std.proofs.lemmas.Bool.{eqb-false, eqb-true}
 use Rattle.cue_sheet.proofs.LinesLemmas.{first_said}

@@ -1,4 +1,4 @@
--- The lines so far are not at fault and have these points, and the others are after them.
+-- The lines so far are not at fault and have these points, and the other lines are after them.
 use Rattle.std.{proofs.Common.{length, ◌+◌, ◌-◌, ◌≤◌}, specs.List.All}
 use Rattle.fade_plan.{proofs.SheetLemmas.HaveRead, specs.Points.IsKeptPoint}
 use Rattle.fade_plan.proofs.envelope.read_points.Given as goal

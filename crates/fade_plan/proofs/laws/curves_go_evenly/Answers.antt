@@ -1,4 +1,4 @@
--- The points around the frame are the two that it is between.
+-- The points around the frame are the two points that it is between.
 use Rattle.fade_plan.proofs.EvenLemmas.{curves-go-evenly}
 use Rattle.fade_plan.proofs.laws.curves_go_evenly.Goals as goal
 

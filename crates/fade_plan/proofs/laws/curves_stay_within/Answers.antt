@@ -1,4 +1,4 @@
--- Each frame has steps of points, or steps between theirs.
+-- Each frame has the steps of a point, or steps between the steps of two points.
 use Rattle.fade_plan.proofs.WithinLemmas.{steps_of_one, steps_within}
 use Rattle.fade_plan.proofs.laws.curves_stay_within.Goals as goal
 

@@ -1,4 +1,4 @@
--- A point more that rises, one that doesn't, and the end.
+-- One point more that rises, one that doesn't, and the end.
 use Rattle.std.proofs.Common.{arith, sym, ◌∙◌}
 use Rattle.std.proofs.lemmas.List.Sorted.{IsNonDecreasingBy-from_all_adjacent}
 use Rattle.fade_plan.proofs.LowLemmas.{adjacent_more, ends, passes, stops}

@@ -1,4 +1,4 @@
--- The points so far rise, so that the first that doesn't is after them.
+-- The points so far rise, so the first that doesn't is after them.
 use Rattle.std.{proofs.Common.{drop, length, ◌-◌, ◌≡◌, ◌≤◌}, specs.List.AllAdjacentBelow}
 use Rattle.fade_plan.specs.Points.{first_not_rising}
 use Rattle.fade_plan.proofs.point.first_not_rising.Given as goal

@@ -1,4 +1,4 @@
--- A point more has its frame.
+-- One point more has its frame.
 use Rattle.std.proofs.{Common.{arith, length, ◌<◌}, lemmas.List.Elements.All-set}
 use Rattle.fade_plan.{proofs.LowLemmas.placed_step, specs.Points.IsKeptPoint}
 use Rattle.fade_plan.proofs.point.place_all.Goals as goal

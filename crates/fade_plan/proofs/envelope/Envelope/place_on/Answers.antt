@@ -1,4 +1,4 @@
--- The curve is that of the points at their frames.
+-- The curve has the points at their frames.
 use Rattle.std.proofs.Common.{ap, map, Ok, sym, ◌∙◌}
 use Rattle.fade_plan.proofs.LowLemmas.{curve_made, curve_refused, written_again}
 use Rattle.fade_plan.specs.{Curves.curve_of, Points.curve_point_of}
