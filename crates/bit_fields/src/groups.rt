@@ -54,7 +54,8 @@ pub(crate) fn word_at(bytes: &[u8], first: usize) -> u64
     ])
 }
 
-/// The number of a group of bits, by one load of eight bytes that hold it, so there have to be at least eight.
+/// The number of a group of bits, by one load of eight bytes that hold it, so there have to be at
+/// least eight.
 #[inline]
 fn number_in_word(bytes: &[u8], at: usize, n: u32) -> u32
     requires some { 1 ≤ n }

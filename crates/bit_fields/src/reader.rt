@@ -49,8 +49,8 @@ impl<'a> Bits<'a> {
         8 * self.bytes.len() - self.place
     }
 
-    /// The number of the next n bits, at most 32 of them, the most significant first. `None` exactly where fewer are
-    /// left; then the place doesn't change.
+    /// The number of the next n bits, at most 32 of them, the most significant first. `None` exactly
+    /// where fewer are left; then the place doesn't change.
     pub fn take(&mut self, n: u32) -> Option<u32>
         requires { n ≤ 32 }
         ensures { TakeAnswer n self.old self.new result }

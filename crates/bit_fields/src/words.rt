@@ -3,7 +3,8 @@ ghost use Rattle.std.specs.Prelude.{◌≡◌, ◌+◌, ◌-◌, ◌*◌, ◌/�
 ghost use Rattle.bit_fields.specs.Bits.{bits, bits_of};
 ghost use Rattle.bit_fields.specs.Groups.{with_value};
 
-/// Writes the word into the eight bytes from this place on, the most significant byte first; all other bytes stay.
+/// Writes the word into the eight bytes from this place on, the most significant byte first; all other bytes
+/// stay.
 #[inline]
 pub fn set_word(bytes: &mut [u8], place: usize, word: u64)
     requires { place + 8 ≤ length bytes.old }
@@ -21,8 +22,8 @@ pub fn set_low_byte(bytes: &mut [u8], place: usize, word: u64)
     bytes[place] = (word % 256) as u8;
 }
 
-/// A word whose highest `kept` bits are the lowest `kept` bits of `above`, followed by the bits of `below` without its
-/// lowest `left` bits.
+/// A word whose highest `kept` bits are the lowest `kept` bits of `above`, followed by the bits of `below`
+/// without its lowest `left` bits.
 #[inline]
 pub fn spanned(above: u64, kept: u32, below: u64, left: u32) -> u64
     requires some { 1 ≤ kept }

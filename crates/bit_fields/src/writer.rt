@@ -5,8 +5,8 @@ ghost use Rattle.bit_fields.specs.Groups.{with_value, IsGroupIn, IsGroupReached}
 
 use crate::groups::{number_of, set_number, with_group, word_at};
 
-/// Writes the value into the n bits from bit `at` on, at most 32 of them, the most significant bit first; all other
-/// bits stay.
+/// Writes the value into the n bits from bit `at` on, at most 32 of them, the most significant bit first;
+/// all other bits stay.
 pub fn put(bytes: &mut [u8], at: usize, n: u32, value: u32)
     requires few { n ≤ 32 }
     requires room { at + n ≤ 8 * length bytes.old }
@@ -22,8 +22,8 @@ pub fn put(bytes: &mut [u8], at: usize, n: u32, value: u32)
     }
 }
 
-/// Writes the value into the eight bits from bit `at` on; all other bits stay. There have to be at least 16 bits from
-/// `at` on, since it always writes two bytes.
+/// Writes the value into the eight bits from bit `at` on; all other bits stay. There have to be at least 16
+/// bits from `at` on, since it always writes two bytes.
 #[inline]
 pub fn put_byte(bytes: &mut [u8], at: usize, value: u8)
     requires room { at + 16 ≤ 8 * length bytes.old }
@@ -33,8 +33,8 @@ pub fn put_byte(bytes: &mut [u8], at: usize, value: u8)
     put_in_bytes(bytes, at, 8, u32::from(value), at / 8 + 2);
 }
 
-/// Writes a group of bits in place, by writing the bytes from the one in which it begins up to but not including byte
-/// `last`.
+/// Writes a group of bits in place, by writing the bytes from the one in which it begins up to but not
+/// including byte `last`.
 #[inline]
 fn put_in_bytes(bytes: &mut [u8], at: usize, n: u32, value: u32, last: usize)
     requires few { n ≤ 32 }

@@ -57,7 +57,7 @@ fn read_lines(alloc: Global, text: &[u8]) -> Result<Vec<Place>, CueFault>
     Ok(starts)
 }
 
-/// The starts of the tracks of a cue sheet. Contracts see it as the list of these positions.
+/// The starts of the tracks of a cue sheet. In contracts it is the list of these positions.
 #[derive(Drop)]
 pub struct Cue {
     starts: Vec<Place>,

@@ -1,4 +1,4 @@
--- Laws of spans, extensions and tag words, whatever the code.
+-- Laws of spans, extensions and tag words, independent of the code.
 use Rattle.std.specs.List.{range_with_len}
 use Rattle.std.specs.Prelude.{IfSome, IsTrue, length, List, Option, Some, ℕ, [], ⊤, ◌%◌, ◌*◌, ◌++◌}
 use Rattle.std.specs.Prelude.{◌+◌, ◌-◌, ◌/◌, ◌<◌, ◌∷◌, ◌≡◌, ◌≤◌}

@@ -15,7 +15,7 @@ pub fn curves_stay_within()
 {}
 
 /// An envelope whose steps have the opposite sign has a curve if the envelope has one, otherwise the same line doesn't
-/// rise; its curve gives every frame the opposite steps. So the one moves back the gains that the other moves.
+/// rise; its curve gives every frame the opposite steps. Gains that the one moves are moved back by the other.
 pub fn opposite_curves()
     ensures { OppositeCurves }
 {}

@@ -77,8 +77,8 @@ impl Class {
         }
     }
 
-    /// This class, which has to be MPEG-1 with two channels, the most common one: the compiler then knows the places of
-    /// all fields.
+    /// This class, which has to be MPEG-1 with two channels, the most common one: the compiler then knows
+    /// the places of all fields.
     #[inline(always)]
     pub fn known_stereo(&self) -> Class
         requires version { self.now.version ≡ One }
@@ -96,8 +96,8 @@ impl Class {
     /// main_data_begin: 511 in MPEG-1, 255 in MPEG-2 and MPEG-2.5 (ISO/IEC 11172-3 and 13818-3, 2.4.2.7).
     pub fn window(&self) -> u32
         ensures window { result ≡ window_of self.now.version }
-        // The area of the largest frame without a check word has room for as many bytes. Said here, where the class is
-        // known to be one of the standard's.
+        // The area of the largest frame without a check word has room for as many bytes. Said here, where
+        // the class is known to be legal.
         ensures spanned { result ≤ area_of self.now largest_slot false }
     {
         match self.version {
@@ -145,8 +145,8 @@ impl Class {
         4 + check_word + self.side_size()
     }
 
-    /// The length in bytes of a frame's area, which holds main data: the frame's length without header, check word and
-    /// side information. From 1 to 1,441.
+    /// The length in bytes of a frame's area, which holds main data: the frame's length without header,
+    /// check word and side information. From 1 to 1,441.
     pub fn area_of(&self, slot: Slot, protected: bool) -> u32
         ensures area { result ≡ area_of self.now slot protected }
         ensures some { 1 ≤ result }

@@ -40,8 +40,8 @@ fn is_set(word: u32, at: u32) -> bool
     group_of(word, at, 1) == 1
 }
 
-/// Whether these are the bits of a header: the first 11 are ones, the next two aren't 01, the layer is III, the bit
-/// rate isn't the forbidden one and the frequency isn't the reserved one.
+/// Whether these are the bits of a header: the first 11 are ones, the next two aren't 01, the layer is III,
+/// the bit rate isn't the forbidden one and the frequency isn't the reserved one.
 #[tactic(auto, unfolding(crate::specs::Reading::is_readable))]
 fn is_readable(word: u32) -> bool
     ensures { result ≡ is_readable (bits_of 32 word) }
@@ -104,7 +104,8 @@ fn version_of(word: u32) -> Version
     }
 }
 
-/// The header that these bits are, by their version and frequency index. They have to be readable and not free format.
+/// The header that these bits are, by their version and frequency index. They have to be readable and not
+/// free format.
 #[inline(always)]
 #[tactic(auto, unfolding(crate::specs::Reading::header_in, crate::specs::Reading::header_fields))]
 fn header_of(word: u32, version: Version, frequency_index: u8) -> Header
@@ -182,8 +183,7 @@ fn version_bits(version: Version) -> u32
     }
 }
 
-/// The 32 bits of a header as one number, with the sync bits and the layer as the standard
-/// requires.
+/// The 32 bits of a header as one number, with the sync bits and the layer as the standard requires.
 fn word_of(header: &Header) -> u32
     ensures bits { bits_of 32 result ≡ header_bits header.now }
     ensures back { header_in (bits_of 32 result) ≡ Ok header.now }
@@ -216,8 +216,8 @@ impl Header {
         read_word(word_at(&bytes))
     }
 
-    /// The header that four bytes are, if it is of this class, as the headers of all frames of a stream are. This is
-    /// faster than `read`, which takes headers of every class.
+    /// The header that four bytes are, if it is of this class, as the headers of all frames of a stream
+    /// are. This is faster than `read`, which takes headers of every class.
     #[inline(always)]
     #[tactic(auto, unfolding(crate::specs::Reading::header_at, crate::specs::Reading::header_in))]
     pub fn read_of(class: Class, bytes: [u8; 4]) -> Option<Header>
@@ -252,8 +252,7 @@ impl Header {
         header
     }
 
-    /// The header of the same frame in another slot and without a check word, so its protection_bit
-    /// is 1.
+    /// The header of the same frame in another slot and without a check word, so its protection_bit is 1.
     pub fn unprotected(&self, slot: Slot) -> Header
         ensures { result ≡ record self.now { protected = false; slot = slot } }
     {

@@ -127,10 +127,10 @@ fn extension_at(bytes: &[u8], at: usize) -> [u8; 36]
 }
 
 impl Info {
-    /// Reads the fields of a head. `bytes` are the bytes of the frame from the text on. A field whose flag isn't set is
-    /// `None`, and so are a field that goes past the end of the bytes and all after it; then the extension is all 0.
-    /// Flags that are cut short count as 0. The extension is 36 bytes after the last field, with zeros for bytes that
-    /// aren't there.
+    /// Reads the fields of a head. `bytes` are the bytes of the frame from the text on. A field whose flag
+    /// isn't set is `None`, and so are a field that goes past the end of the bytes and all after it; then
+    /// the extension is all 0. Flags that are cut short count as 0. The extension is 36 bytes after the
+    /// last field, with zeros for bytes that aren't there.
     #[tactic(auto, unfolding(crate::specs::Info::info_in, crate::specs::Info::field_place))]
     pub fn read(bytes: &[u8]) -> Info
         ensures { result ≡ info_in bytes.now }
@@ -151,8 +151,8 @@ impl Info {
     }
 }
 
-/// The entry of the seek table for a frame that begins at `offset`, out of `bytes` bytes, both counted from the Info
-/// frame's first byte: how many 256th parts of the bytes are before it, rounded down, at most 255.
+/// The entry of the seek table for a frame that begins at `offset`, out of `bytes` bytes, both counted from
+/// the Info frame's first byte: how many 256th parts of the bytes are before it, rounded down, at most 255.
 pub fn entry(offset: u32, bytes: u32) -> u8
     requires { 0 < bytes }
     ensures { result ≡ seek_table_entry offset bytes }

@@ -61,8 +61,8 @@ fn has_one_rate<F: InSlot>(class: Class, frames: &[F]) -> bool
     }
 }
 
-/// The seek table of n frames with `before` bytes before them, out of `bytes` bytes: entry i is the entry of frame
-/// `i * n / 100`, rounded down.
+/// The seek table of n frames with `before` bytes before them, out of `bytes` bytes: entry i is the entry
+/// of frame `i * n / 100`, rounded down.
 fn table_over<F: InSlot>(class: Class, frames: &[F], before: u32, bytes: u32) -> [u8; 100]
     requires few { length frames.now ≤ most_output_frames }
     requires short { before ≤ most_frame_length }
@@ -81,9 +81,10 @@ fn table_over<F: InSlot>(class: Class, frames: &[F], before: u32, bytes: u32) ->
     table
 }
 
-/// The fields of the Info frame before these frames, at most 2,900,064: their number, the bytes of the Info frame and
-/// of all of them, and the seek table by their offsets from the Info frame's first byte. The text is `Info` where all
-/// have one bit rate, otherwise `Xing`. There is no quality, and the extension is all 0.
+/// The fields of the Info frame before these frames, at most 2,900,064: their number, the bytes of the Info
+/// frame and of all of them, and the seek table by their offsets from the Info frame's first byte. The text
+/// is `Info` where all have one bit rate, otherwise `Xing`. There is no quality, and the extension is all
+/// 0.
 pub fn info_over<F: InSlot>(class: Class, frames: &[F]) -> Info
     requires few { length frames.now ≤ most_output_frames }
     ensures { IsInfoOver class F.slot_of frames.now result }

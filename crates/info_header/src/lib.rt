@@ -1,6 +1,7 @@
-//! Xing and Info heads: a first frame that has counts and a seek table of the file instead of main data. `head_text`
-//! recognizes a head by its text, and `Info::read` reads the fields after the text. `info_over` makes the fields for
-//! the frames of another file, and `write_info` the frame that holds them and comes before the first of these.
+//! Xing and Info heads: a first frame that has counts and a seek table of the file instead of main data.
+//! `head_text` recognizes a head by its text, and `Info::read` reads the fields after the text.
+//! `info_over` makes the fields for the frames of another file, and `write_info` the frame that holds them
+//! and comes before the first of these.
 //!
 //! ```text
 //! let at = head_text(&header, frame)?;

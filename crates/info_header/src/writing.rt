@@ -115,9 +115,10 @@ fn append_info(into: &mut ArrayVec<u8, 1441>, info: &Info)
     append(into, &info.extension);
 }
 
-/// Writes the whole Info frame. Its header is the header of `first`, the first frame after it, without a check word and
-/// in the slot of `info_slot`. After the header come side information that is all 0, the fields with all four flags set
-/// (0 for one that is `None`), and zeros up to the frame's length. It replaces what `into` held.
+/// Writes the whole Info frame. Its header is the header of `first`, the first frame after it, without a
+/// check word and in the slot of `info_slot`. After the header come side information that is all 0, the
+/// fields with all four flags set (0 for one that is `None`), and zeros up to the frame's length. It
+/// replaces what `into` held.
 #[tactic(auto, unfolding(crate::specs::InfoFrame::info_frame))]
 pub fn write_info(first: &Header, info: &Info, into: &mut ArrayVec<u8, 1441>)
     ensures { into.new.items ≡ info_frame first.now info.now }

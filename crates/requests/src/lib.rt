@@ -1,6 +1,6 @@
-//! What can be requested, as the words of the command line say it and as the commands take it: how a file is packed,
-//! the change of its volume, and the names of the pieces of a split, each a prefix, the two decimal digits of the
-//! piece's number, counted from 1, and `.mp3`.
+//! What can be requested, as the words of the command line say it and as the commands take it: how
+//! a file is packed, the change of its volume, and the names of the pieces of a split, each a
+//! prefix, the two decimal digits of the piece's number, counted from 1, and `.mp3`.
 #![tactic(auto)]
 
 mod mode;

@@ -3,7 +3,8 @@
 /// How a file is packed. Bit rates are in kbit/s.
 #[derive(Clone, Copy, Debug, PartialEq, Eq)]
 pub enum PackMode {
-    /// Each frame, from the first on, in the least slot with which the main data of all later frames still have room.
+    /// Each frame, from the first on, in the smallest slot that still leaves room for the main data of all later
+    /// frames.
     Least,
     /// The slots that take the fewest bytes in all, with a lead-in where `Least` has one. At most 200,000 frames.
     Best,

@@ -19,7 +19,8 @@ fn digit<'a>(number: u8) -> &'a str
     DIGITS[usize::from(number)]
 }
 
-/// The name of the piece with this number, which is at most 99, as texts to be joined. It allocates nothing.
+/// The name of the piece with this number, which is at most 99, as texts to be joined. It allocates
+/// nothing.
 pub fn name_parts<'a>(prefix: &'a str, number: u8) -> [&'a str; 4]
     requires { number ≤ 99 }
     ensures { flat_map (λ part. part.now) result ≡ piece_name prefix.now number }

@@ -6,8 +6,8 @@ pub fn areas_are_held()
     ensures { AreasAreHeld }
 {}
 
-/// A window of 2,048 bytes holds the main data of every frame: its own area and its main_data_begin add up to at most
-/// 1,939 bytes.
+/// A window of 2,048 bytes holds the main data of every frame: its own area and its main_data_begin add up
+/// to at most 1,939 bytes.
 pub fn frames_are_held()
     ensures { FramesAreHeld }
 {}

@@ -5,8 +5,9 @@ ghost use Rattle.reservoir.specs.Window.{window_size};
 use arrayvec::ArrayVec;
 use std::marker::Model;
 
-/// The main data of a frame, in as few bytes as hold their bits. In contracts they are a list of bytes. The whole bytes
-/// are in four slices, in order: two of a window, since it is a ring, and two of areas that aren't in the window.
+/// The main data of a frame, in as few bytes as hold their bits. In contracts they are a list of bytes. The
+/// whole bytes are in four slices, in order: two of a window, since it is a ring, and two of areas that
+/// aren't in the window.
 #[derive(Drop)]
 pub struct Payload<'a> {
     front: &'a [u8],
@@ -80,7 +81,8 @@ impl<'a> Payload<'a> {
         self.front.len() + self.back.len() + areas + usize::from(self.last.is_some())
     }
 
-    /// The whole bytes in four slices, in order, and the byte that holds the bits after them if there are any.
+    /// The whole bytes in four slices, in order, and the byte that holds the bits after them if there are
+    /// any.
     #[inline]
     pub fn pieces(&self) -> (&[u8], &[u8], &[u8], &[u8], Option<u8>)
         ensures { result.0.now ++ (result.1.now ++
@@ -89,8 +91,7 @@ impl<'a> Payload<'a> {
         (self.front, self.back, self.before, self.own, self.last)
     }
 
-    /// Copies the bytes into a list, where they replace what is in it. There have to be at most
-    /// 2,048 bytes.
+    /// Copies the bytes into a list, where they replace what is in it. There have to be at most 2,048 bytes.
     pub fn copy_to(&self, into: &mut ArrayVec<u8, 2048>)
         requires { length self.now ≤ window_size }
         ensures { into.new.items ≡ self.now }

@@ -14,8 +14,8 @@ use std::marker::Model;
 /// has at most 1,428 bytes.
 const CAPACITY: usize = 2048;
 
-/// The last 2,048 bytes of the areas that were pushed, or all where there are fewer. In contracts it is the list of
-/// these bytes, the oldest first.
+/// The last 2,048 bytes of the areas that were pushed, or all where there are fewer. In contracts it is the
+/// list of these bytes, the oldest first.
 #[derive(Drop)]
 pub struct Window {
     ring: HeapCircularBuffer<u8>,
@@ -61,8 +61,8 @@ impl Window {
         self.ring.len()
     }
 
-    /// Adds an area: the bytes of a frame after its header, check word and side information. Of what was held and this
-    /// area, only the last 2,048 bytes are kept.
+    /// Adds an area: the bytes of a frame after its header, check word and side information. Of what was
+    /// held and this area, only the last 2,048 bytes are kept.
     #[inline]
     pub fn push_area(&mut self, area: &[u8])
         ensures held { self.new ≡ keep_last window_size (self.old ++ area.now) }
@@ -72,8 +72,8 @@ impl Window {
         self.ring.extend_from_slice(area);
     }
 
-    /// Copies the main data of the frame whose area was pushed last, as `main_data` returns them, into `into`, where
-    /// they replace what is in it. They have at most 2,048 bytes, as the window has.
+    /// Copies the main data of the frame whose area was pushed last, as `main_data` returns them, into
+    /// `into`, where they replace what is in it. They have at most 2,048 bytes, as the window has.
     pub fn payload(&self, area: u32, begin: u32, bits: u32, into: &mut ArrayVec<u8, 2048>)
         requires held { area + begin ≤ length self.now }
         requires within { bits ≤ 8 * (area + begin) }
@@ -85,10 +85,10 @@ impl Window {
         self.main_data(area, begin, bits).copy_to(into);
     }
 
-    /// The main data of the frame whose area was pushed last, borrowed where they are: `bits` bits that begin `begin`
-    /// bytes before its area of `area` bytes, in as few bytes as hold them, with the unused low bits of the last byte
-    /// 0. `begin` is the frame's main_data_begin (ISO/IEC 11172-3 and 13818-3, 2.4.2.7), and `bits` the sum of all its
-    /// part2_3_length.
+    /// The main data of the frame whose area was pushed last, borrowed where they are: `bits` bits that
+    /// begin `begin` bytes before its area of `area` bytes, in as few bytes as hold them, with the unused
+    /// low bits of the last byte 0. `begin` is the frame's main_data_begin (ISO/IEC 11172-3 and 13818-3,
+    /// 2.4.2.7), and `bits` the sum of all its part2_3_length.
     #[inline]
     pub fn main_data(&self, area: u32, begin: u32, bits: u32) -> Payload<'_>
         requires held { area + begin ≤ length self.now }
@@ -103,9 +103,9 @@ impl Window {
         self.main_data_with(&[], &[], area + begin, bits)
     }
 
-    /// The main data of a frame whose area wasn't pushed, and neither was the area `before` it, if there is one: what
-    /// is held, `before` and `area` follow each other. They are `bits` bits that begin `begin` bytes before the area,
-    /// borrowed where they are, in the form of `main_data`.
+    /// The main data of a frame whose area wasn't pushed, and neither was the area `before` it, if there is
+    /// one: what is held, `before` and `area` follow each other. They are `bits` bits that begin `begin`
+    /// bytes before the area, borrowed where they are, in the form of `main_data`.
     #[inline]
     pub fn main_data_with<'a>(
         &'a self,
@@ -136,8 +136,8 @@ impl Window {
         Payload::new(front, back, before, own, last)
     }
 
-    /// The first `bits` bits, fewer than 8, of byte `at` of what is held and the two areas after it, followed by zeros;
-    /// `None` for no bits.
+    /// The first `bits` bits, fewer than 8, of byte `at` of what is held and the two areas after it,
+    /// followed by zeros; `None` for no bits.
     #[inline]
     fn last_byte(&self, before: &[u8], area: &[u8], at: usize, bits: u32) -> Option<u8>
         requires few { bits < 8 }

@@ -126,7 +126,7 @@ fields-alike bs cs same = λ i. record {
   emphasis = same.emphasis i;
 }
 
--- a header with the slot and the mode extension of another has bits that are alike
+-- a header that differs from another only in slot and mode extension has bits alike the other's
 pub alike-fields : (h other : HeaderFields)
     → AreHeadersAlike (header_bits (header_like h other)) (header_bits h)
 unfolding header_bits header_numbers group_bits group bits_of

@@ -162,7 +162,7 @@ behind_part h n frame within =
     ∙ ap (λ (l : List ℕ). drop n (take size (drop place frame)) ++ l) area
 
 -- From two bytes before its area on, a frame stays as it is if it gets side information whose last
--- granule and channel differ in no field but global_gain.
+-- granule and channel differs in no field but global_gain.
 pub last_bytes-frame_with : (h : HeaderFields) (s : Side) (frame : List ℕ) → IsClass (class_of h)
     → AreBytes frame → IsShaped s → HasRoom h frame
     → AreGranulesAlike (last_granule (class_of h) (side_in h frame)) (last_granule (class_of h) s)

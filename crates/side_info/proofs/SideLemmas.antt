@@ -141,8 +141,8 @@ module _ (P : Side → Type 0)
   by_scfsi m p (a ∷ b ∷ []) gs n l d e = by_granules m p a b gs l d e
   by_scfsi m p cs gs n l d e = absurd (omega arith)
 
-  -- what holds for all side information made of two scfsi and two by two granules holds for every
-  -- one
+  -- what holds for all side information made of two scfsi and two by two granules holds for all
+  -- whose lists are as long as the arrays
   pub each_shaped : (s : Side) → IsShaped s → P s
   each_shaped s shaped = by_scfsi s.main_data_begin s.private_bits s.scfsi s.granules shaped.scfsi
       shaped.granules shaped.first shaped.second

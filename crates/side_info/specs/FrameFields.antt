@@ -8,8 +8,8 @@ pub record FrameFields : Type 0 where
   pub header : HeaderFields
   pub side : Side
 
--- a header with the slot and the mode extension of another, the only fields that change from frame
--- to frame in most streams
+-- a header with the slot and the mode extension of another, the only header fields that change from
+-- frame to frame in most streams
 abbrev pub header_like : HeaderFields → HeaderFields → HeaderFields
 header_like h other = record h { slot = other.slot; mode_extension = other.mode_extension }
 

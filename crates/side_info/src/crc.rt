@@ -59,8 +59,8 @@ fn crc_two_bytes(word: u16, a: u8, b: u8) -> u16
     crc_table_entry((word >> 8) as u8 ^ a, 1) ^ crc_table_entry((word % 256) as u8 ^ b, 0)
 }
 
-/// The word after the bits of the first eight of these bytes. What each byte adds to it doesn't depend on the others,
-/// so the eight tables can be read at once.
+/// The word after the bits of the first eight of these bytes. What each byte adds to it doesn't depend on the
+/// others, so the eight tables can be read at once.
 fn crc_eight_bytes(word: u16, bytes: &[u8]) -> u16
     requires { 8 ≤ length bytes.now }
     ensures { result ≡ remainder word (bits (take 8 bytes.now)) }
@@ -115,8 +115,9 @@ pub fn crc_of_bytes(bytes: &[u8]) -> u16
     crc_after(START, bytes)
 }
 
-/// The check word of a frame, by the four bytes of its header and the bytes of its side information as they are in the
-/// frame: over the last two bytes of the header, followed by the side bytes (ISO/IEC 11172-3 and 13818-3, 2.4.3.1).
+/// The check word of a frame, by the four bytes of its header and the bytes of its side information as they are in
+/// the frame: over the last two bytes of the header, followed by the side bytes (ISO/IEC 11172-3 and 13818-3,
+/// 2.4.3.1).
 pub fn check_word_of_bytes(header: &[u8], side: &[u8]) -> u16
     requires { length header.now ≡ 4 }
     ensures { IsCrcOf header.now side.now result }

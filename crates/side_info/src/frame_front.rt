@@ -24,8 +24,8 @@ use std::marker::Model;
 /// The greatest length of side information in bytes, which MPEG-1 has with two channels.
 const MOST: usize = 32;
 
-/// The header and the side information of a frame, as the bytes of the file: 36, whatever the class. In contracts it is
-/// their fields.
+/// The header and the side information of a frame, as the bytes of the file: 36, whatever the class. In contracts it
+/// is their fields.
 #[derive(Clone, Copy, Debug, PartialEq, Eq)]
 pub struct FrameFront {
     header: [u8; 4],
@@ -79,8 +79,8 @@ fn fill_short(part: &[u8], room: &mut [u8; 32])
 }
 
 /// The same, but faster for 32 bytes.
-// In place, since the compiler copies a returned array byte by byte here. Copying is fastest if the number of bytes is
-// a constant.
+// In place, since the compiler copies a returned array byte by byte here. Copying is fastest if the number of bytes
+// is a constant.
 #[inline(always)]
 fn fill(part: &[u8], room: &mut [u8; 32])
     requires { AreZerosFor part.now room.old }
@@ -251,8 +251,8 @@ fn same_group(word: u32, other: u32, at: u32, n: u32) -> bool
     group_of(word, at, n) == group_of(other, at, n)
 }
 
-/// Whether the bits of two headers are the same except bitrate_index, padding_bit and mode_extension, the sync bits and
-/// the layer.
+/// Whether the bits of two headers are the same except bitrate_index, padding_bit and mode_extension, the sync bits
+/// and the layer.
 // Without branches, the compiler combines the eight tests into one.
 #[inline(always)]
 fn are_alike(word: u32, other: u32) -> bool
@@ -370,8 +370,8 @@ impl FrameFront {
         u32::from_be_bytes(self.header)
     }
 
-    /// Whether the header has the same fields as another except slot and mode extension, the only ones that change from
-    /// frame to frame in most streams.
+    /// Whether the header has the same fields as another except slot and mode extension, the only ones that change
+    /// from frame to frame in most streams.
     #[inline(always)]
     pub fn is_like(&self, other: &FrameFront) -> bool
         ensures { IsTrue result ↔ (self.now.header ≡ header_like other.now.header self.now.header) }
@@ -389,8 +389,7 @@ impl FrameFront {
         self.side_in(self.class())
     }
 
-    /// The side information of a frame whose class is known, since all frames of a stream have the
-    /// same.
+    /// The side information of a frame whose class is known, since all frames of a stream have the same.
     #[inline(always)]
     pub fn side_in(&self, class: Class) -> Side
         requires { class ≡ class_of self.now.header }
@@ -517,7 +516,8 @@ impl FrameFront {
     /// Writes the header, the check word of a protected frame, and the side information into the first of at least 38
     /// bytes, where the class of the header is known, and returns how many bytes these are. The bytes after them may
     /// change.
-    // Copying is fastest if the number of bytes is a constant, so the zeros after the side information are copied too.
+    // Copying is fastest if the number of bytes is a constant, so the zeros after the side information are copied
+    // too.
     #[inline(always)]
     #[tactic(auto, unfolding(crate::specs::Frame::frame_front_bytes))]
     pub fn put_in(&self, class: Class, room: &mut [u8]) -> usize

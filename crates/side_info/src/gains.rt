@@ -37,8 +37,8 @@ fn put_pair(pair: &[Granule; 2], version: Version, channels: u8, bytes: &mut [u8
     requires channels { AreChannels channels }
     requires room { at + channels * granule_size version ≤ 8 * length bytes.old }
     requires short { length bytes.old ≤ 2 ^ 28 }
-    // Stated for an array inside an array, whose length the caller doesn't know. The type says so,
-    // but a proof that cites this call needs it as a fact.
+    // Stated for an array inside an array, whose length the caller doesn't know. The type says so, but a
+    // proof that cites this call needs it as a fact.
     ensures two { length pair.now ≡ 2 }
     ensures put { PutsPair (pair_bits version channels) pair.now at (bits bytes.old)
         (bits bytes.new) }
@@ -57,8 +57,8 @@ fn put_second(pair: &[Granule; 2], version: Version, channels: u8, bytes: &mut [
     requires room { granules_of version ≡ 2
         → at + channels * granule_size version ≤ 8 * length bytes.old }
     requires short { length bytes.old ≤ 2 ^ 28 }
-    // Stated for an array inside an array, whose length the caller doesn't know. The type says so,
-    // but a proof that cites this call needs it as a fact.
+    // Stated for an array inside an array, whose length the caller doesn't know. The type says so, but a
+    // proof that cites this call needs it as a fact.
     ensures two { length pair.now ≡ 2 }
     ensures put { PutsPair (second_pair_bits version channels) pair.now at (bits bytes.old)
         (bits bytes.new) }
@@ -93,8 +93,8 @@ fn put_all(class: Class, side: &Side, bytes: &mut [u8])
     );
 }
 
-/// Writes gains into side information, which has to be all the bytes. In MPEG-1 with two channels, the most common
-/// class, the compiler knows their places.
+/// Writes gains into side information, which has to be all the bytes. In MPEG-1 with two channels, the
+/// most common class, the compiler knows their places.
 #[inline(always)]
 fn put_by_class(class: Class, side: &Side, bytes: &mut [u8])
     requires size { length bytes.old ≡ side_size_of class }
@@ -126,10 +126,10 @@ fn put_right_crc(header: &Header, frame: &mut [u8])
     put_crc(word, frame);
 }
 
-/// Writes the gains of `side` into a frame of this class that has the header of `front`, each into its 8 bits, and,
-/// into a protected frame, the check word that is then right (ISO/IEC 11172-3 and 13818-3, 2.4.1.7 and 2.4.3.1). If the
-/// frame's own side information differs from `side` in gains alone, the frame then has `side`. The header, the area and
-/// bytes after the frame stay.
+/// Writes the gains of `side` into a frame of this class that has the header of `front`, each into its 8
+/// bits, and, into a protected frame, the check word that is then right (ISO/IEC 11172-3 and 13818-3,
+/// 2.4.1.7 and 2.4.3.1). If the frame's own side information differs from `side` in gains alone, the
+/// frame then has `side`. The header, the area and bytes after the frame stay.
 #[inline(always)]
 pub fn put_gains(front: &FrameFront, class: Class, side: &Side, frame: &mut [u8])
     requires class { class ≡ class_of front.now.header }

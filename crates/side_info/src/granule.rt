@@ -7,8 +7,8 @@ use frame_header::Version;
 // The widest first, so that no room is lost between them.
 #[derive(Clone, Copy, Debug, PartialEq, Eq)]
 pub struct Granule {
-    /// The 22 bits after `window_switching` as one number, which nothing here takes apart: block type, table numbers
-    /// and subblock gains, or table numbers and region counts, depending on the flag.
+    /// The 22 bits after `window_switching` as one number, which nothing here takes apart: block type,
+    /// table numbers and subblock gains, or table numbers and region counts, depending on the flag.
     pub detail: u32,
     /// The length of its main data in bits, scale factors and Huffman codes together: 12 bits.
     pub part2_3_length: u16,

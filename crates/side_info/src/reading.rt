@@ -27,8 +27,8 @@ pub(crate) fn read_front(version: Version, channels: u8, bytes: &[u8]) -> Front
     }
 }
 
-/// The fields before the granules, by their widths in bits: the widths of main_data_begin, of the private bits and of
-/// the scfsi of each channel.
+/// The fields before the granules, by their widths in bits: the widths of main_data_begin, of the private
+/// bits and of the scfsi of each channel.
 #[inline(always)]
 fn front_with(bytes: &[u8], begin: u32, private_bits: u32, first: u32, second: u32) -> Front
     requires widths { AreFrontWidths begin private_bits first second }

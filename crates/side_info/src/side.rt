@@ -36,8 +36,8 @@ fn pair_bits(pair: &[Granule; 2]) -> u32
     u32::from(first) + u32::from(second)
 }
 
-/// Reads the side information of a frame of this version with `channels` channels, part by part, over what was in
-/// `side`.
+/// Reads the side information of a frame of this version with `channels` channels, part by part, over what
+/// was in `side`.
 #[inline(always)]
 fn read_parts(version: Version, channels: u8, bytes: &[u8], side: &mut Side)
     requires channels { AreChannels channels }
@@ -57,8 +57,8 @@ fn read_parts(version: Version, channels: u8, bytes: &[u8], side: &mut Side)
     read_second(version, channels, part, next, &mut side.granules[1]);
 }
 
-/// Reads the side information of a frame of this version with `channels` channels, over what was in `side`. In most
-/// arms version and channels are constants, so that the compiler knows the places of the fields.
+/// Reads the side information of a frame of this version with `channels` channels, over what was in `side`.
+/// In most arms version and channels are constants, so that the compiler knows the places of the fields.
 #[inline(always)]
 fn read_shape(version: Version, channels: u8, bytes: &[u8], side: &mut Side)
     requires channels { AreChannels channels }
@@ -134,10 +134,10 @@ impl Side {
         side
     }
 
-    /// Reads the side information of a frame, which has to be all the bytes (ISO/IEC 11172-3 and
-    /// 13818-3, 2.4.1.7).
-    // The most common class, MPEG-1 with two channels, is inlined, so that fields of it that the caller doesn't use
-    // aren't read.
+    /// Reads the side information of a frame, which has to be all the bytes (ISO/IEC 11172-3 and 13818-3,
+    /// 2.4.1.7).
+    // The most common class, MPEG-1 with two channels, is inlined, so that fields of it that the caller
+    // doesn't use aren't read.
     #[inline(always)]
     pub fn read(class: Class, bytes: &[u8]) -> Side
         requires size { length bytes.now ≡ side_size_of class }

@@ -64,7 +64,7 @@ front_as-kind : (kind : Kind) (bytes : List ℕ) (b : Block) → block_of_kind k
     → (begins kind bytes ≡ true) × (record { kind = kind; length = length_of_kind kind bytes } ≡ b)
 front_as-kind kind bytes b is = cond_some (begins kind bytes) _ b is
 
--- a block of its own kind
+-- a block of this kind with which bytes begin is the block of its own kind
 front_as-own : (kind : Kind) (bytes : List ℕ) (b : Block) → block_of_kind kind bytes ≡ Some b
     → block_of_kind b.kind bytes ≡ Some b
 front_as-own kind bytes b is = subst (λ k. block_of_kind k bytes ≡ Some b)
@@ -85,7 +85,8 @@ block_front-own bytes b is =
     some_cases bytes b (block_of_kind Id3v2 bytes) (block_of_kind Id3v1 bytes)
     (block_of_kind Ape bytes) refl refl refl is
 
--- the block with which bytes begin is of a kind that begins there, and as long as this kind says
+-- the block with which bytes begin is of a kind with which they begin, and has the length of this
+-- kind
 pub block_front-begins : (bytes : List ℕ) (b : Block) → block_front bytes ≡ Some b
     → (begins b.kind bytes ≡ true) × (length_of_kind b.kind bytes ≡ b.length)
 block_front-begins bytes b is =
@@ -121,8 +122,8 @@ any_cases kind bytes b is (Some other) some =
     (front_as-kind other.kind bytes other own).0 (front_as-kind kind bytes b is).0 in
     sym own ∙ ap (λ k. block_of_kind k bytes) same ∙ is
 
--- the block of any kind with which bytes begin is the block with
--- which they begin: the order in which kinds are tried doesn't matter
+-- a block of any kind with which bytes begin is their block: the order in which kinds are tried
+-- doesn't matter
 pub block_front-any : (kind : Kind) (bytes : List ℕ) (b : Block) → block_of_kind kind bytes ≡ Some b
     → block_front bytes ≡ Some b
 block_front-any kind bytes b is = any_cases kind bytes b is (block_front bytes) refl
