@@ -1,4 +1,4 @@
--- Where a part has a plan it has a best plan.
+-- If a part has a plan, it has a best plan.
 use Rattle.std.proofs.Common.{ap, ap₂, false, inl, inr, List, map, None, Option, refl, Some, subst}
 use Rattle.std.proofs.Common.{true, ℕ, [], ◌∷◌, ◌≡◌, ◌⊎◌}
 use Rattle.best_plan.proofs.BestOfLemmas.{none-laid}
@@ -65,7 +65,7 @@ by-leads window choices needs (lead_in ∷ []) placed alone plan =
     by-lead window choices needs lead_in placed
     alone.0 (subst (λ l. IsPlanFor window l placed) (whole-one choices needs lead_in) plan)
 
--- where a part has a plan it has a best plan
+-- if a part has a plan, it has a best plan
 pub best-exists : BestExists
 best-exists = λ window choices needs placed plan.
     found window choices needs

@@ -1,4 +1,4 @@
--- The best plan is that of the function.
+-- The best plan is the value of the function.
 use Rattle.std.proofs.Common.{ap, arith, Bool, cond, Contains, false, filter, flat_map, inl, inr}
 use Rattle.std.proofs.Common.{List, ltb, map, None, Option, refl, Some, subst, suc, sum, sym, true}
 use Rattle.std.proofs.Common.{zero, ℕ, [], ◌&&◌, ◌++◌, ◌<◌, ◌==◌, ◌||◌, ◌↔◌, ◌∙◌, ◌∷◌, ◌≡◌, ◌≤◌}
@@ -132,9 +132,9 @@ from-lists (item ∷ items) slots has =
     let found = from-choices items item.choices slots has in
     subst (AreOf (item ∷ items)) found.4 (found.2, from-lists items found.1 found.3)
 
--- ---- the plans that are made of them
+-- ---- the plans that are made of the lists
 
--- what each of them is
+-- what each of these plans is
 record IsLaid (window : ℕ) (items : List PlanItem) (placed : List Placed) : Type 0 where
   slots : AreItemSlots items placed
   feasible : HasLayout window 0 (frames_with_areas (map open_frame items) (item_areas items placed))
@@ -160,7 +160,7 @@ module _ (window : ℕ) (items : List PlanItem) where
         begins = laid.2;
       })
 
-  -- one of them has these areas
+  -- one of the plans has these areas
   with-areas : (areas : List ℕ) → AreChosenAreas (map open_frame items) areas
       → HasLayout window 0 (frames_with_areas (map open_frame items) areas) → (placed : List Placed)
       × Among (plans_of window items) placed × (item_areas items placed ≡ areas)
@@ -173,9 +173,9 @@ module _ (window : ℕ) (items : List PlanItem) where
       of.0 (among-filter passing (all_lists items) of.0 (among-lists items of.0 of.1) passes) in
       (earliest_placement window items of.0, has, (laid-early window items of.0 of.1).1 ∙ of.2)
 
--- ---- the one that costs least
+-- ---- the plan that costs least
 
--- it doesn't come after
+-- a list before which another doesn't come doesn't come after the other
 before-not_behind : (ms ns : List ℕ) → comes_before ns ms ≡ false → IsNotBehind ms ns
 unfolding comes_before IsNotBehind
 before-not_behind [] [] is = tt
@@ -191,13 +191,14 @@ before-not_behind (m ∷ ms) (n ∷ ns) is =
     at false less true same e rest = inr (sym (eqb-true n m same), rest e)
     at false less false same e rest = inl (omega (arith, ltb-false n m less, eqb-false n m same))
 
--- no list is after itself, and what is not after a second
--- list is not after a third that the second is not after
+-- a list doesn't come after itself
 not_behind-self : (ns : List ℕ) → IsNotBehind ns ns
 unfolding IsNotBehind
 not_behind-self [] = tt
 not_behind-self (n ∷ ns) = inr (refl, not_behind-self ns)
 
+-- a list that doesn't come after a second doesn't come
+-- after a third after which the second doesn't come
 not_behind-on : (ls ms ns : List ℕ) → IsNotBehind ls ms → IsNotBehind ms ns → IsNotBehind ls ns
 unfolding IsNotBehind
 not_behind-on [] ms [] first second = tt
@@ -210,7 +211,7 @@ not_behind-on (l ∷ ls) (m ∷ ms) (n ∷ ns) (inr at) (inl more) = inl (omega 
 not_behind-on (l ∷ ls) (m ∷ ms) (n ∷ ns) (inr at) (inr also) =
     inr (at.0 ∙ also.0, not_behind-on ls ms ns at.1 also.1)
 
--- what comes before another by its first item, or by the others
+-- a list comes before another by its first item, or by the others
 by_first : (m n : ℕ) (rest : Bool) → (ltb m n || ((m == n) && rest)) ≡ true
     → (m < n) ⊎ ((m ≡ n) × (rest ≡ true))
 by_first m n rest is =
@@ -219,7 +220,7 @@ by_first m n rest is =
       | inr at ↦ let parts = and_parts (m == n) rest at in inr (eqb-true m n parts.0, parts.1)
     ]
 
--- what comes before isn't after
+-- a list that comes before another doesn't come after it
 before-first : (ms ns : List ℕ) → comes_before ms ns ≡ true → IsNotBehind ms ns
 unfolding comes_before IsNotBehind
 before-first [] [] is = tt
@@ -231,7 +232,7 @@ before-first (m ∷ ms) (n ∷ ns) is =
       | inr at ↦ inr (at.0, before-first ms ns at.1)
     ]
 
--- what is found costs no more than any
+-- the plan that is found costs no more than any
 pub record IsCheapest (items : List PlanItem) (plans : List (List Placed))
     (found : List Placed) : Type 0 where
   pub among : Among plans found
@@ -296,9 +297,9 @@ cheapest-is items (placed ∷ plans) found e =
         subst (IsCheapest items (placed ∷ plans)) same
         (by other (rest other is) (comes_before (cost_of items other) (cost_of items placed)) refl)
 
--- ---- its areas
+-- ---- the plan's areas
 
--- frames that have places have areas that were chosen
+-- the areas of items that were placed are a choice
 pub chosen-for : (items : List PlanItem) (placed : List Placed) → AreItemSlots items placed
     → AreChosenAreas (map open_frame items) (item_areas items placed)
 unfolding AreItemSlots item_areas AreChosenAreas
@@ -317,7 +318,7 @@ unfolding IsNotBehind
 same_areas ms ns short first (inl less) = absurd (omega (arith, short, less))
 same_areas ms ns short first (inr at) = equal_lists ms ns at.1 (first at.0)
 
--- what is best of the plans of some items
+-- the best plan of some items is the plan that the search finds
 plans-best : (window : ℕ) (items : List PlanItem) (placed : List Placed) → AreOrdered items
     → IsBestPlanFor window 0 items placed → best_placement window items ≡ Some placed
 plans-best window items placed ordered is = of (best_placement window items) refl
@@ -381,14 +382,14 @@ best-plans window items placed e = record {
         subst (λ l. IsNotBehind (cost_of items placed) (sum l ∷ l))
         other.2 (cheap.least other.0 other.1)
 
--- there is one exactly where the items can be laid
+-- if the search finds a plan, the items can be laid
 of-laid : (window : ℕ) (items : List PlanItem) (placed : List Placed)
     → best_placement window items ≡ Some placed → CanBeLaid window (map open_frame items)
 unfolding CanBeLaid
 of-laid window items placed e = let is = (best-plans window items placed e).best in
     (item_areas items placed, is.chosen, is.feasible)
 
--- if the search finds nothing, no choice can be laid
+-- if the search finds none, no choice can be laid
 pub none-laid : (window : ℕ) (items : List PlanItem) → best_placement window items ≡ None
     → CanBeLaid window (map open_frame items) → ⊥
 unfolding CanBeLaid

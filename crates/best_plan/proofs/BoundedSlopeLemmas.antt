@@ -1,5 +1,5 @@
--- In front of a row in which each free byte spares at most one, the
--- first area that leaves enough for the frames after it is the best.
+-- Before a row in which each free byte saves at most one byte of areas,
+-- the first area that leaves enough for the frames after it is the best.
 use Rattle.std.proofs.Common.{All, ap, append-nil, append_assoc, ap₂, arith, drop, get_or, inl, inr}
 use Rattle.std.proofs.Common.{length, length-append, List, replicate, subst, suc, sym, take, zero}
 use Rattle.std.proofs.{Common.{ℕ, ◌++◌, ◌+◌, ◌-◌, ◌<◌, ◌∙◌, ◌≡◌, ◌≤◌}, lemmas.Bool.cases_lt}
@@ -10,7 +10,7 @@ use Rattle.best_plan.specs.Rows.{AppendsRow, area_sum, AreSums, HasSlopeAtMostOn
 use Rattle.best_plan.specs.Rows.{IsEndAt, IsSum, nothing}
 use Rattle.slot_plan.{proofs.AreaLemmas.Ascend, specs.Reserve.free_bytes_behind}
 
--- so many free bytes more spare no more than that
+-- `more` more free bytes save at most that many
 near-more : (sums : List ℕ) (least free more : ℕ) → HasSlopeAtMostOne sums least → least ≤ free
     → free + more < length sums → get_or sums free 0 ≤ get_or sums (free + more) 0 + more
 near-more sums least free zero near from within =
@@ -39,7 +39,7 @@ module _ (window free bytes least place cost at : ℕ) (areas later : List ℕ)
   none-before k before fits = near.none (free_bytes_behind window free bytes (get_or areas k 0))
       (omega (arith, fits, small k before)) (omega (arith, width))
 
-  -- where no area leaves enough there is no sum
+  -- if no area leaves enough, there is no sum
   pub no-choice : length areas ≤ place → cost ≡ nothing
       → IsAreaChoice window free bytes areas later cost at
   no-choice past none = record {
@@ -55,7 +55,7 @@ module _ (window free bytes least place cost at : ℕ) (areas later : List ℕ)
     abbrev left : ℕ
     left = free_bytes_behind window free bytes (get_or areas place 0)
 
-    -- a later area spares no more than it has more
+    -- a later area saves at most what it has more
     from-place : (k : ℕ) → place ≤ k → k < length areas
         → cost ≤ area_sum window free bytes later (get_or areas k 0)
     from-place k from less =
@@ -95,7 +95,7 @@ module _ (window free bytes least place cost at : ℕ) (areas later : List ℕ)
       first = λ k before some fits. omega (arith, some, none-before k before fits);
     }
 
-    -- at the first area that leaves enough is the least sum
+    -- the first area that leaves enough has the least sum
     pub near-at : at ≡ place → IsAreaChoice window free bytes areas later cost at
     near-at here =
         subst (λ n. IsAreaChoice window free bytes areas later cost n) (sym here) near-choice
@@ -126,7 +126,7 @@ module _ (window free bytes least wanted place cost at : ℕ) (areas later : Lis
             before low past (none past)
       ]
 
--- what was written back to all of a list is what is there
+-- what was written back to a whole list is what the list has
 pub wrote-back : (n : ℕ) (new old : List ℕ) → length new ≡ length old → n ≡ length old
     → take n (new ++ drop (length new) old) ≡ new
 wrote-back n new old same all =
@@ -173,7 +173,7 @@ module _ (window bytes least wanted : ℕ) (areas later : List ℕ) (narrow : wi
         absurd (omega (arith, some))) (λ some. absurd (omega (arith, some))) (λ _. none free less);
   }
 
-  -- one area more, back to front, fills the row up to where it no longer leaves enough
+  -- one more area, back to front, fills the row up to where it no longer leaves enough
   pub near-next : (place start end : ℕ) (row next old new more : List ℕ) → 0 < place
       → place ≤ length areas → IsEndAt window wanted areas (place - 1) end
       → AreSums window bytes (get_or areas (place - 1) 0) later start end row next
@@ -229,7 +229,7 @@ module _ (window bytes least wanted : ℕ) (areas later : List ℕ) (narrow : wi
             ];
       }
 
-  -- after the last of them the row is whole
+  -- after the last of the areas the row is whole
   pub near-end : (start : ℕ) (row old new : List ℕ)
       → IsNearTo window bytes wanted areas later 0 start row old new
       → AppendsRow window bytes areas later row old new

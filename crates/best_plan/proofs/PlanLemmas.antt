@@ -1,4 +1,4 @@
--- With a lead-in and without one.
+-- The best plan with a lead-in, and without one.
 use Rattle.std.proofs.Common.{All, ap, arith, Contains, false, get_or, length, List, map, refl}
 use Rattle.std.proofs.Common.{subst, sym, true, ℕ, [], ◌++◌, ◌<◌, ◌∙◌, ◌∷◌, ◌≡◌, ◌≤◌}
 use Rattle.std.proofs.lemmas.List.{get_or-map, get_or_default, length-map}
@@ -34,7 +34,7 @@ module _ (window : ℕ) (choices : HeaderFields → List SlotFields) (needs : Li
       table-bound window choices needs sums places (map own_slot_area needs) table own in
       omega (arith, least, bound, few)
 
-  -- where the table has a sum for no free bytes, the frames can be laid without a lead-in
+  -- if the table has a sum for no free bytes, the frames can be laid without a lead-in
   pub can-sum : IsTable window choices needs sums places → get_or sums 0 0 < nothing
       → CanBeLaid window (open_frames choices needs)
   unfolding CanBeLaid
@@ -46,7 +46,7 @@ module _ (window : ℕ) (choices : HeaderFields → List SlotFields) (needs : Li
             (omega arith) found.2,
       )
 
-  -- and if it has none, they can't
+  -- if the table has no sum for no free bytes, the frames can't be laid without a lead-in
   pub cannot-sum : length needs ≤ 200000 → IsTable window choices needs sums places
       → nothing ≤ get_or sums 0 0 → CanBeLaid window (open_frames choices needs) → ⊥
   unfolding CanBeLaid
@@ -69,13 +69,13 @@ module _ (window : ℕ) (choices : HeaderFields → List SlotFields) (needs : Li
         whole = subst (IsBestPlanFor window 0 (map (need_item choices) needs)) all walk.best;
       }
 
-  -- the first sum of the table is that for no free bytes
+  -- the first sum of the table is the sum for no free bytes
   pub first-sum : (value : ℕ) → IsTable window choices needs sums places
       → value ≡ get_or sums 0 value → get_or sums 0 0 ≡ value
   first-sum value table is = get_or_default sums 0 0 value
       (omega (arith, table-width window choices needs sums places table)) ∙ sym is
 
--- the place of the least sum is that of a slot
+-- the place of the least sum is the place of a slot
 pub lead-within : (class : ClassFields) (sums : List ℕ) (window cost place : ℕ)
     → IsAreaChoice window 0 0 (slot_areas class false all_slots) sums cost place → cost < nothing
     → place < length all_slots
@@ -170,7 +170,7 @@ plan-behind window choices needs d class sums places lead free old new placed so
           choices needs d class sums places lead walk.more free some is table by gives walk.best);
     }
 
--- ---- what the call over all slots is on, and what it gives
+-- ---- what the call over all slots requires, and what it gives
 -- some lead-in has a sum by the table, and the cheapest in the list is the cheapest of all slots
 pub lead-ready : (window room : ℕ) (class : ClassFields) (sums areas : List ℕ)
     (slots : List SlotFields) (cost place : ℕ) → room ≡ window

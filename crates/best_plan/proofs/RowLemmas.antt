@@ -5,7 +5,7 @@ use Rattle.std.proofs.lemmas.{Bool.cases_lt, List.{get_or_append_left, get_or_pu
 use Rattle.best_plan.specs.Rows.{area_sum, IsAreaChoice, nothing}
 use Rattle.slot_plan.proofs.AreaLemmas.{Ascend}
 
--- of the first of the areas this one has the least sum
+-- this one of the first areas has the least sum
 pub record IsChoiceTo (window free bytes : ℕ) (areas later : List ℕ)
     (to cost place : ℕ) : Type 0 where
   pub least : (k : ℕ) → k < to → bytes ≤ free + get_or areas k 0
@@ -16,7 +16,7 @@ pub record IsChoiceTo (window free bytes : ℕ) (areas later : List ℕ)
   pub first : (k : ℕ) → k < place → cost < nothing → bytes ≤ free + get_or areas k 0
       → cost < area_sum window free bytes later (get_or areas k 0)
 
--- areas that ascend
+-- areas ascend
 pub not-greater : (ns : List ℕ) (j k : ℕ) → Ascend ns → j ≤ k → k < length ns
     → get_or ns j 0 ≤ get_or ns k 0
 not-greater ns j k ascend from within =
@@ -27,9 +27,10 @@ not-greater ns j k ascend from within =
           omega (arith, ap (λ n. get_or ns n 0) at)
     ]
 
--- ---- what no sum is below
+-- ---- the bounds of sums
 
--- no sum so far is less than the one bound, nor with its free bytes less than the other
+-- no sum so far is less than the one bound, and none
+-- together with its free bytes is less than the other
 pub record AreBoundsTo (later : List ℕ) (to least whole : ℕ) : Type 0 where
   pub alone : (free : ℕ) → free < to → least ≤ get_or later free 0
   pub together : (free : ℕ) → free < to → whole ≤ get_or later free 0 + free
@@ -46,7 +47,7 @@ pub record IsRowTo (window bytes : ℕ) (areas later : List ℕ) (to : ℕ)
   pub each : (free : ℕ) → free < to
       → IsAreaChoice window free bytes areas later (get_or row free 0) (get_or cells free 0)
 
--- one number of free bytes more is one entry more of the row
+-- one more number of free bytes is one more entry of the row
 pub row-more : (window bytes : ℕ) (areas later : List ℕ) (to : ℕ) (row old new : List ℕ)
     (cost place : ℕ) → IsAreaChoice window to bytes areas later cost place
     → IsRowTo window bytes areas later to row old new
@@ -84,7 +85,7 @@ row-more window bytes areas later to row old new cost place is so_far =
     }
 
 -- ---- zeros
--- zeros and one more are zeros
+-- zeros and one more zero are zeros
 pub zero-more : (ns : List ℕ) → ((k : ℕ) → get_or ns k 0 ≡ 0) → (k : ℕ)
     → get_or (ns ++ 0 ∷ []) k 0 ≡ 0
 zero-more [] all zero = refl

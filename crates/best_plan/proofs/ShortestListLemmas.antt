@@ -1,4 +1,4 @@
--- The plan's list is one of those with as many lead-ins.
+-- The plan's list is one of the lists with as many lead-ins.
 use Rattle.std.proofs.Common.{arith, Bool, Contains, false, List, map, None, Option, refl, Some}
 use Rattle.std.proofs.Common.{subst, suc, sum, sym, true, zero, ℕ, [], ◌↔◌, ◌∷◌, ◌≡◌, ◌≤◌}
 use Rattle.std.proofs.lemmas.List.{append-nil}
@@ -24,7 +24,7 @@ without-lead : (window : ℕ) (choices : HeaderFields → List SlotFields) (need
 without-lead window choices needs placed best plan is = is.best.shortest
     (item_areas (map (need_item choices) needs) placed) plan.least.chosen plan.least.feasible
 
--- a lead-in of one slot is one of all
+-- the only number of a list is the number that the list contains
 pub contains-one : (m n : ℕ) → Contains (m ∷ []) n → m ≡ n
 contains-one m n (zero, within, at) = at
 contains-one m n (suc i, within, at) = absurd (omega (arith, within))
@@ -45,7 +45,7 @@ widened choices first needs slot (area ∷ areas) has chosen =
       chosen.1,
     )
 
--- and the frames are the same
+-- with a lead-in of one slot and of any slot, the frames are the same
 pub same-frames : (choices : HeaderFields → List SlotFields) (first : Need) (needs : List Need)
     (slot : SlotFields) (areas : List ℕ)
     → frames_with_areas (map open_frame (lead_in_item (class_of first.header) (slot ∷ [])

@@ -1,5 +1,5 @@
--- Over lists of numbers: the sums of a table are the least of all lists that
--- fit, and the first areas that have them are the lexicographically least list.
+-- Lists of numbers: the sums of a table are the least of all lists that fit,
+-- and the first areas that have them are the lexicographically least list.
 use Rattle.std.proofs.Common.{ap, arith, Contains, fold, get_or, inl, inr, length, List, map, refl}
 use Rattle.std.proofs.Common.{subst, sum, sym, ℕ, [], ◌*◌, ◌+◌, ◌<◌, ◌∙◌, ◌∷◌, ◌≡◌, ◌≤◌, ◌⊎◌}
 use Rattle.std.proofs.lemmas.{Bool.cases_lt, List.get_or_default}
@@ -13,14 +13,14 @@ use Rattle.slot_plan.specs.Lists.{AreChosenAreas, frames_with_areas, IsNotBehind
 use Rattle.slot_plan.specs.Parts.{need_item, open_frame, own_slot_area}
 use Rattle.slot_plan.specs.{Reserve.{free_bytes_behind, open_frames}, declared.needs.Need.Need}
 
--- after as many free bytes as the window or fewer, a layout is that every frame's main data fit
+-- frames with a layout after free bytes fit in these
 pub fits-laid : (window free : ℕ) (frames : List FrameLengths) → HasLayout window free frames
     → AllFit window free frames
 unfolding HasLayout
 fits-laid window free frames feasible =
     fit-layout window 0 free free frames feasible.0 (omega arith) feasible.1
 
--- frames that fit in free bytes within a window have a layout behind them
+-- frames that fit in at most a window of free bytes have a layout after these
 pub laid-fits : (window free : ℕ) (frames : List FrameLengths) → free ≤ window
     → AllFit window free frames → HasLayout window free frames
 unfolding HasLayout
@@ -39,7 +39,7 @@ fold-add a (n ∷ ns) = omega (arith, fold-add (a + n) ns, fold-add (0 + n) ns)
 pub sum-cons : (n : ℕ) (ns : List ℕ) → sum (n ∷ ns) ≡ n + sum ns
 sum-cons n ns = omega (arith, fold-add (0 + n) ns)
 
--- the least sum of all lists that fit after so many free bytes
+-- the least sum of all lists that fit after `free` free bytes
 pub record IsLeastSum (window free : ℕ) (opens : List OpenFrame) (cost : ℕ) : Type 0 where
   pub least : (others : List ℕ) → AreChosenAreas opens others
       → AllFit window free (frames_with_areas opens others) → cost ≤ sum others
@@ -63,7 +63,7 @@ at-place ns k within = (k, within, get_or_default ns k (get_or ns k 0) 0 within)
 placed-at : (ns : List ℕ) (n : ℕ) (has : Contains ns n) → get_or ns has.0 0 ≡ n
 placed-at ns n has = get_or_default ns has.0 0 n has.1 ∙ has.2
 
--- ---- the first of the least
+-- ---- the first of the least lists
 
 -- of the lists that fit, the one with the least sum, and the first in order of these
 pub record IsFirst (window free : ℕ) (opens : List OpenFrame) (areas : List ℕ) : Type 0 where
@@ -80,7 +80,7 @@ unfolding AreChosenAreas IsNotBehind
 none [] chosen = tt
 none (area ∷ others) chosen = absurd chosen
 
--- of no frames the empty list is the first
+-- the empty list is the first for no frames
 pub first-none : (window free : ℕ) → IsFirst window free [] []
 unfolding AreChosenAreas AllFit frames_with_areas IsNotBehind
 first-none window free = record {
@@ -98,7 +98,7 @@ sum-is window free opens areas cost is sums some =
     let found = sums.some some in
     omega (arith, sums.least areas is.chosen is.fit, is.shortest found.0 found.1 found.2, found.3)
 
--- a lesser area is before a greater one
+-- a lesser area comes before a greater one
 place-before : (ns : List ℕ) (j k : ℕ) → Ascend ns → j < length ns → k < length ns
     → get_or ns j 0 < get_or ns k 0 → j < k
 place-before ns j k ascend within here less =
@@ -130,7 +130,8 @@ module _ (window free : ℕ) (o : OpenFrame) (opens : List OpenFrame) (later : L
       (placed-at o.areas area chosen.0) (is.least chosen.0.0 chosen.0.1) fit.0 in
       omega (arith, here, rest, sum-cons area others)
 
-  -- the least sum over the areas of a frame, with those of the frames after it, is the least of all
+  -- the least sum over the areas of a frame, with the
+  -- sums of the frames after it, is the least of all
   pub more-sums : IsAreaChoice window free o.bytes o.areas later cost place
       → ((left : ℕ) → left ≤ window → IsLeastSum window left opens (get_or later left 0))
       → IsLeastSum window free (o ∷ opens) cost
@@ -203,7 +204,7 @@ module _ (window free : ℕ) (o : OpenFrame) (opens : List OpenFrame) (later : L
             ]
       ]
 
-  -- the first area with the least sum, before the first list behind it, is the first list
+  -- the first area with the least sum, followed by the first list after it, is the first list
   pub first-more : (area : ℕ) (areas : List ℕ) → Ascend o.areas
       → IsAreaChoice window free o.bytes o.areas later cost place → cost < nothing
       → ((left : ℕ) → left ≤ window → IsLeastSum window left opens (get_or later left 0))
@@ -248,7 +249,7 @@ shortest-first window free opens areas within is = record {
       (fits-laid window free (frames_with_areas opens others) feasible) same;
 }
 
--- and the shortest, first in order, is that first one
+-- the shortest list is the first of the lists with the least sum
 pub first-shortest : (window free : ℕ) (opens : List OpenFrame) (areas : List ℕ) → free ≤ window
     → IsShortestList window free opens areas → IsFirst window free opens areas
 first-shortest window free opens areas within is = record {

@@ -1,5 +1,5 @@
--- Before a row in which each free byte spares one, the
--- first area with which the main data fit is the best.
+-- Before a row in which each free byte saves one byte of areas,
+-- the first area with which the main data fit is the best.
 use Rattle.std.proofs.Common.{ap, append_assoc, ap₂, arith, drop, get_or, inl, inr, length}
 use Rattle.std.proofs.Common.{length-append, List, map, replicate, set, subst, sym, take, ℕ, []}
 use Rattle.std.proofs.{Common.{◌++◌, ◌+◌, ◌-◌, ◌<◌, ◌∙◌, ◌∷◌, ◌≡◌, ◌≤◌}, lemmas.Bool.cases_lt}
@@ -31,7 +31,7 @@ end-rises window bytes areas to now next some first second =
       | inr from ↦ from
     ]
 
--- one area more, back to front, fills the places up to where it no longer fits
+-- one more area, back to front, fills the places up to where it no longer fits
 pub first-more : (window bytes : ℕ) (areas : List ℕ) (to end : ℕ) (old new next : List ℕ) → 0 < to
     → to ≤ length areas → IsEndAt window bytes areas (to - 1) end
     → next ≡ take (length old + end) new ++ replicate (length old + end - length new) (to - 1)
@@ -74,7 +74,7 @@ first-more window bytes areas to end old new next some within is gives so_far =
           ];
     }
 
--- after the last of them all places are filled
+-- after the last of the areas all places are filled
 pub first-all : (window bytes : ℕ) (areas : List ℕ) (to : ℕ) (old new : List ℕ) → to ≡ 0
     → IsFirstTo window bytes areas to old new → AppendsFirstAreas window bytes areas old new
 first-all window bytes areas to old new all so_far =
@@ -92,7 +92,7 @@ first-all window bytes areas to old new all so_far =
 
 -- ---- the row of the first areas
 
--- the first area leaves no more than the window
+-- the first area leaves at most the window
 even-left : (window bytes : ℕ) (areas : List ℕ) (free place : ℕ) → HasWindowRoom window bytes areas
     → free
     ≤ window → IsFirstArea bytes areas free place → (free + get_or areas place 0) - bytes ≤ window
@@ -129,7 +129,7 @@ even-choice window bytes areas later free place width even room within is =
       first = λ k before _ fits. absurd (omega (arith, is.small k before, fits));
     }
 
--- before a row in which each free byte spares one, these places and sums are the row
+-- before a row in which each free byte saves one, these places and sums are the row
 pub even-row : (window bytes : ℕ) (areas later sums old new : List ℕ) → length later ≡ window + 1
     → HasUnitSlope later → HasWindowRoom window bytes areas → sums ≡ map (λ n. n + bytes) later
     → AppendsFirstAreas window bytes areas old new
@@ -150,7 +150,7 @@ even-row window bytes areas later sums old new width even room is first = record
   };
 }
 
--- and that row is again one in which each free byte spares one
+-- in that row, too, each free byte saves one
 pub even-again : (later sums : List ℕ) (bytes : ℕ) → HasUnitSlope later
     → sums ≡ map (λ n. n + bytes) later → HasUnitSlope sums
 even-again later sums bytes even is free less =
@@ -160,10 +160,10 @@ even-again later sums bytes even is free less =
     ∙ get_or-map (λ n. n + bytes) later k 0 0 (omega (arith, many, within)) in
     omega (arith, sum free less, sum 0 (omega (arith, less)), even free (omega (arith, many, less)))
 
--- ---- as many bytes added to each sum
+-- ---- `bytes` added to each sum
 
 module _ (bytes : ℕ) (xs ys : List ℕ) (i d : ℕ) where
-  -- the sum that is next hasn't changed
+  -- the next sum hasn't changed
   pub added-here : i < length xs → ys ≡ map (λ n. n + bytes) (take i xs) ++ drop i xs
       → get_or ys i d ≡ get_or xs i d
   added-here less is =
@@ -173,7 +173,7 @@ module _ (bytes : ℕ) (xs ys : List ℕ) (i d : ℕ) where
       ∙ get_or-append_right (map (λ n. n + bytes) (take i xs)) (drop i xs) i i d size (omega arith)
       ∙ get_or-drop i xs (i - i) d ∙ ap (λ n. get_or xs n d) (omega arith)
 
-  -- to add the main data to the sum at i is to have added them to one more
+  -- adding the main data to the sum at i adds them to one more sum
   pub added-more : (sum : ℕ) → i < length xs → ys ≡ map (λ n. n + bytes) (take i xs) ++ drop i xs
       → sum ≡ get_or ys i d + bytes
       → set ys i sum ≡ map (λ n. n + bytes) (take (i + 1) xs) ++ drop (i + 1) xs

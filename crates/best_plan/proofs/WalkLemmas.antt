@@ -17,7 +17,7 @@ use Rattle.slot_plan.specs.{Reserve.free_bytes_behind, declared.needs.{Need.Need
 
 -- ---- filling
 
--- behind the last frame the table is that of no frames
+-- after the last frame the table is that of no frames
 pub table-none : (window : ℕ) (choices : HeaderFields → List SlotFields) (needs : List Need)
     (sums places : List ℕ) → IsTableEnd window sums [] → places ≡ []
     → IsTable window choices (drop (length needs) needs) sums places
@@ -27,7 +27,7 @@ table-none window choices needs sums places end none =
     (sym (drop_all (length needs) needs (omega arith)))
     (record { width = end.width; zeros = end.zeros; none = none })
 
--- one row more is the table from one frame earlier on
+-- one more row is the table from one frame earlier on
 pub table-more : (window : ℕ) (choices : HeaderFields → List SlotFields) (needs : List Need) (i : ℕ)
     (need : Need) (later sums old new : List ℕ) → i < length needs → need ≡ get_or needs i need
     → AppendsRow window need.bytes (need_areas choices need) later sums old new
@@ -58,7 +58,7 @@ table-width window choices (need ∷ needs) sums places table = table.row.width
 
 -- ---- placing
 
--- the places have the first list of the least sum, and the free bytes as main_data_begin
+-- the placed frames have the first list of the least sum, and the free bytes as main_data_begin
 pub record IsWalked (window free : ℕ) (items : List PlanItem) (placed : List Placed) : Type 0 where
   pub slots : AreItemSlots items placed
   pub list : IsFirst window free (map open_frame items) (item_areas items placed)
@@ -70,7 +70,7 @@ pub walked-none : (window free : ℕ) → IsWalked window free [] []
 unfolding AreItemSlots item_areas frames_with_areas frees_of
 walked-none window free = record { slots = tt; list = first-none window free; begins = refl }
 
--- a frame with the first best area, in front of others that were walked, was walked
+-- a frame with the first best area, before others that were walked, was walked
 pub walked-more : (window free : ℕ) (item : PlanItem) (items : List PlanItem) (p : Placed)
     (placed : List Placed) (later : List ℕ) (cost place : ℕ)
     → Ascend (slot_areas item.class item.protected item.choices)
@@ -106,7 +106,7 @@ best-walked window free items placed within is =
           (omega (arith, within)) is.list.fit;
     }
 
--- and what is best for them was walked
+-- what is best for the frames was walked
 pub walked-best : (window free : ℕ) (items : List PlanItem) (placed : List Placed) → free ≤ window
     → IsBestPlanFor window free items placed → IsWalked window free items placed
 walked-best window free items placed within is =
@@ -123,7 +123,7 @@ walked-best window free items placed within is =
 
 -- ---- the row of the first frame
 
--- the table has a choice for the first frame, and is one for the others behind it
+-- the table has a choice for the first frame, and without its row is the table for the others
 pub record IsOpen (window : ℕ) (choices : HeaderFields → List SlotFields) (free : ℕ) (need : Need)
     (rest : List Need) (places : List ℕ) : Type 0 where
   pub later : List ℕ
@@ -163,7 +163,7 @@ opened window choices free need rest sums places within some table =
       behind = subst (IsTable window choices rest table.later) (sym before) table.behind;
     }
 
--- at each frame from which the walk can go on the table has a choice
+-- at each frame from which the walk can continue, the table has a choice
 pub walk-open : {window : ℕ} {choices : HeaderFields → List SlotFields} {free : ℕ} {places : List ℕ}
     (needs : List Need) (i : ℕ) (need : Need) → free ≤ window → i < length needs
     → need ≡ get_or needs i need → CanWalkTable window choices free (drop i needs) places
@@ -172,7 +172,7 @@ walk-open {window} {choices} {free} {places} needs i need within lt is can =
     opened window choices free need (drop (i + 1) needs) can.sums places within can.some
     (subst (λ l. IsTable window choices l can.sums places) (next_need needs i need lt is) can.table)
 
--- and from what that choice leaves it can go on
+-- the walk can continue from what that choice leaves
 pub walk-next : (window : ℕ) (choices : HeaderFields → List SlotFields) (free after area : ℕ)
     (need : Need) (rest : List Need) (places left : List ℕ)
     (front : IsOpen window choices free need rest places) → area
@@ -190,7 +190,7 @@ walk-next window choices free after area need rest places left front is gives ta
     }
 
 -- ---- the frames placed so far: whatever is best from there on is best from the first on
--- what is best from one frame on, behind those placed so far, is best from the first on
+-- what is best from one frame on, after the frames placed so far, is best from the first on
 pub record GoesOn (window : ℕ) (choices : HeaderFields → List SlotFields) (free after : ℕ)
     (needs left : List Need) (old new : List Placed) : Type 0 where
   pub more : List Placed
@@ -204,7 +204,7 @@ pub goes-begun : (window : ℕ) (choices : HeaderFields → List SlotFields) (fr
 goes-begun window choices free needs old =
     record { more = []; appended = sym (append-nil old); goes = λ placed is. is }
 
--- to place the frame at i by the table goes on
+-- placing the frame at i by the table continues the walk
 pub goes-more : (window : ℕ) (choices : HeaderFields → List SlotFields) (free now after : ℕ)
     (needs : List Need) (i : ℕ) (need : Need) (p : Placed) (places : List ℕ) (old new : List Placed)
     → i < length needs → need ≡ get_or needs i need
@@ -234,7 +234,7 @@ goes-more window choices free now after needs i need p places old new within is 
           (p ∷ placed)) (sym (next_need needs i need within is)) here));
     }
 
--- after the last frame the places are those of the walk
+-- after the last frame the placed frames are those of the walk
 pub goes-all : (window : ℕ) (choices : HeaderFields → List SlotFields) (free after : ℕ)
     (needs : List Need) (i : ℕ) (old new : List Placed) → free ≤ window → length needs ≤ i
     → GoesOn window choices free after needs (drop i needs) old new
@@ -256,13 +256,13 @@ module _ {window : ℕ} {choices : HeaderFields → List SlotFields} {free : ℕ
     (within : free ≤ window) (count value : ℕ)
     (all : count ≡ length places)
     (is : value ≡ get_or places (count - (window + 1) + free) value) where
-  -- it is the place that the table has for the free bytes
+  -- the place that is read is the place that the table has for the free bytes
   pub place-is : get_or places (length places - (window + 1) + free) 0 ≡ value
   place-is = get_or_default places (length places - (window + 1) + free) 0 value
       (omega (arith, front.long, within))
       ∙ ap (λ n. get_or places (n - (window + 1) + free) value) (sym all) ∙ sym is
 
-  -- the area is the one there
+  -- the area is the one at that place
   pub area-is : (area : ℕ) → area ≡ get_or (need_areas choices need) value 0 → area
       ≡ get_or (need_areas choices need) (get_or places (length places - (window + 1) + free) 0) 0
   area-is area gives = gives ∙ ap (λ n. get_or (need_areas choices need) n 0) (sym place-is)

@@ -8,7 +8,7 @@ use Rattle.slot_plan.specs.{Lists.OpenFrame, Parts.{lead_in_item, need_item, ope
 use Rattle.slot_plan.specs.{Plans.{AreItemSlots, item_areas}, declared.needs.Need.Need}
 use Rattle.slot_plan.specs.declared.needs.Placed.{Placed}
 
--- Among the choices that have a layout after so many free bytes, the
+-- Among the choices that have a layout after `free` free bytes, the
 -- list with the least sum, and the lexicographically least of these.
 pub record IsShortestList (window free : ℕ) (opens : List OpenFrame) (areas : List ℕ) : Type 0 where
   pub chosen : AreChosenAreas opens areas

@@ -1,11 +1,12 @@
--- What holds of the best plan, whatever the code.
+-- Laws of the best plan, whatever the code.
 use Rattle.std.specs.Prelude.{false, List, None, Some, sum, ℕ, [], ◌↔◌, ◌∷◌, ◌≡◌, ◌≤◌}
 use Rattle.best_plan.specs.{Best.{IsBestPlan, items_with_lead_in}, BestOf.best_plan_of}
 use Rattle.frame_header.specs.Fields.{HeaderFields, SlotFields}
 use Rattle.slot_plan.specs.{Laws.PartsChooseInOrder, Parts.all_items, Plans.{IsPlan, item_areas}}
 use Rattle.slot_plan.specs.declared.needs.{Need.Need, Placed.Placed}
 
--- The best plan of a part has a lead-in exactly if its plan has one, and no more bytes of areas.
+-- The best plan of a part has a lead-in exactly if its
+-- plan has one, and at most as many bytes of areas.
 abbrev pub BestIsShortest : Type 0
 BestIsShortest =
     (window : ℕ) (choices : HeaderFields → List SlotFields) (needs : List Need)
@@ -22,7 +23,7 @@ BestExists =
     (placed : List Placed) → IsPlan window choices (needs ∷ []) placed
     → (best : List Placed) × (best_plan_of window choices needs ≡ Some best)
 
--- The best plan of a part whose frames choose among ascending areas is that of the function.
+-- The best plan of a part whose frames choose among ascending areas is the value of the function.
 abbrev pub BestPlanIsCheapest : Type 0
 BestPlanIsCheapest =
     (window : ℕ) (choices : HeaderFields → List SlotFields) (needs : List Need)

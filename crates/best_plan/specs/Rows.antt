@@ -34,7 +34,7 @@ pub record IsAreaChoice (window free bytes : ℕ) (areas later : List ℕ)
   pub first : (k : ℕ) → k < place → cost < nothing → bytes ≤ free + slice_index areas k
       → cost < area_sum window free bytes later (slice_index areas k)
 
--- the areas of a frame after so large a window
+-- the areas of a frame, with a window of this length
 pub record AreFrameAreas (window : ℕ) (areas : List ℕ) : Type 0 where
   pub narrow : window ≤ 511
   pub most : All (λ n. n ≤ most_frame_length) areas
@@ -60,16 +60,17 @@ pub record AppendsRow (window bytes : ℕ) (areas later row old new : List ℕ) 
   pub appended : new ≡ old ++ cells
   pub is : IsRow window bytes areas later row cells
 
--- that of a frame with this row of choices
+-- the row of a frame with these choices was appended
 abbrev pub AddsRow : ChoiceRow → List ℕ → List ℕ → List ℕ → Type 0
 AddsRow row sums old new = AppendsRow row.window row.bytes row.areas.now row.later.now sums old new
 
--- numbers that no sum of a row is less than: by itself, and together with the bytes that are free
+-- numbers that no sum of a row is less than: the sum
+-- by itself, and together with the bytes that are free
 pub record AreBounds (later : List ℕ) (least whole : ℕ) : Type 0 where
   pub alone : (free : ℕ) → free < length later → least ≤ slice_index later free
   pub together : (free : ℕ) → free < length later → whole ≤ slice_index later free + free
 
--- what is known where so many bytes are free before a frame with these areas
+-- what is known if `free` bytes are free before a frame with these areas
 pub record AreKnownBounds (free bytes : ℕ) (areas later : List ℕ) (known : SumBounds) : Type 0 where
   -- no later sum is less than the bounds
   pub bounds : AreBounds later known.alone known.together
@@ -77,28 +78,30 @@ pub record AreKnownBounds (free bytes : ℕ) (areas later : List ℕ) (known : S
   pub from_within : known.from ≤ length areas
   pub small : (k : ℕ) → k < known.from → free + slice_index areas k < bytes
 
--- the areas before this place, which isn't after `from`, are too small; at it the first isn't
+-- the areas before this place, which isn't after `from`, are too small; the area at it isn't
 pub record AreAreasTooSmall (free bytes : ℕ) (areas : List ℕ) (from place : ℕ) : Type 0 where
   pub within : place ≤ from
   pub small : (k : ℕ) → k < place → free + slice_index areas k < bytes
   pub large : place < from → bytes ≤ free + slice_index areas place
 
--- each free byte spares one: the sums together with the bytes that are free are all the same
+-- each free byte saves one byte of areas: the sum together
+-- with the bytes that are free is always the same
 abbrev pub HasUnitSlope : List ℕ → Type 0
 HasUnitSlope sums =
     (free : ℕ) → free < length sums → slice_index sums free + free ≡ slice_index sums 0
 
--- from so many free bytes on each spares at most one, and fewer are too few for any list
+-- from `least` free bytes on each saves at most one
+-- byte of areas, and fewer are too few for any list
 pub record HasSlopeAtMostOne (sums : List ℕ) (least : ℕ) : Type 0 where
   pub none : (free : ℕ) → free < least → free < length sums → nothing ≤ slice_index sums free
   pub near : (free : ℕ) → least ≤ free → free + 1 < length sums
       → slice_index sums free ≤ slice_index sums (free + 1) + 1
 
--- what is known of the sums of a row is so
+-- what is recorded about the sums of a row is true
 pub record AreKnownSlopes (sums : Sums) : Type 0 where
-  -- whether each free byte spares one
+  -- whether each free byte saves one
   pub even : IsTrue sums.even → HasUnitSlope sums.by_free.items
-  -- from how many on each spares at most one
+  -- from how many on each saves at most one
   pub near : IfSome sums.near (λ least. HasSlopeAtMostOne sums.by_free.items least)
 
 -- two rows of sums
@@ -108,7 +111,7 @@ pub record AreRows (window : ℕ) (later sums : List ℕ) : Type 0 where
   pub width : length sums ≡ window + 1
 
 -- the sums of an area from one number of free bytes on and
--- before another; those of fewer free bytes are as they were
+-- before another; the sums for fewer free bytes are unchanged
 pub record AreSums (window bytes area : ℕ) (later : List ℕ) (start end : ℕ)
     (old new : List ℕ) : Type 0 where
   pub width : length new ≡ length old
@@ -117,7 +120,7 @@ pub record AreSums (window bytes area : ℕ) (later : List ℕ) (start end : ℕ
   pub each : (free : ℕ) → start ≤ free → free < end
       → IsSum window free bytes area later (slice_index new free)
 
--- whatever is free, the first area with which the main data fit leaves no more than the window
+-- whatever is free, the first area with which the main data fit leaves at most the window
 pub record HasWindowRoom (window bytes : ℕ) (areas : List ℕ) : Type 0 where
   pub some : 0 < length areas
   pub most : bytes ≤ slice_index areas (length areas - 1)

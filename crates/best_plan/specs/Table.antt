@@ -16,7 +16,7 @@ pub record AreAreasOf (choices : HeaderFields → List SlotFields) (need : Need)
     (items : List ℕ) : Type 0 where
   pub areas : items ≡ need_areas choices need
   pub most : All (λ n. n ≤ most_frame_length) items
-  -- that of its own slot is one of them
+  -- the area of its own slot is one of them
   pub own : Contains (need_areas choices need) (own_slot_area need)
   pub ascending : AllPairs (λ m n. m < n) (need_areas choices need)
 
@@ -53,7 +53,7 @@ IsTable window choices [] sums places = IsTableEnd window sums places
 IsTable window choices (need ∷ needs) sums places =
     IsRowBefore window choices need (IsTable window choices needs) sums places
 
--- some list fits after so many free bytes, by the table
+-- some list fits after `free` free bytes, by the table
 pub record CanWalkTable (window : ℕ) (choices : HeaderFields → List SlotFields) (free : ℕ)
     (needs : List Need) (places : List ℕ) : Type 0 where
   pub sums : List ℕ

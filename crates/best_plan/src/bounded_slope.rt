@@ -1,5 +1,5 @@
-//! Rows in which each free byte spares at most one. In front of such a row the first area that leaves enough free bytes for
-//! the frames after it is the best.
+//! Rows in which each free byte saves at most one byte of areas. For the frame before such a row,
+//! the first area that leaves enough free bytes for the frames after it is the best.
 ghost use Rattle.std.specs.Prelude.{◌≡◌, ℕ, ◌+◌, ◌<◌, ◌≤◌, length, slice_index, IfOk, IfSome};
 ghost use Rattle.best_plan.specs.Rows.{nothing, AddsRow, AreAreasAndSums, AreRows, AreSums, HasSlopeAtMostOne};
 ghost use Rattle.frame_header.specs.Limits.{most_back, most_frame_length};
@@ -8,7 +8,8 @@ use crate::choice::{ChoiceRow, NOTHING};
 use crate::unit_slope::end_at;
 use std::alloc::AllocError;
 
-/// How many free bytes are too few for any list: below this number there is no sum.
+/// How many free bytes are too few for any list: with fewer than the returned number there is no
+/// sum.
 fn too_few(sums: &[u32]) -> usize
     ensures within { result ≤ length sums.now }
     ensures none { (free : ℕ) → free < result → slice_index sums.now free ≡ nothing }
@@ -21,7 +22,8 @@ fn too_few(sums: &[u32]) -> usize
     sums.len()
 }
 
-/// The number of free bytes from which on each spares at most one, where fewer are too few for any list.
+/// The number of free bytes from which on each saves at most one byte of areas. Fewer are too few
+/// for any list.
 pub(crate) fn bounded_slope_start(sums: &[u32]) -> Option<u32>
     requires few { length sums.now ≤ 512 }
     ensures { IfSome result (λ least. HasSlopeAtMostOne sums.now least) }
@@ -35,7 +37,7 @@ pub(crate) fn bounded_slope_start(sums: &[u32]) -> Option<u32>
     Some(least as u32)
 }
 
-/// No sums before so many free bytes.
+/// Writes that there is no sum for fewer than `end` free bytes.
 fn write_none(end: usize, sums: &mut [u32])
     requires within { end ≤ length sums.old }
     ensures width { length sums.new ≡ length sums.old }
@@ -46,7 +48,8 @@ fn write_none(end: usize, sums: &mut [u32])
     }
 }
 
-/// The sums of an area and of the least sum after it, from so many free bytes on and before as many.
+/// Writes the sums of an area and of the least sum after it, for `start` up to `end` free bytes,
+/// `end` not included.
 fn write_sums(row: ChoiceRow<'_>, area: u32, start: usize, end: usize, sums: &mut [u32])
     requires rows { AreRows row.window row.later.now sums.old }
     requires area { area ≤ most_frame_length }
@@ -61,7 +64,7 @@ fn write_sums(row: ChoiceRow<'_>, area: u32, start: usize, end: usize, sums: &mu
     let window = row.window as usize;
     let bytes = row.bytes as usize;
     let later = row.later;
-    // Here and later the whole window is free behind the area.
+    // From `full` free bytes on, the whole window is free after the area.
     let full = (window + bytes)
         .saturating_sub(area as usize)
         .max(start)
@@ -75,7 +78,8 @@ fn write_sums(row: ChoiceRow<'_>, area: u32, start: usize, end: usize, sums: &mu
     }
 }
 
-/// The row of a frame in front of one in which each free byte from so many on spares at most one.
+/// Appends the row of a frame, before one in which each free byte from `least` on saves at most
+/// one.
 pub(crate) fn append_bounded_slope(
     row: ChoiceRow<'_>,
     least: u32,

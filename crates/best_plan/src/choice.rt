@@ -1,4 +1,5 @@
-//! Of the areas of one frame, the one with which it and all frames after it have the fewest bytes.
+//! The choice, among the areas of one frame, with which it and all frames after it have the fewest
+//! bytes.
 ghost use Rattle.std.specs.Prelude.{◌≡◌, ◌+◌, ◌<◌, ◌≤◌, All, AllPairs, length};
 ghost use Rattle.slot_plan.specs.Parts.{slot_areas};
 ghost use Rattle.best_plan.specs.Rows.{AreAreasAndSums, AreBounds, AreAreasTooSmall, AreKnownBounds, IsSum, IsAreaChoice};
@@ -8,7 +9,7 @@ use arrayvec::ArrayVec;
 use frame_header::Slot;
 use slot_plan::{Lengths, free_behind};
 
-/// The sum if no list of areas fits, in bytes. No list has as many.
+/// The sum if no list of areas fits, in bytes. No list has a sum as large.
 pub(crate) const NOTHING: u32 = u32::MAX;
 
 /// The least sum of areas from a frame on, in bytes, and the place of the frame's area in its list.
@@ -18,9 +19,9 @@ pub(crate) struct AreaChoice {
     pub(crate) place: u8,
 }
 
-/// What a row of choices is made from: at most how many bytes are free before the frame, how many bytes its
-/// main data have, the areas among which it chooses, and the least sums of the frames after it, by the bytes
-/// that are free before them.
+/// What a row of choices is made from: at most how many bytes are free before the frame, how many
+/// bytes of main data it has, the areas among which it chooses, and the least sums of the frames
+/// after it, by the bytes that are free before them.
 #[derive(Clone, Copy)]
 pub(crate) struct ChoiceRow<'a> {
     pub(crate) window: u32,
@@ -29,9 +30,9 @@ pub(crate) struct ChoiceRow<'a> {
     pub(crate) later: &'a [u32],
 }
 
-/// What is known before the areas of a frame are tried: those before the place `from` are too small, no
-/// later sum is less than `alone`, and none is less than `together` once the bytes that are free before it
-/// are added.
+/// What is known before the areas of a frame are tried: the areas before the place `from` are too
+/// small, no later sum is less than `alone`, and no later sum together with the bytes that are free
+/// before it is less than `together`.
 #[derive(Clone, Copy)]
 pub(crate) struct SumBounds {
     pub(crate) from: usize,
@@ -88,8 +89,8 @@ pub(crate) fn bounds_of(later: &[u32]) -> SumBounds
     known
 }
 
-/// The place before which all areas are too small and from which on none is, by one before which all were too small after
-/// fewer free bytes.
+/// The place before which all areas are too small and from which on none is, found from `from`, a
+/// place before which all areas were too small after fewer free bytes.
 pub(crate) fn too_small(free: u32, bytes: u32, areas: &[u32], from: usize) -> usize
     requires free { free ≤ most_back }
     requires areas { All (λ n. n ≤ most_frame_length) areas.now }
@@ -106,9 +107,9 @@ pub(crate) fn too_small(free: u32, bytes: u32, areas: &[u32], from: usize) -> us
     0
 }
 
-/// The first area of those with the least sum after so many free bytes. `later` has the least sums of the
-/// frames after this one, by the bytes that are free before them. It stops at the first area from which on
-/// none can be better.
+/// The first of the areas with the least sum after `free` free bytes. `later` has the least sums of
+/// the frames after this one, by the bytes that are free before them. The search stops at the first
+/// area from which on none can be better.
 pub(crate) fn best_choice(
     window: u32,
     free: u32,
@@ -132,7 +133,8 @@ pub(crate) fn best_choice(
         if choice.sum <= area.saturating_add(known.alone) {
             return choice;
         }
-        // With the free bytes, no sum from here on is less than the main data and `together`.
+        // From here on, no sum together with the free bytes is less than the main data and
+        // `together`.
         if u64::from(choice.sum) + u64::from(free) <= u64::from(bytes) + u64::from(known.together) {
             return choice;
         }

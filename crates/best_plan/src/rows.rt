@@ -15,16 +15,17 @@ pub(crate) struct Sums {
     pub(crate) by_free: Vec<u32>,
     /// Memory for the sums of the frame before it.
     pub(crate) spare: Vec<u32>,
-    /// Whether it is known that each free byte spares one.
+    /// Whether it is known that each free byte saves one byte of areas.
     pub(crate) even: bool,
-    /// Where it is known that each free byte spares at most one, from how many on.
+    /// If it is known that from some number of free bytes on each saves at most one byte of areas,
+    /// that number.
     pub(crate) near: Option<u32>,
 }
 
 /// Appends a row, by trying the areas for each number of free bytes.
 ///
 /// # Errors
-/// Where there is no memory.
+/// If memory runs out.
 fn append_row(
     row: ChoiceRow<'_>,
     sums: &mut Vec<u32>,
@@ -51,10 +52,11 @@ fn append_row(
     Ok(())
 }
 
-/// Appends the row of a frame, by the first areas that leave enough where each free byte spares at most one.
+/// Appends the row of a frame, by the first areas that leave enough if each free byte saves at most
+/// one byte of areas.
 ///
 /// # Errors
-/// Where there is no memory.
+/// If memory runs out.
 fn append_next(
     row: ChoiceRow<'_>,
     near: Option<u32>,
@@ -72,10 +74,11 @@ fn append_next(
     }
 }
 
-/// Appends the row of a frame whose main data have room, before one in which each free byte spares one.
+/// Appends the row of a frame whose main data have room, before one in which each free byte saves
+/// one byte of areas.
 ///
 /// # Errors
-/// Where there is no memory.
+/// If memory runs out.
 fn append_unit_slope(
     window: u32,
     bytes: u32,
@@ -96,10 +99,11 @@ fn append_unit_slope(
     Ok(())
 }
 
-/// Appends the places of a frame's row, and puts its sums in the place of those of the frame after it.
+/// Appends the places of a frame's row, and replaces the sums of the frame after it by the sums of
+/// that row.
 ///
 /// # Errors
-/// Where there is no memory.
+/// If memory runs out.
 pub(crate) fn append_frame(
     window: u32,
     bytes: u32,

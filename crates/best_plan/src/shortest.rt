@@ -14,7 +14,8 @@ use frame_header::Class;
 use slot_plan::{Lengths, Need, Placed, Plan, Policy, Room, free_behind};
 use std::alloc::{AllocError, Global};
 
-/// The lead-in with which all frames have the fewest bytes, where `sums` has those of the frames after it.
+/// The lead-in with which all frames have the fewest bytes. `sums` has the least sums of the frames
+/// after it.
 fn lead_in(class: Class, window: u32, sums: &[u32]) -> Placed
     requires window { window ≡ window_of class.version }
     requires sums { length sums.now ≡ window + 1 }
@@ -35,13 +36,14 @@ fn lead_in(class: Class, window: u32, sums: &[u32]) -> Placed
     }
 }
 
-/// The shortest plan of one part: of the lists of areas that have a layout, the one with the least sum, and
-/// of several the lexicographically least; after a lead-in of any slot if the frames have no layout without
-/// one. Main data begin as early as they may (ISO/IEC 11172-3, 2.4.2.7). There are 1 to 200,000 frames, all
-/// of one class, which have a layout in their own slots after a whole window of free bytes.
+/// The shortest plan of one part: of the lists of areas that have a layout, the one with the least
+/// sum, and of several the lexicographically least; after a lead-in of any slot if the frames have
+/// no layout without one. Main data begin as early as they may (ISO/IEC 11172-3, 2.4.2.7). There
+/// are 1 to 200,000 frames, all of one class, which have a layout in their own slots after a whole
+/// window of free bytes.
 ///
 /// # Errors
-/// Where there is no memory.
+/// If memory runs out.
 pub fn best<P: Policy>(alloc: Global, needs: &[Need], policy: &P) -> Result<Plan, AllocError>
     requires class { AreNeedsOfOneClass needs.now }
     requires some { 1 ≤ length needs.now }

@@ -16,14 +16,15 @@ use std::alloc::{AllocError, Global};
 pub(crate) struct Table {
     /// The least sums from the first frame on, by the bytes that are free before it.
     pub(crate) sums: Vec<u32>,
-    /// The places of the areas by the bytes that are free before the frame, the last frame's first.
+    /// The places of the areas, by the bytes that are free before the frame, the last frame's
+    /// first.
     pub(crate) places: Vec<u8>,
 }
 
 /// The sums after the last frame, which are 0.
 ///
 /// # Errors
-/// Where there is no memory.
+/// If memory runs out.
 fn no_areas(alloc: Global, window: u32) -> Result<Vec<u32>, AllocError>
     requires window { window ≤ most_back }
     ensures { IfOk result (λ sums. IsTableEnd window sums.items []) }
@@ -47,7 +48,7 @@ fn areas_of<P: Policy>(need: &Need, policy: &P, lengths: &Lengths) -> ArrayVec<u
 /// The table of these frames. All its memory is taken first.
 ///
 /// # Errors
-/// Where there is no memory.
+/// If memory runs out.
 pub(crate) fn table_of<P: Policy>(
     alloc: Global,
     window: u32,

@@ -1,12 +1,12 @@
-//! Rows of sums in which each free byte spares one. Before such a row the first area that has room is the
-//! best, and the row of the frame with this area is such a row too.
+//! Rows of sums in which each free byte saves one byte of areas. For the frame before such a row,
+//! the first area that has room is the best, and the frame's row with this area is such a row too.
 ghost use Rattle.std.specs.Prelude.{◌≡◌, ◌+◌, ◌-◌, ◌<◌, ◌≤◌, ◌↔◌, All, AllPairs, IsTrue, length, map, slice_index, IfOk};
 ghost use Rattle.best_plan.specs.Rows.{nothing, HasUnitSlope, HasWindowRoom, IsEndAt, AppendsFirstAreas};
 ghost use Rattle.frame_header.specs.Limits.{most_back, most_frame_length};
 
 use std::alloc::AllocError;
 
-/// Whether each free byte spares one byte of areas.
+/// Whether each free byte saves one byte of areas.
 pub(crate) fn has_unit_slope(sums: &[u32]) -> bool
     requires some { 0 < length sums.now }
     requires few { length sums.now ≤ 512 }
@@ -21,8 +21,8 @@ pub(crate) fn has_unit_slope(sums: &[u32]) -> bool
     true
 }
 
-/// Whether the first area with which so many bytes of main data fit never leaves more than the window,
-/// whatever is free before it.
+/// Whether the first area with which `bytes` bytes of main data fit never leaves more than the
+/// window, whatever is free before it.
 pub(crate) fn has_window_room(window: u32, bytes: u32, areas: &[u32]) -> bool
     requires window { window ≤ most_back }
     requires areas { All (λ n. n ≤ most_frame_length) areas.now }
@@ -39,8 +39,8 @@ pub(crate) fn has_window_room(window: u32, bytes: u32, areas: &[u32]) -> bool
     true
 }
 
-/// Up to which number of free bytes, not included, the areas before this place are too small; at most the
-/// window and 1.
+/// Up to which number of free bytes, not included, the areas before this place are too small; at
+/// most the window and 1.
 pub(crate) fn end_at(window: u32, bytes: u32, areas: &[u32], place: usize) -> u32
     requires window { window ≤ most_back }
     requires place { place ≤ length areas.now }
@@ -53,11 +53,11 @@ pub(crate) fn end_at(window: u32, bytes: u32, areas: &[u32], place: usize) -> u3
     bytes.saturating_sub(areas[place - 1]).min(window + 1)
 }
 
-/// Appends the place of the first area with which so many bytes of main data fit, for each number of free
-/// bytes.
+/// Appends the place of the first area with which `bytes` bytes of main data fit, for each number
+/// of free bytes.
 ///
 /// # Errors
-/// Where there is no memory.
+/// If memory runs out.
 pub(crate) fn append_first_areas(
     window: u32,
     bytes: u32,
@@ -79,7 +79,7 @@ pub(crate) fn append_first_areas(
     Ok(())
 }
 
-/// Adds so many bytes to each sum.
+/// Adds `bytes` to each sum.
 pub(crate) fn add_to_all(sums: &mut [u32], bytes: u32)
     requires { All (λ n. n + bytes < nothing) sums.old }
     ensures { sums.new ≡ map (λ n. n + bytes) sums.old }

@@ -1,4 +1,4 @@
-//! Places the frames, from the first to the last: each in the area that the table has for the bytes that
+//! Places the frames, from first to last: each in the area that the table has for the bytes that
 //! are free before it.
 ghost use Rattle.std.specs.Prelude.{◌≡◌, ◌<◌, ◌≤◌, length, IfOk};
 ghost use Rattle.frame_header.specs.Tables.{class_of, area_of};
@@ -33,10 +33,10 @@ fn area_with(need: &Need, slot: Slot, lengths: &Lengths) -> u32
     lengths.area_of(slot, need.header.protected)
 }
 
-/// Places the frames, where so many bytes are free before the first.
+/// Places the frames. `room` is what is free before the first.
 ///
 /// # Errors
-/// Where there is no memory.
+/// If memory runs out.
 pub(crate) fn walk<P: Policy>(
     room: Room,
     needs: &[Need],

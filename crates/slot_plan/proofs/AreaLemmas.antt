@@ -1,4 +1,4 @@
--- The areas of slots: the last is the largest, and the first that is large enough the smallest.
+-- The areas of slots: the last is the largest, and the first that is large enough is the smallest.
 use Rattle.std.proofs.Common.{AllPairs, ap, arith, Bool, Contains, false, get_or, inl, inr, length}
 use Rattle.std.proofs.Common.{List, lit≤, refl, subst, suc, sym, zero, ℕ, [], ◌-◌, ◌<◌, ◌∙◌, ◌∷◌}
 use Rattle.std.proofs.{Common.{◌≡◌, ◌≤◌}, lemmas.Bool.cases_lt}
@@ -32,7 +32,7 @@ greatest-last ns d some ascend =
           e ∙ ap (λ k. get_or ns k 0) (sym same) ∙ at
     ]
 
--- the area at a place of the list is that of the slot there
+-- the area at a place of the list is the area of the slot there
 pub area-at : (c : ClassFields) (p : Bool) (slots : List SlotFields) (i n : ℕ) (d : SlotFields)
     → i < length slots → get_or (slot_areas c p slots) i n ≡ area_of c (get_or slots i d) p
 area-at c p slots i n d within = get_or-map (λ s. area_of c s p) slots i d n within
@@ -53,7 +53,7 @@ area-last c p slots slot d some ascend is =
     ∙ ap (λ n. get_or (slot_areas c p slots) (n - 1) 0) (sym many)
     ∙ greatest-last (slot_areas c p slots) 0 (omega arith) ascend
 
--- an area of the list is that of a slot
+-- an area of the list is the area of a slot
 pub slot-area : (c : ClassFields) (p : Bool) (slots : List SlotFields) (n : ℕ)
     → Contains (slot_areas c p slots) n
     → (slot : SlotFields) × Contains slots slot × (area_of c slot p ≡ n)
@@ -137,7 +137,7 @@ least-first wanted c p slots i slot within is ascend small enough = record {
       ];
 }
 
--- the slots before a place are too small, and so is that at it
+-- the slots before a place are too small
 abbrev pub AreSmall : ℕ → ClassFields → Bool → List SlotFields → ℕ → Type 0
 AreSmall wanted c p slots to =
     (k : ℕ) (d : SlotFields) → k < to → area_of c (get_or slots k d) p < wanted
@@ -149,7 +149,7 @@ pub lead-ascend : (c : ClassFields) (slots : List SlotFields) → slots ≡ all_
 unfolding areas_of
 lead-ascend c slots all ascend = subst (λ l. Ascend (slot_areas c false l)) (sym all) ascend
 
--- the longest is at least a window, where the largest slot is
+-- the greatest area of a lead-in is at least a window, if the area of the largest slot is
 pub leads-span : (c : ClassFields) (window : ℕ) → window ≤ area_of c largest_slot false
     → window ≤ greatest_number (slot_areas c false all_slots)
 leads-span c window spanned =
@@ -182,17 +182,17 @@ greatest-all c p class =
     ∙ ap (λ n. get_or all_slots (n - 1) largest_slot) (sym length-all_slots))
 
 -- ---- the one slot of a frame that keeps its own
--- a slot of a list of one is that one
+-- the slot of a list of one is that one
 pub only_one : (slot other : SlotFields) → Contains (slot ∷ []) other → slot ≡ other
 only_one slot other (zero, within, at) = at
 only_one slot other (suc k, within, at) = absurd (omega arith)
 
--- the greatest of one number is this number
+-- the greatest of one number is that number
 pub greatest-one : (n : ℕ) → greatest_number (n ∷ []) ≡ n
 unfolding greatest_number
 greatest-one n = omega arith
 
--- the one slot is the least if its area is large enough
+-- the only slot is the least if its area is large enough
 pub least-one : (wanted : ℕ) (c : ClassFields) (p : Bool) (slot : SlotFields) → wanted
     ≤ greatest_number (slot_areas c p (slot ∷ [])) → IsLeastSlot wanted c p (slot ∷ []) slot
 least-one wanted c p slot enough = record {

@@ -1,4 +1,4 @@
--- What loops over needs and places show of them.
+-- What loops over needs and places show.
 use Rattle.std.proofs.Common.{ap, arith, drop, get_or, length, List, map, subst, sym, ℕ, [], ◌+◌}
 use Rattle.std.proofs.{Common.{◌<◌, ◌∙◌, ◌∷◌, ◌≡◌, ◌≤◌}, lemmas.List.drop_all}
 use Rattle.std.specs.Prelude.{slice_range}
@@ -22,7 +22,7 @@ unfolding AreNeedsOfClass
 class-more class needs i need within is same on rest =
     on (subst (AreNeedsOfClass class) (sym (next_need needs i need within is)) (same, rest))
 
--- where the loop has reached the end, all frames are of the class
+-- once the loop has reached the end, all frames are of the class
 pub class-all : (class : ClassFields) (needs : List Need) (i : ℕ) (d : Need) → 0 < length needs
     → length needs ≤ i → class ≡ class_of (get_or needs 0 d).header
     → (AreNeedsOfClass class (drop i needs) → AreNeedsOfClass class needs)
@@ -50,7 +50,7 @@ fit-next window before free next area part i need within is own room gives on re
       subst (λ n. AllFit window n (map own_frame (drop (i + 1) part))) after rest,
     ))
 
--- where the loop has reached the end, all frames fit
+-- once the loop has reached the end, all frames fit
 pub fit-all : (window before free : ℕ) (part : List Need) (i : ℕ) → before ≤ window
     → length part ≤ i
     → (AllFit window free (map own_frame (drop i part)) → AllFit window before (map own_frame part))
@@ -61,7 +61,7 @@ fit-all window before free part i most all on =
     (on (subst (λ l. AllFit window free (map own_frame l)) (sym (drop_all i part all)) tt))
 
 -- ---- frames of one class that fit
--- frames of one class that fit behind free bytes fit there by their own window
+-- frames of one class that fit after free bytes fit there with their own window
 pub behind-free : (class : ClassFields) (needs : List Need) (d : Need) (window free : ℕ)
     → AreNeedsOfOneClass needs → class ≡ class_of (get_or needs 0 d).header
     → window ≡ window_of class.version → free ≤ window → FitsBehind window free needs
@@ -73,7 +73,7 @@ behind-free class needs d window free all is gives within fits = record {
   fits = subst (λ n. FitsBehind n free needs) gives fits;
 }
 
--- and so do they behind a whole window
+-- frames of one class that fit after free bytes fit after a whole window
 pub behind-window : (free : ℕ) (needs : List Need) → FitBehindFree free needs
     → FitBehindWindow needs
 behind-window free needs fit = record {
@@ -83,7 +83,7 @@ behind-window free needs fit = record {
       (window_of fit.class.version) needs fit.within fit.fits;
 }
 
--- they can join others that leave no more than these bytes
+-- frames that fit after free bytes can join others that leave at most these bytes
 pub joins-window : (free other : ℕ) (needs : List Need) → 0 < length needs
     → FitBehindFree free needs → other ≤ free → CanJoinBehind other needs
 joins-window free other needs some fit less = record {
@@ -96,7 +96,7 @@ joins-window free other needs some fit less = record {
 }
 
 -- ---- parts that fit
--- one more part fits behind a whole window
+-- one more part fits after a whole window
 pub parts-fit : (window : ℕ) (needs : List Need) (parts : List ℕ) (at from end : ℕ)
     → at < length parts → from ≡ get_or parts at 0
     → (at + 1 < length parts → end ≡ get_or parts (at + 1) 0)
@@ -111,7 +111,7 @@ parts-fit window needs parts at from end within is next last here on rest =
     on (subst (ArePartsFeasible window)
     (sym (parts-cons needs parts at from end within is next last)) (here, rest))
 
--- where the loop has reached the end, all parts fit
+-- once the loop has reached the end, all parts fit
 pub parts-fit-all : (window : ℕ) (needs : List Need) (parts : List ℕ) (at : ℕ) → length parts ≤ at
     → (ArePartsFeasible window (needs_in_parts needs (drop at parts))
     → ArePartsFeasible window (needs_in_parts needs parts))

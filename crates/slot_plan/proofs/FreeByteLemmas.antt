@@ -1,5 +1,5 @@
--- Frames in their own slots fit behind some free bytes exactly where these are at
--- least what they need, and what they leave is what is free after the last of them.
+-- Frames in their own slots fit after some free bytes exactly if these are at least what
+-- the frames need, and what the frames leave is what is free after the last of them.
 use Rattle.std.proofs.Common.{ap, ap₂, arith, drop, get_or, length, List, map, refl, subst, sym}
 use Rattle.std.proofs.Common.{zero, ℕ, [], ◌++◌, ◌+◌, ◌-◌, ◌<◌, ◌∙◌, ◌∷◌, ◌≡◌, ◌≤◌}
 use Rattle.std.{proofs.lemmas.List.{drop-map, drop_all, map-append}, specs.Prelude.◌↔◌}
@@ -24,17 +24,16 @@ use Rattle.slot_plan.specs.declared.needs.Need.{Need}
 abbrev pub own_slot : HeaderFields → List SlotFields
 own_slot h = h.slot ∷ []
 
--- ---- a layout behind free bytes
+-- ---- a layout after free bytes
 
--- frames have a layout behind so many bytes exactly
--- where they fit in as many, but no more than the window
+-- frames with a layout after free bytes fit in as many of these as a window holds
 pub fit-feasible : (window free : ℕ) (frames : List FrameLengths) → HasLayout window free frames
     → AllFit window (free - (free - window)) frames
 unfolding HasLayout
 fit-feasible window free frames (starts, layout) =
     fit-layout window 0 free (free - (free - window)) frames starts (omega arith) layout
 
--- frames that fit in as many of the free bytes as a window holds have a layout behind all of them
+-- frames that fit in as many of the free bytes as a window holds have a layout after all of them
 pub feasible-fit : (window free : ℕ) (frames : List FrameLengths)
     → AllFit window (free - (free - window)) frames → HasLayout window free frames
 unfolding HasLayout
@@ -43,35 +42,35 @@ feasible-fit window free frames fit = (
   layout-fit window 0 free (free - (free - window)) frames (omega arith) (omega arith) fit,
 )
 
--- up to the window these are the bytes themselves
+-- frames with a layout after at most a window of free bytes fit in these
 pub fit-within : (window free : ℕ) (frames : List FrameLengths) → free ≤ window
     → HasLayout window free frames → AllFit window free frames
 fit-within window free frames within feasible =
     let same : free - (free - window) ≡ free = omega arith in
     subst (λ n. AllFit window n frames) same (fit-feasible window free frames feasible)
 
--- frames that fit in free bytes within a window have a layout behind these
+-- frames that fit in at most a window of free bytes have a layout after these
 pub within-fit : (window free : ℕ) (frames : List FrameLengths) → free ≤ window
     → AllFit window free frames → HasLayout window free frames
 within-fit window free frames within fit =
     let same : free ≡ free - (free - window) = omega arith in
     feasible-fit window free frames (subst (λ n. AllFit window n frames) same fit)
 
--- with more bytes they have one too
+-- frames with a layout after free bytes have one after more
 pub feasible-more : (window free more : ℕ) (frames : List FrameLengths) → free ≤ more
     → HasLayout window free frames → HasLayout window more frames
 feasible-more window free more frames less feasible =
     feasible-fit window more frames (fit-more window (free - (free - window))
     (more - (more - window)) frames (omega arith) (fit-feasible window free frames feasible))
 
--- and so they fit behind more
+-- frames that fit after free bytes fit after more
 pub more-behind : (window free more : ℕ) (needs : List Need) → free ≤ more
     → FitsBehind window free needs → FitsBehind window more needs
 more-behind window free more needs less fits =
     feasible-more window free more (map own_frame needs) less fits
 
--- a frame and then others fit exactly where its main data have room in
--- the free bytes and its own area, and the others fit in what it leaves
+-- a frame and then others fit if its main data have room in the
+-- free bytes and its own area, and the others fit in what it leaves
 pub cons-fits : (window free : ℕ) (need : Need) (needs : List Need) → free ≤ window
     → need.bytes ≤ free + own_slot_area need
     → FitsBehind window (free_bytes_behind window free need.bytes (own_slot_area need)) needs
@@ -85,7 +84,7 @@ cons-fits window free need needs within room fits =
           (omega arith) fits,
     )
 
--- frames fit if the first does, and the others behind what it leaves
+-- if a frame and then others fit, the frame has room, and the others fit after what it leaves
 pub fits-cons : (window free : ℕ) (need : Need) (needs : List Need) → free ≤ window
     → FitsBehind window free (need ∷ needs) → (need.bytes ≤ free + own_slot_area need)
     × FitsBehind window (free_bytes_behind window free need.bytes (own_slot_area need)) needs
@@ -104,20 +103,20 @@ fits-cons window free need needs within fits =
 abbrev pub own_needed : List Need → ℕ
 own_needed needs = reserve_before (open_frames own_slot needs)
 
--- each frame has its own area to choose, and takes it
+-- a frame's own area is its choice
 pub chosen-own : (needs : List Need)
     → AreChosenAreas (open_frames own_slot needs) (map (area_by_header own_area_of) needs)
 unfolding AreChosenAreas
 chosen-own [] = tt
 chosen-own (need ∷ needs) = ((zero, omega arith, refl), chosen-own needs)
 
--- frames need what the others need and their first, less the area of the first
+-- frames need the first one's bytes and what the others need, less the area of the first
 pub own-cons : (need : Need) (needs : List Need)
     → own_needed (need ∷ needs) ≡ (need.bytes + own_needed needs) - own_slot_area need
 unfolding reserve_before
 own-cons need needs = omega (arith, greatest-one (own_slot_area need))
 
--- where what they need is free they fit
+-- frames fit if what they need is free
 pub fit-own : (window free : ℕ) (needs : List Need) → own_needed needs ≤ free
     → AreReservesInWindow window (open_frames own_slot needs)
     → AllFit window free (map own_frame needs)
@@ -131,14 +130,14 @@ fit-own window free (need ∷ needs) enough within =
           (omega (arith, here, enough, behind)) within.1,
     )
 
--- no more is needed from any frame on than the window
+-- from any frame on at most the window is needed
 pub own-from : (window free k : ℕ) (needs : List Need) → FitsBehind window free needs
     → (own_needed (drop k needs) ≤ window)
     × AreReservesInWindow window (open_frames own_slot (drop k needs))
 own-from window free k needs fits =
     needed-from window free k own_slot own_area_of needs fits (chosen-own (drop k needs))
 
--- What they need is the least number of bytes behind which they fit.
+-- What frames need is the least number of bytes after which they fit.
 pub own-wanted : (window free : ℕ) (needs : List Need) → FitsBehind window free needs
     → IsLeastWanted window needs (own_needed needs)
 own-wanted window free needs fits =
@@ -155,7 +154,7 @@ pub nothing-fits : (window free : ℕ) → FitsBehind window free []
 unfolding HasLayout IsDataLayout
 nothing-fits window free = ([], tt)
 
--- Frames fit behind exactly the bytes that are at least what they want.
+-- Frames fit after exactly the numbers of bytes that are at least what they want.
 pub fits-wanted : (window free wanted : ℕ) (needs : List Need) → IsLeastWanted window needs wanted
     → FitsBehind window free needs ↔ (wanted ≤ free)
 fits-wanted window free wanted needs is =
@@ -169,7 +168,7 @@ left_after window free [] = free
 left_after window free (frame ∷ frames) =
     left_after window (free_bytes_behind window free frame.bytes frame.area) frames
 
--- it is at most the window
+-- at most the window is free after frames
 pub left-within : (window free : ℕ) (frames : List FrameLengths) → free ≤ window
     → left_after window free frames ≤ window
 unfolding left_after
@@ -177,7 +176,7 @@ left-within window free [] within = within
 left-within window free (frame ∷ frames) within =
     left-within window (free_bytes_behind window free frame.bytes frame.area) frames (omega arith)
 
--- after more frames it goes on
+-- what is free after frames and then others is what is free after the others, from the first on
 pub left-append : (window free : ℕ) (xs ys : List FrameLengths)
     → left_after window free (xs ++ ys) ≡ left_after window (left_after window free xs) ys
 unfolding left_after
@@ -185,7 +184,7 @@ left-append window free [] ys = refl
 left-append window free (x ∷ xs) ys =
     left-append window (free_bytes_behind window free x.bytes x.area) xs ys
 
--- frames and then others fit exactly where the first fit, and the others in what is free after them
+-- if frames fit, and others in what is free after them, all of them fit
 pub append-fit : (window free : ℕ) (xs ys : List FrameLengths) → AllFit window free xs
     → AllFit window (left_after window free xs) ys → AllFit window free (xs ++ ys)
 unfolding AllFit left_after
@@ -193,7 +192,7 @@ append-fit window free [] ys first second = second
 append-fit window free (x ∷ xs) ys first second =
     (first.0, append-fit window (free_bytes_behind window free x.bytes x.area) xs ys first.1 second)
 
--- if frames and then others fit, so do the first, and the others behind what these leave
+-- if frames and then others fit, so do the first, and the others after what these leave
 pub fit-append : (window free : ℕ) (xs ys : List FrameLengths) → AllFit window free (xs ++ ys)
     → AllFit window free xs × AllFit window (left_after window free xs) ys
 unfolding AllFit left_after
@@ -202,7 +201,7 @@ fit-append window free (x ∷ xs) ys all =
     let rest = fit-append window (free_bytes_behind window free x.bytes x.area) xs ys all.1 in
     ((all.0, rest.0), rest.1)
 
--- what is free after them is what a frame without an area can have before it
+-- a frame without an area fits if its main data are at most the free bytes
 before-fits : (window left bytes : ℕ) → bytes ≤ left
     → AllFit window left (frame_without_area bytes ∷ [])
 unfolding AllFit
@@ -213,7 +212,7 @@ fits-before : (window left bytes : ℕ) → AllFit window left (frame_without_ar
 unfolding AllFit
 fits-before window left bytes fit = omega (arith, fit.0)
 
--- frames that leave something fit
+-- frames that leave bytes fit, and leave at most what is free after them
 pub leaves-fit : (window free left : ℕ) (needs : List Need) → free ≤ window
     → LeavesFree window free needs left
     → FitsBehind window free needs × (left ≤ left_after window free (map own_frame needs))
@@ -225,7 +224,7 @@ leaves-fit window free left needs within leaves =
       fits-before window (left_after window free frames) left fit.1,
     )
 
--- What is free after them is the most that they leave.
+-- What is free after frames is the most that they leave.
 pub own-left : (window free : ℕ) (needs : List Need) → free ≤ window → FitsBehind window free needs
     → IsMostLeft window free needs (left_after window free (map own_frame needs))
 own-left window free needs within fits =
@@ -239,7 +238,7 @@ own-left window free needs within fits =
       greatest = λ other most leaves. (leaves-fit window free other needs within leaves).1;
     }
 
--- there is only one such number
+-- there is only one greatest number of bytes that frames leave
 pub one-left : (window free m n : ℕ) (needs : List Need) → IsMostLeft window free needs m
     → IsMostLeft window free needs n → m ≡ n
 one-left window free m n needs first second =
@@ -247,14 +246,14 @@ one-left window free m n needs first second =
     let more = first.greatest n second.within second.leaves in
     omega arith
 
--- what is left after frames that fit is the only number that they leave
+-- the most that frames leave is what is free after them
 pub left-value : (window free left : ℕ) (needs : List Need) → free ≤ window
     → IsMostLeft window free needs left → left ≡ left_after window free (map own_frame needs)
 left-value window free left needs within is =
     one-left window free left (left_after window free (map own_frame needs)) needs is
     (own-left window free needs within (leaves-fit window free left needs within is.leaves).0)
 
--- frames that begin with a frame leave what the others leave behind what it leaves
+-- a frame and then others leave what the others leave after what the frame leaves
 pub left-cons : (window free left : ℕ) (need : Need) (needs : List Need) → free ≤ window
     → need.bytes ≤ free + own_slot_area need
     → IsMostLeft window (free_bytes_behind window free need.bytes (own_slot_area need)) needs left
@@ -271,7 +270,7 @@ left-cons window free left need needs within room is =
 
 -- ---- frames and then others
 
--- if all fit, so do the first
+-- if frames and then others fit, so do the first
 pub fits-front : (window free : ℕ) (first others : List Need)
     → FitsBehind window free (first ++ others) → FitsBehind window free first
 fits-front window free first others fits =
@@ -286,7 +285,7 @@ module _ (window free mid : ℕ) (first others : List Need) (within : free ≤ w
   mid-is : mid ≡ left_after window free (map own_frame first)
   mid-is = left-value window free mid first within is
 
-  -- Behind what the first leave, the others fit exactly where all fit.
+  -- If all fit, the others fit after what the first leave.
   pub fits-then : FitsBehind window free (first ++ others) → FitsBehind window mid others
   fits-then fits =
       let fit = subst (AllFit window free) (map-append own_frame first others)
@@ -295,7 +294,7 @@ module _ (window free mid : ℕ) (first others : List Need) (within : free ≤ w
       within-fit window mid (map own_frame others)
       is.within (subst (λ n. AllFit window n (map own_frame others)) (sym mid-is) behind)
 
-  -- others that fit behind what the first leave fit behind the first
+  -- if the others fit after what the first leave, all fit
   pub then-fits : FitsBehind window mid others → FitsBehind window free (first ++ others)
   then-fits fits =
       let before = fit-within window free (map own_frame first) within
@@ -306,7 +305,7 @@ module _ (window free mid : ℕ) (first others : List Need) (within : free ≤ w
       (subst (AllFit window free) (sym (map-append own_frame first others))
       (append-fit window free (map own_frame first) (map own_frame others) before behind))
 
-  -- What all leave is what the others leave behind that.
+  -- what is free after all is what is free after the others, from the first on
   left-both : left_after window free (map own_frame (first ++ others))
       ≡ left_after window mid (map own_frame others)
   left-both =
@@ -314,7 +313,7 @@ module _ (window free mid : ℕ) (first others : List Need) (within : free ≤ w
       ∙ left-append window free (map own_frame first) (map own_frame others)
       ∙ ap (λ n. left_after window n (map own_frame others)) (sym mid-is)
 
-  -- what both leave is what the others leave behind what the first leave
+  -- what all leave is what the others leave after what the first leave
   pub left-then : (left : ℕ) → IsMostLeft window free (first ++ others) left
       → IsMostLeft window mid others left
   left-then left all =
@@ -323,7 +322,7 @@ module _ (window free mid : ℕ) (first others : List Need) (within : free ≤ w
       (sym (left-value window free left (first ++ others) within all ∙ left-both))
       (own-left window mid others is.within fits)
 
-  -- and what the others leave there is what both leave
+  -- what the others leave after what the first leave is what all leave
   pub then-left : (left : ℕ) → IsMostLeft window mid others left
       → IsMostLeft window free (first ++ others) left
   then-left left behind =
@@ -334,14 +333,14 @@ module _ (window free mid : ℕ) (first others : List Need) (within : free ≤ w
 
 -- ---- from frame to frame
 
--- some of the frames fit behind a whole window
+-- the frames from each place on fit after a whole window
 pub fits-drop : (window free k : ℕ) (needs : List Need) → FitsBehind window free needs
     → FitsBehind window window (drop k needs)
 fits-drop window free k needs fits =
     within-fit window window (map own_frame (drop k needs)) (omega arith) (subst (AllFit window
     window) (drop-map own_frame k needs) (fit-after window free k (map own_frame needs) fits))
 
--- where frames are of two classes, these have one window, or there are no frames
+-- frames that fit in the window of one class that they have fit in the window of another
 pub fits-in : (c d : ClassFields) (needs : List Need) (free : ℕ → ℕ) → AreNeedsOfClass c needs
     → AreNeedsOfClass d needs → FitsBehind (window_of c.version) (free (window_of c.version)) needs
     → FitsBehind (window_of d.version) (free (window_of d.version)) needs
@@ -351,7 +350,7 @@ fits-in c d [] free first second fits =
 fits-in c d (need ∷ needs) free first second fits = subst (λ (k : ClassFields). FitsBehind
     (window_of k.version) (free (window_of k.version)) (need ∷ needs)) (sym first.0 ∙ second.0) fits
 
--- the window of a frame that is read is that of all
+-- the window of a frame that the code reads is the window of all
 pub window-read : (class own : ClassFields) (needs : List Need) (i window : ℕ) (need : Need)
     → AreNeedsOfClass class needs → i < length needs → need ≡ get_or needs i need
     → own ≡ class_of need.header → window ≡ window_of own.version → window ≡ window_of class.version
@@ -364,7 +363,7 @@ window-most One = omega arith
 window-most Two = omega arith
 window-most TwoFive = omega arith
 
--- after the last frame nothing is wanted, and one place farther back is the next frame
+-- after the last frame nothing is wanted
 pub wanted-none : (needs : List Need) → 0 ≡ own_needed (drop (length needs) needs)
 wanted-none needs =
     sym (ap own_needed (drop_all (length needs) needs (omega arith)) ∙ nothing_needed own_slot)
@@ -376,7 +375,7 @@ wanted-before needs at wanted some is =
     let next : at ≡ at - 1 + 1 = omega arith in
     subst (λ k. wanted ≡ own_needed (drop k needs)) next is
 
--- at the first frame what is wanted from it on is wanted by all
+-- at the first frame what is wanted from it on is what all want
 pub wanted-all : (window : ℕ) (needs : List Need) (at wanted : ℕ) → at ≡ 0
     → FitsBehind window window needs → wanted ≡ own_needed (drop at needs)
     → IsLeastWanted window needs wanted
@@ -386,29 +385,29 @@ wanted-all window needs at wanted none fits is =
 
 module _ (window : ℕ) (needs : List Need) (i : ℕ) (need : Need) (within : i < length needs)
     (is : need ≡ get_or needs i need) where
-  -- what frames want from one on
+  -- what the frames from one on want
   pub wanted-next : (after area : ℕ) → after ≡ own_needed (drop (i + 1) needs)
       → area ≡ own_slot_area need → own_needed (drop i needs) ≡ (need.bytes + after) - area
   wanted-next after area same own =
       ap own_needed (next_need needs i need within is) ∙ own-cons need (drop (i + 1) needs)
       ∙ ap₂ (λ m n. (need.bytes + m) - n) (sym same) (sym own)
 
-  -- where frames fit, a frame and what is wanted after it have room in its area and a window
+  -- if frames fit, a frame and what is wanted after it have room in its area and a window
   pub wanted-most : (free after area : ℕ) → FitsBehind window free needs → after
       ≡ own_needed (drop (i + 1) needs) → area ≡ own_slot_area need
       → need.bytes + after ≤ window + area
   wanted-most free after area fits same own =
       omega (arith, wanted-next after area same own, (own-from window free i needs fits).0)
 
--- So many bytes are left before the frame at i, behind which it
--- and the others fit. What is free after them is left by all.
+-- `left` bytes are left before the frame at i, after which it and the
+-- others fit, and what is free after these is what is free after all.
 pub record LeavesFrom (window free : ℕ) (needs : List Need) (i left : ℕ) : Type 0 where
   pub within : left ≤ window
   pub fits : FitsBehind window left (drop i needs)
   pub same : left_after window left (map own_frame (drop i needs))
       ≡ left_after window free (map own_frame needs)
 
--- with the window of each class that the frames have
+-- the bytes left before the frame at i, for the window of each class that the frames have
 abbrev pub LeavesIn : ℕ → List Need → ℕ → ℕ → Type 0
 LeavesIn free needs i left =
     (c : ClassFields) → AreNeedsOfClass c needs → free ≤ window_of c.version
@@ -429,7 +428,7 @@ module _ (window free : ℕ) (needs : List Need) (i : ℕ) (need : Need) (left a
       let here = subst (FitsBehind window left) (next_need needs i need within is) from.fits in
       omega (arith, own, (fits-cons window left need (drop (i + 1) needs) from.within here).0)
 
-  -- what is left behind it is left before the next one
+  -- what is left after the frame is left before the next one
   pub leaves-more : (next : ℕ) → next ≡ free_bytes_behind window left need.bytes area
       → LeavesFrom window free needs (i + 1) next
   unfolding left_after
@@ -447,7 +446,7 @@ module _ (window free : ℕ) (needs : List Need) (i : ℕ) (need : Need) (left a
             ∙ from.same;
       }
 
--- after the last frame what is left is what all of them leave
+-- after the last frame what is left is what all frames leave
 pub leaves-all : (window free : ℕ) (needs : List Need) (i left : ℕ) → length needs ≤ i
     → free ≤ window → FitsBehind window free needs → LeavesFrom window free needs i left
     → IsMostLeft window free needs left
@@ -459,7 +458,7 @@ leaves-all window free needs i left all within fits from =
 
 -- ---- the laws
 
--- others fit behind frames exactly where they fit behind what these leave
+-- others fit after frames exactly if they fit after what these leave
 pub behind-left : FitsBehindWhatIsLeft
 behind-left = λ window free first others within some. (
   (λ fits. (
@@ -475,13 +474,13 @@ behind-left = λ window free first others within some. (
       (own_needed others) left others (parts.1 left (own_needed others) is wants) wants.fits)),
 )
 
--- what frames and then others leave is what the others leave behind what the first leave
+-- what frames and then others leave is what the others leave after what the first leave
 pub left-on : LeavesGoOn
 left-on = λ window free mid left first others within is. (
   left-then window free mid first others within is left,
   then-left window free mid first others within is left,
 )
 
--- frames fit behind exactly the bytes that are at least what they want
+-- frames fit after exactly the numbers of bytes that are at least what they want
 pub where-wanted : FitsWhereWanted
 where-wanted = λ window free wanted needs is. fits-wanted window free wanted needs is

@@ -18,7 +18,7 @@ use Rattle.slot_plan.specs.declared.needs.Need.{Need}
 
 -- ---- the lead-in
 
--- Its slot is the least whose area has what the frames want.
+-- The slot of the lead-in is the least whose area has what the frames want.
 pub lead-slot : (window wanted : ℕ) (class : ClassFields) (needs : List Need) (slot : SlotFields)
     → IsLeastWanted window needs wanted → IsLeastSlot wanted class false all_slots slot
     → IsLeadInSlot window class needs slot
@@ -44,8 +44,8 @@ lead-header window first needs slot header is gives =
 
 module _ (window free wanted : ℕ) (first : Need) (needs : List Need) (slot : SlotFields)
     (within : free ≤ window) where
-  -- With its first frame in a slot, a list fits where what
-  -- the others want and the main data of the first have room.
+  -- with its first frame in a slot, a list fits if the first
+  -- frame's main data and what the others want have room
   pub slot-fits : wanted ≤ window → IsLeastWanted window needs wanted → first.bytes + wanted
       ≤ free + own_slot_area (need_in_slot slot first)
       → FitsBehind window free (need_in_slot slot first ∷ needs)
@@ -55,7 +55,8 @@ module _ (window free wanted : ℕ) (first : Need) (needs : List Need) (slot : S
       (free_bytes_behind window free first.bytes (own_slot_area (need_in_slot slot first)))
       needs (omega (arith, room, most)) is.fits)
 
-  -- a list with its first frame in a slot fits where that frame and what the others want have room
+  -- if a list fits with its first frame in a slot, that
+  -- frame's main data and what the others want have room
   pub fits-slot : IsLeastWanted window needs wanted
       → FitsBehind window free (need_in_slot slot first ∷ needs)
       → first.bytes + wanted ≤ free + own_slot_area (need_in_slot slot first)
@@ -69,7 +70,7 @@ module _ (window free wanted : ℕ) (first : Need) (needs : List Need) (slot : S
 module _ (window free wanted area : ℕ) (first : Need) (needs : List Need) (within : free ≤ window)
     (most : wanted ≤ window) (is : IsLeastWanted window needs wanted)
     (gives : area ≡ max ((first.bytes + wanted) - free) (own_slot_area first)) where
-  -- the area of a slot in which the first can join
+  -- a slot in which the frames join has at least this area
   pub joins-area : (slot : SlotFields) → JoinsInSlot window free first needs slot
       → area ≤ own_slot_area (need_in_slot slot first)
   joins-area slot joins =
@@ -82,7 +83,7 @@ module _ (window free wanted area : ℕ) (first : Need) (needs : List Need) (wit
         joins.not_less,
       )
 
-  -- in a slot with so large an area the frames join
+  -- frames join in a slot with at least this area
   pub area-joins : (slot : SlotFields) → Contains all_slots slot
       → area ≤ own_slot_area (need_in_slot slot first) → JoinsInSlot window free first needs slot
   area-joins slot has enough =
@@ -94,7 +95,7 @@ module _ (window free wanted area : ℕ) (first : Need) (needs : List Need) (wit
             (omega (arith, gives, is_max, enough));
       }
 
-  -- It joins in the least slot with such an area, if there is one.
+  -- The frames join in the least slot with such an area, if there is one.
   pub least-joins : (slot : SlotFields)
       → IsLeastSlot area (class_of first.header) first.header.protected all_slots slot
       → IsJoinSlot window free (first ∷ needs) (Some slot)
@@ -104,7 +105,7 @@ module _ (window free wanted area : ℕ) (first : Need) (needs : List Need) (wit
     least = λ other joins. least.least other joins.chosen (joins-area other joins);
   }
 
-  -- if no slot has so large an area they don't
+  -- frames join in no slot if none has so large an area
   pub none-joins : greatest_number
       (slot_areas (class_of first.header) first.header.protected all_slots)
       < area → IsJoinSlot window free (first ∷ needs) None
@@ -118,7 +119,7 @@ module _ (window free wanted area : ℕ) (first : Need) (needs : List Need) (wit
 
 -- ---- what the calls ask for
 
--- all slots ascend
+-- the areas of all slots ascend
 pub rising-all : (class : ClassFields) (protected : Bool) (slots : List SlotFields)
     → slots ≡ all_slots → AllPairs (λ m n. m < n) (areas_of class protected)
     → AreRisingSlots class protected slots
@@ -127,7 +128,7 @@ rising-all class protected slots all ascend = record {
   ascending = class-ascend class class protected slots all refl ascend;
 }
 
--- a lead-in of some slot has what frames want that fit behind a whole window
+-- a lead-in of some slot has what frames that fit after a whole window want
 pub lead-enough : (class : ClassFields) (wanted : ℕ) (needs : List Need) (slots : List SlotFields)
     → IsClass class → slots ≡ all_slots
     → FitsBehind (window_of class.version) (window_of class.version) needs
@@ -138,7 +139,7 @@ lead-enough class wanted needs slots known all fits is =
     let spans = leads-span class (window_of class.version) (window-spanned class known) in
     omega (arith, most, spans, ap (λ l. greatest_number (slot_areas class false l)) all)
 
--- the least slot is the same of equal classes and lists
+-- the least slot is the same for equal classes and lists
 pub least-in : (m n : ℕ) (c d : ClassFields) (p q : Bool) (xs ys : List SlotFields)
     (slot : SlotFields) → m ≡ n → c ≡ d → p ≡ q → xs ≡ ys → IsLeastSlot m c p xs slot
     → IsLeastSlot n d q ys slot
@@ -147,7 +148,7 @@ least-in m n c d p q xs ys slot same_wanted same_class same_protected same_slots
     (subst (λ k. IsLeastSlot m k q ys slot) same_class (subst (λ k. IsLeastSlot m c k ys slot)
     same_protected (subst (λ k. IsLeastSlot m c p k slot) same_slots least)))
 
--- so is the greatest area
+-- the greatest area is the same for equal classes and lists
 pub greatest-in : (c d : ClassFields) (p q : Bool) (xs ys : List SlotFields) → c ≡ d → p ≡ q
     → xs ≡ ys → greatest_number (slot_areas c p xs) ≡ greatest_number (slot_areas d q ys)
 greatest-in c d p q xs ys same_class same_protected same_slots =
@@ -163,7 +164,7 @@ others_of needs = take (length needs - 1) (drop 1 needs)
 pub others-are : (needs : List Need) → others_of needs ≡ drop 1 needs
 others-are needs = take_all (length needs - 1) (drop 1 needs) (omega (arith, length-drop 1 needs))
 
--- the other frames of a list that can join fit behind a whole window
+-- the other frames of a list that can join fit after a whole window
 pub others-fit : (free : ℕ) (needs : List Need) → CanJoinBehind free needs
     → FitBehindWindow (others_of needs)
 others-fit free needs can = record {
@@ -215,15 +216,15 @@ first-of class free wanted first needs can same is gives =
     }
 
 module _ (window free wanted area : ℕ) (first : Need) (needs : List Need) where
-  -- in its own area and two windows the first frame has room with what the others want
+  -- in its own area and two windows the first frame has room together with what the others want
   pub first-room : FirstOf window free wanted first needs → area ≡ own_slot_area first
       → first.bytes + wanted ≤ 2 * window + area
   first-room of own =
       let room = (fits-cons window window first (drop 1 needs) (omega arith) of.fits).0 in
       omega (arith, room, of.most, own)
 
-  -- the least slot with what is missing, but no less
-  -- than its own area, is that in which frames join
+  -- the least slot with what is missing, but not less than
+  -- the first frame's own, is the slot in which frames join
   pub first-joins : (slot : SlotFields) → FirstOf window free wanted first needs
       → area ≡ max ((first.bytes + wanted) - free) (own_slot_area first)
       → IsLeastSlot area (class_of first.header) first.header.protected all_slots slot
@@ -233,7 +234,7 @@ module _ (window free wanted area : ℕ) (first : Need) (needs : List Need) wher
       (least-joins window free wanted
       area first (drop 1 needs) of.within of.most of.wants gives slot least)
 
-  -- if no slot has so much, they don't join
+  -- frames join in no slot if none has what is missing
   pub first-none : FirstOf window free wanted first needs
       → area ≡ max ((first.bytes + wanted) - free) (own_slot_area first)
       → greatest_number (slot_areas (class_of first.header) first.header.protected all_slots) < area
@@ -245,7 +246,7 @@ module _ (window free wanted area : ℕ) (first : Need) (needs : List Need) wher
 
 -- ---- the lead-in of frames
 
--- the least slot with what frames want is that of their lead-in
+-- the least slot with what frames want is the slot of their lead-in
 pub lead-of : (class : ClassFields) (wanted : ℕ) (first : Need) (needs : List Need)
     (slot : SlotFields) (header : HeaderFields) → FitBehindWindow needs → 0 < length needs
     → AreNeedsOfClass class needs → first ≡ get_or needs 0 first → ((k : ClassFields)

@@ -15,7 +15,7 @@ use Rattle.slot_plan.specs.Parts.{IsLeadIn, lead_in_item, open_frame, part_items
 use Rattle.slot_plan.specs.Reserve.{AreReservesInWindow, free_bytes_behind, greatest_number}
 use Rattle.slot_plan.specs.{Reserve.{open_frames, reserve_before}, declared.needs.Need.Need}
 
--- ---- where some choice fits, there is a least one
+-- ---- if some choice fits, there is a least one
 contains-cons : (m : ℕ) (ns : List ℕ) (n : ℕ) → Contains (m ∷ ns) n → (m ≡ n) ⊎ Contains ns n
 contains-cons m ns n (zero, within, at) = inl at
 contains-cons m ns n (suc i, within, at) = inr (i, omega arith, at)
@@ -23,7 +23,7 @@ contains-cons m ns n (suc i, within, at) = inr (i, omega arith, at)
 behind : (m n : ℕ) (ns : List ℕ) → Contains ns n → Contains (m ∷ ns) n
 behind m n ns c = (suc c.0, omega (arith, c.1), c.2)
 
--- of a number and those of a list, the least that is large enough
+-- of a number and the numbers of a list, the least that is large enough
 record LeastOf (wanted first : ℕ) (ns : List ℕ) : Type 0 where
   least : ℕ
   is : (first ≡ least) ⊎ Contains ns least
@@ -114,7 +114,7 @@ unfolding AreChosenAreas
 chosen-tail o opens [] chosen = absurd chosen
 chosen-tail o opens (area ∷ rest) chosen = (rest, chosen.1)
 
--- the frames behind the first need no more than a window either
+-- the frames after the first need at most a window either
 pub within-tail : (window : ℕ) (o : OpenFrame) (opens : List OpenFrame)
     → AreReservesInWindow window (o ∷ opens)
     → (reserve_before opens ≤ window) × AreReservesInWindow window opens
@@ -156,7 +156,7 @@ unfolding AreChosenAreas CanBeLaid frames_with_areas
 with-slot window class slot opens rest least =
     (area_of class slot false ∷ rest, ((zero, omega arith, refl), least.chosen.1), least.feasible)
 
--- of one slot there is one area
+-- a slot has one area
 pub only-area : (class : ClassFields) (slot : SlotFields) (n : ℕ)
     → Contains (slot_areas class false (slot ∷ [])) n → area_of class slot false ≡ n
 only-area class slot n (zero, within, at) = at
@@ -227,7 +227,7 @@ module _ (window : ℕ) (choices : HeaderFields → List SlotFields) (first : Ne
             can.1 can.2),
       )
 
--- the same of every part that gets a lead-in
+-- the lead-in of every part that needs one is the first entry of the least list
 pub lead-first : LeadInsComeFirst
 lead-first = λ window choices first part slot never is.
     (lead-least window choices first part slot, least-lead window choices first part slot never is)

@@ -1,5 +1,5 @@
--- The first list of slots for which there is a layout
--- is the least, so the plan is that of the function.
+-- The first list of slots for which there is a layout is
+-- the least, so the plan is the value of the function.
 use Rattle.std.proofs.Common.{ap, ap₂, arith, Bool, cond, Contains, false, inl, inr, leb, List}
 use Rattle.std.proofs.Common.{lit≤, map, max, None, Option, refl, Some, subst, suc, sym, true, zero}
 use Rattle.std.proofs.Common.{ℕ, [], ◌&&◌, ◌+◌, ◌-◌, ◌<◌, ◌∙◌, ◌∷◌, ◌≡◌, ◌≤◌}
@@ -102,7 +102,7 @@ areas_by [] slots = []
 areas_by (item ∷ items) [] = []
 areas_by (item ∷ items) (slot ∷ slots) = item_area item slot ∷ areas_by items slots
 
--- it passes, and no list that passes comes before it
+-- the list passes, and no list that passes comes before it
 record IsFirst (items : List PlanItem) (test : List SlotFields → Bool)
     (slots : List SlotFields) : Type 0 where
   of : AreOf items slots
@@ -125,7 +125,7 @@ find-map test f (x ∷ xs) = at (test (f x)) (find-map test f xs)
     at true rest = refl
     at false rest = rest
 
--- the same of lists whose first slot is one of these
+-- of the lists whose first slot is one of these, the first that passes
 record IsFirstOf (item : PlanItem) (items : List PlanItem) (choices : List SlotFields)
     (test : List SlotFields → Bool) (slot : SlotFields) (slots : List SlotFields) : Type 0 where
   chosen : Contains choices slot
@@ -142,7 +142,7 @@ FindsOf item items choices test (Some []) = ⊥
 FindsOf item items choices test None = (s : SlotFields) (others : List SlotFields)
     → Contains choices s → AreOf items others → test (s ∷ others) ≡ true → ⊥
 
--- a slot behind another has a larger area
+-- a slot after another has a larger area
 pub area-later : (c : ClassFields) (p : Bool) (slot : SlotFields) (slots : List SlotFields)
     (other : SlotFields) → Ascend (slot_areas c p (slot ∷ slots)) → Contains slots other
     → area_of c slot p < area_of c other p
@@ -151,7 +151,7 @@ area-later c p slot slots other ascend is =
     omega
     (arith, ascend 0 (suc has.0) (area_of c other p) (omega arith) (omega (arith, has.1)), has.2)
 
--- what is behind the first of ascending numbers ascends
+-- what comes after the first of ascending numbers ascends
 pub ascend-behind : (n : ℕ) (ns : List ℕ) → Ascend (n ∷ ns) → Ascend ns
 ascend-behind n ns ascend =
     λ i j d before lt. ascend (suc i) (suc j) d (omega (arith, before)) (omega (arith, lt))
@@ -299,7 +299,7 @@ of-chosen (item ∷ items) [] of = absurd of
 of-chosen (item ∷ items) (slot ∷ slots) of =
     (Contains-area item.class item.protected item.choices slot of.0, of-chosen items slots of.1)
 
--- areas that were chosen are those of a list of slots
+-- the areas of a choice are the areas of a list of slots
 pub chosen-of : (items : List PlanItem) (areas : List ℕ)
     → AreChosenAreas (map open_frame items) areas
     → (slots : List SlotFields) × AreOf items slots × (areas_by items slots ≡ areas)
@@ -359,7 +359,7 @@ module _ (window : ℕ) (items : List PlanItem) where
       (subst (λ l. HasLayout window 0 (frames_with_areas (map open_frame items) l))
       (sym of.2) can.2))
 
-  -- if one is found, some choice can be laid
+  -- if a list is found, some choice can be laid
   pub list-can : AreOrdered items → (slots : List SlotFields) → first_list window items ≡ Some slots
       → CanBeLaid window (map open_frame items)
   unfolding CanBeLaid
@@ -376,7 +376,7 @@ module _ (window : ℕ) (items : List PlanItem) where
       at None is = absurd (no-list ordered is can)
       at (Some slots) is = (slots, is)
 
-  -- if none can be laid, none is found
+  -- if no choice can be laid, no list is found
   pub never-list : AreOrdered items → (CanBeLaid window (map open_frame items) → ⊥)
       → first_list window items ≡ None
   unfolding CanBeLaid
@@ -387,7 +387,7 @@ module _ (window : ℕ) (items : List PlanItem) where
       at None is = is
       at (Some slots) is = absurd (never (list-can ordered slots is))
 
--- ---- laid as early as may be, it is the plan of these items
+-- ---- with main data as early as they may be, it is the plan of these items
 
 laid-for : (window end before : ℕ) (items : List PlanItem) (slots : List SlotFields)
     → AreOf items slots → AreItemSlots items
@@ -428,7 +428,7 @@ laid-begins window end before (item ∷ items) (slot ∷ slots) of =
     ap (λ (l : List ℕ). (before - max end (before - window)) ∷ l) (laid-begins window
     (max end (before - window) + item.bytes) (before + item_area item slot) items slots of.1)
 
--- frames laid as early as can be have these slots and areas, and the earliest starts
+-- items with main data as early as they may be have these slots and areas, and the earliest starts
 pub laid-early : (window : ℕ) (items : List PlanItem) (slots : List SlotFields) → AreOf items slots
     → AreItemSlots items (earliest_placement window items slots)
     × (item_areas items (earliest_placement window items slots) ≡ areas_by items slots)
@@ -455,7 +455,7 @@ module _ (window : ℕ) (items : List PlanItem) (ordered : AreOrdered items) whe
         begins = laid.2;
       }
 
-  -- a plan is the one that is found
+  -- a plan is the plan that is found
   pub plan-found : (placed : List Placed) → IsPlanFor window items placed
       → least_placement window items ≡ Some placed
   unfolding CanBeLaid
@@ -546,7 +546,7 @@ module _ (window : ℕ) (choices : HeaderFields → List SlotFields) where
       let least = (lead-first window choices first part slot is.0 is.2).0 is in
       (area_of (class_of first.header) slot false ∷ least.0, least.1.chosen, least.1.feasible)
 
-  -- the first slot of the least list is that of the lead-in
+  -- the first slot of the least list is the slot of the lead-in
   first-lead : (first : Need) (part : List Need) (slots : List SlotFields)
       → (CanBeLaid window (map open_frame (map (need_item choices) (first ∷ part))) → ⊥)
       → AreOf (after_any first part) slots → IsLeastList window
@@ -639,7 +639,7 @@ module _ (window : ℕ) (choices : HeaderFields → List SlotFields) where
       sym (ap (λ o. unwrap_or o [])
       (plan-found window (led_items choices part) (ordered_led part all.0) placed plan))
 
--- parts of one class that have layouts have a plan, so it is the only one
+-- parts of one class that have layouts have a plan, which is the only one
 module _ (class : ClassFields) (choices : HeaderFields → List SlotFields) where
   abbrev window_is : ℕ
   window_is = window_of class.version
@@ -722,7 +722,7 @@ least-plan-is class choices parts placed same order feasible = (
       (plan-made class choices parts same order feasible)),
 )
 
--- so does one part after a lead-in
+-- one part after a lead-in has one led plan, which is the first of all lists with a layout
 pub led-plan-is : LedPlanIsLeast
 led-plan-is = λ class choices part placed same order feasible. (
   (λ plan. led-least (window_of class.version) choices part placed order plan),

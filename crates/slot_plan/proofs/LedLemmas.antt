@@ -1,4 +1,4 @@
--- A part that needs a lead-in has the same plan with one in front in any case.
+-- A part that needs a lead-in has the plan that it has with one in any case.
 use Rattle.std.proofs.Common.{arith, Contains, false, List, map, None, Option, refl, Some, subst}
 use Rattle.std.proofs.{Common.{zero, ℕ, [], ◌∷◌}, lemmas.List.append-nil}
 use Rattle.frame_header.specs.{Fields.{ClassFields, HeaderFields, SlotFields}, Slots.all_slots}
@@ -13,8 +13,8 @@ use Rattle.slot_plan.specs.Parts.{need_item, open_frame, part_items, PlanItem, s
 use Rattle.slot_plan.specs.Plans.{AreItemSlots, IsLedPlan, IsPlanFor, item_areas}
 use Rattle.slot_plan.specs.declared.needs.{Need.Need, Placed.Placed}
 
--- the least list after this lead-in is that after one
--- of any slot, if this has the first area of that
+-- the least list after this lead-in is the least list after one
+-- of any slot, if the latter begins with this lead-in's area
 one-first : (window : ℕ) (class : ClassFields) (slot : SlotFields) (opens : List OpenFrame)
     (rest areas : List ℕ) → Contains all_slots slot → IsLeastList window
     (open_frame (lead_in_item class all_slots) ∷ opens) (area_of class slot false ∷ rest)
@@ -77,7 +77,7 @@ module _ (window : ℕ) (choices : HeaderFields → List SlotFields) where
       of-lead part lead_in placed never alone.0 (subst (λ items. IsPlanFor window items placed)
       (append-nil (part_items choices part lead_in)) plan)
 
--- where a part needs a lead-in, its plan is the one with a lead-in in any case
+-- if a part needs a lead-in, its plan is its led plan
 pub led-needed : LedWhereNeeded
 led-needed = λ window choices part placed never plan. of-leads window choices part
     plan.lead_ins placed never plan.alone plan.whole

@@ -32,7 +32,7 @@ unfolding overhead_of
 overhead-side c true = omega arith
 overhead-side c false = omega arith
 
--- before the area are at most 38 bytes
+-- at most 38 bytes are before the area
 pub overhead-most : (c : ClassFields) (p : Bool) → overhead_of c p ≤ 38
 unfolding side_size_of
 overhead-most c p = omega (arith, overhead-side c p, side_most c.version c.channels)

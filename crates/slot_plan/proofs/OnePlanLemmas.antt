@@ -16,7 +16,7 @@ use Rattle.slot_plan.specs.declared.needs.{Need.Need, Placed.Placed}
 
 -- ---- there is one least list
 
--- two lists neither of which is behind the other are equal
+-- two lists neither of which comes after the other are equal
 pub equal_lists : (xs ys : List ℕ) → IsNotBehind xs ys → IsNotBehind ys xs → xs ≡ ys
 unfolding IsNotBehind
 equal_lists [] [] first second = refl
@@ -74,7 +74,7 @@ one_placed (item ∷ items) (p ∷ a) (q ∷ b) ordered first second areas begin
     (placed_same p q (first.0 ∙ sym second.0) slot begin)
     (one_placed items a b ordered.1 first.2 second.2 (ap (drop 1) areas) (ap (drop 1) begins))
 
--- frames with given lead-ins have one plan at most
+-- frames with given lead-ins have at most one plan
 pub one_plan_for : (window : ℕ) (items : List PlanItem) (a b : List Placed) → AreOrdered items
     → IsPlanFor window items a → IsPlanFor window items b → a ≡ b
 one_plan_for window items a b ordered first second =
@@ -87,7 +87,7 @@ one_plan_for window items a b ordered first second =
 
 -- ---- the lead-ins
 
--- the choices of a part, one need after the other
+-- the areas of the choices of each need in a part ascend
 abbrev pub AreInOrder : (HeaderFields → List SlotFields) → List Need → Type 0
 AreInOrder choices [] = Unit {0}
 AreInOrder choices (need ∷ needs) = ChoosesInOrder choices need × AreInOrder choices needs
@@ -98,7 +98,7 @@ in_order choices [] all = tt
 in_order choices (need ∷ needs) all =
     (all 0 need (omega arith), in_order choices needs (λ k d lt. all (suc k) d (omega (arith, lt))))
 
--- and of each part
+-- the areas of the choices ascend in each part
 abbrev pub AllInOrder : (HeaderFields → List SlotFields) → List (List Need) → Type 0
 AllInOrder choices [] = Unit {0}
 AllInOrder choices (part ∷ parts) = AreInOrder choices part × AllInOrder choices parts
@@ -116,7 +116,7 @@ all_in_order choices (part ∷ parts) all = (
 pub slots_ascend : (c : ClassFields) → IsClass c → Ascend (slot_areas c false all_slots)
 slots_ascend c class = lead-ascend c all_slots refl (areas-ascend c class false)
 
--- a part has one lead-in at most
+-- a part has at most one lead-in
 pub one_lead : (window : ℕ) (choices : HeaderFields → List SlotFields) (part : List Need)
     (x y : Option SlotFields) → AreInOrder choices part → IsLeadIn window choices part x
     → IsLeadIn window choices part y → x ≡ y
@@ -180,7 +180,7 @@ ordered_items choices (need ∷ part) (Some slot) order = (
   ordered_frames choices (need ∷ part) order,
 )
 
--- so do those of all parts with their lead-ins
+-- the areas of the choices of all parts with their lead-ins ascend
 pub ordered_whole : (choices : HeaderFields → List SlotFields) (parts : List (List Need))
     (lead_ins : List (Option SlotFields)) → AllInOrder choices parts
     → AreOrdered (all_items choices parts lead_ins)
@@ -191,7 +191,7 @@ ordered_whole choices (part ∷ parts) (lead_in ∷ lead_ins) order =
     ordered_append (part_items choices part lead_in) (all_items choices parts lead_ins)
     (ordered_items choices part lead_in order.0) (ordered_whole choices parts lead_ins order.1)
 
--- parts have one plan at most
+-- parts have at most one plan
 pub one-plan : (window : ℕ) (choices : HeaderFields → List SlotFields) (parts : List (List Need))
     (a b : List Placed) → PartsChooseInOrder choices parts → IsPlan window choices parts a
     → IsPlan window choices parts b → a ≡ b

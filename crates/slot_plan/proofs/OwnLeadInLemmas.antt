@@ -1,5 +1,5 @@
 -- The plan of one part whose frames keep their slots has a lead-in exactly
--- where they want something, in the least slot behind whose area they fit.
+-- if they want something, in the least slot after whose area they fit.
 use Rattle.std.proofs.Common.{arith, false, inl, inr, List, map, None, Option, Some, subst, ℕ, []}
 use Rattle.std.proofs.{Common.{◌∷◌, ◌≤◌}, lemmas.{Bool.cases_lt, List.append-nil}}
 use Rattle.frame_header.specs.{Fields.{ClassFields, SlotFields}, Tables.{area_of, class_of}}
@@ -17,9 +17,9 @@ use Rattle.slot_plan.specs.{Parts.{own_frame, part_items}, Plans.{AreItemSlots, 
 use Rattle.slot_plan.specs.Reserve.{area_by_header, open_frames, own_area_of}
 use Rattle.slot_plan.specs.declared.needs.{Need.Need, Placed.Placed}
 
--- ---- a layout of the part alone, and behind a lead-in
+-- ---- a layout of the part alone, and after a lead-in
 
--- frames in their own slots that can be laid fit behind no free bytes
+-- frames in their own slots that can be laid fit after no free bytes
 pub own-none : (window : ℕ) (needs : List Need) → CanBeLaid window (open_frames own_slot needs)
     → FitsBehind window 0 needs
 own-none window needs can =
@@ -27,7 +27,7 @@ own-none window needs can =
     within-fit window 0 (map own_frame needs) (omega arith)
     (fit-own window 0 needs (omega (arith, all.0)) all.1)
 
--- frames that fit behind no free bytes can be laid in their own slots
+-- frames that fit after no free bytes can be laid in their own slots
 pub none-own : (window : ℕ) (needs : List Need) → FitsBehind window 0 needs
     → CanBeLaid window (open_frames own_slot needs)
 none-own window needs fits =
@@ -120,7 +120,7 @@ with-leads window needs (lead_in ∷ lead_ins) placed alone plan =
     with-lead window needs lead_in placed alone.0 (subst (λ items. AreItemSlots items placed)
     (append-nil (part_items own_slot needs lead_in)) plan.slots)
 
--- the plan of frames in their own slots has a lead-in exactly where they want something
+-- the plan of frames in their own slots has a lead-in exactly if they want something
 pub lead-where-wanted : LeadInWhereWanted
 lead-where-wanted =
     λ window needs placed plan. with-leads window needs plan.lead_ins placed plan.alone plan.whole

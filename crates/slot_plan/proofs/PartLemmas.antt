@@ -27,7 +27,7 @@ next_need part i need lt is =
     drop-cons part i need lt ∙ ap (λ n. get_or part i need ∷ drop n part) one
     ∙ ap (λ n. n ∷ drop (i + 1) part) (sym is)
 
--- with an area each a part is the frames with these areas
+-- a part with an area for each frame is the frames with these areas
 pub frames-by : (choices : HeaderFields → List SlotFields) (area : HeaderFields → ℕ)
     (part : List Need)
     → frames_with_areas (open_frames choices part) (map (area_by_header area) part)
@@ -37,7 +37,7 @@ frames-by choices area [] = refl
 frames-by choices area (need ∷ part) =
     ap (λ l. frame_by_header area need ∷ l) (frames-by choices area part)
 
--- so from each frame on, no more is needed than the window
+-- if a part has a layout, no more is needed from any frame on than the window
 pub needed-from : (window before k : ℕ) (choices : HeaderFields → List SlotFields)
     (area : HeaderFields → ℕ) (part : List Need)
     → HasLayout window before (map (frame_by_header area) part)
@@ -53,7 +53,7 @@ needed-from window before k choices area part feasible chosen =
     (map (area_by_header area) (drop k part))
     (omega arith) chosen (subst (AllFit window window) same fit)
 
--- and before all of them no more than is before them
+-- if a part has a layout after some bytes, its frames need at most these
 pub needed-first : (window before : ℕ) (choices : HeaderFields → List SlotFields)
     (area : HeaderFields → ℕ) (part : List Need)
     → HasLayout window before (map (frame_by_header area) part)
@@ -69,14 +69,15 @@ needed-first window before choices area part feasible chosen =
     omega (arith, enough)
 
 -- ---- one frame more
--- one frame more in front adds what is needed after it
+-- one more frame at the front adds what is needed after it
 pub behind-cons : (choices : HeaderFields → List SlotFields) (need : Need) (part : List Need)
     → reserves_behind (open_frames choices (need ∷ part))
     ≡ reserves_behind (open_frames choices part) ++ reserve_before (open_frames choices part) ∷ []
 unfolding reserves_behind
 behind-cons choices need part = refl
 
--- and needs what the others need and its own bytes, less its largest area
+-- a part needs its first frame's bytes and what the
+-- others need, less the first frame's largest area
 pub needed-cons : (choices : HeaderFields → List SlotFields) (need : Need) (part : List Need)
     → reserve_before (open_frames choices (need ∷ part))
     ≡ (need.bytes + reserve_before (open_frames choices part))
@@ -84,7 +85,7 @@ pub needed-cons : (choices : HeaderFields → List SlotFields) (need : Need) (pa
 unfolding reserve_before
 needed-cons choices need part = refl
 
--- if all needs are within a window, so are those of the others
+-- if what all frames need is within a window, so is what the others need
 pub within-cons : (window : ℕ) (choices : HeaderFields → List SlotFields) (need : Need)
     (part : List Need) → AreReservesInWindow window (open_frames choices (need ∷ part))
     → (reserve_before (open_frames choices part) ≤ window)
@@ -92,7 +93,7 @@ pub within-cons : (window : ℕ) (choices : HeaderFields → List SlotFields) (n
 unfolding AreReservesInWindow
 within-cons window choices need part all = all
 
--- a frame whose area can be chosen, in front of others that are, makes all chosen
+-- a choice of areas for the other frames and one for the first is a choice for all
 pub chosen-cons : (choices : HeaderFields → List SlotFields) (area : HeaderFields → ℕ) (need : Need)
     (part : List Need) → Contains (open_frame (need_item choices need)).areas (area need.header)
     → AreChosenAreas (open_frames choices part) (map (area_by_header area) part)
@@ -100,7 +101,7 @@ pub chosen-cons : (choices : HeaderFields → List SlotFields) (area : HeaderFie
 unfolding AreChosenAreas
 chosen-cons choices area need part here behind = (here, behind)
 
--- no frames need nothing behind any
+-- no frames need nothing after any
 pub nothing_behind : (choices : HeaderFields → List SlotFields)
     → reserves_behind (open_frames choices []) ≡ []
 unfolding reserves_behind
@@ -112,7 +113,7 @@ pub nothing_needed : (choices : HeaderFields → List SlotFields)
 unfolding reserve_before
 nothing_needed choices = refl
 
--- and so no more than a window
+-- no frames need at most a window
 pub nothing_within : (window : ℕ) (choices : HeaderFields → List SlotFields)
     → AreReservesInWindow window (open_frames choices [])
 unfolding AreReservesInWindow
@@ -145,7 +146,7 @@ pub record ReservesFrom (window : ℕ) (choices : HeaderFields → List SlotFiel
 
 module _ (window : ℕ) (choices : HeaderFields → List SlotFields) (area : HeaderFields → ℕ)
     (part : List Need) where
-  -- behind the last frame nothing is needed
+  -- after the last frame nothing is needed
   pub reserves-none : ReservesFrom window choices area part (length part) [] 0
   reserves-none =
       let none : drop (length part) part ≡ [] = drop_all (length part) part (omega arith) in
@@ -162,7 +163,7 @@ module _ (window : ℕ) (choices : HeaderFields → List SlotFields) (area : Hea
             (nothing_chosen choices area);
       }
 
-  -- one frame earlier, what is needed is known of one frame more
+  -- one frame earlier, what is needed is known of one more frame
   pub reserves-more : (before i : ℕ) (behind : List ℕ) (after result : ℕ) (need : Need)
       → i < length part → need ≡ get_or part i need
       → HasLayout window before (map (frame_by_header area) part)
@@ -194,7 +195,7 @@ module _ (window : ℕ) (choices : HeaderFields → List SlotFields) (area : Hea
         chosen = chosen;
       }
 
-  -- at the first frame it is known of all
+  -- at the first frame, what is needed is known of all
   pub reserves-all : (i : ℕ) (reserves : Reserves) → i ≡ 0
       → ReservesFrom window choices area part i reserves.behind.items reserves.before
       → AreReserves window choices area part reserves
@@ -234,7 +235,8 @@ next-wanted choices part i need behind rest many last wanted within is all count
     popped behind rest last ns (reserve_before (open_frames choices left)) whole parts full in
     (gives ∙ ap (λ o. unwrap_or o 0) popping.0, popping.1)
 
--- the frames from i on need what those after it need and its own bytes, less its largest area
+-- the frames from i on need the first one's bytes and
+-- what those after it need, less its largest area
 pub next-needed : (choices : HeaderFields → List SlotFields) (part : List Need) (i : ℕ)
     (need : Need) → i < length part → need ≡ get_or part i need
     → reserve_before (open_frames choices (drop i part))
@@ -244,7 +246,7 @@ next-needed choices part i need within is =
     ap (λ l. reserve_before (open_frames choices l)) (next_need part i need within is)
     ∙ needed-cons choices need (drop (i + 1) part)
 
--- no more than a window is needed after the frame at i either
+-- after the frame at i at most a window is needed either
 pub next-within : (window : ℕ) (choices : HeaderFields → List SlotFields) (part : List Need) (i : ℕ)
     (need : Need) → i < length part → need ≡ get_or part i need
     → AreReservesInWindow window (open_frames choices (drop i part))
@@ -297,7 +299,7 @@ pub feasible-cons : (window : ℕ) (part : List Need) (parts : List (List Need))
 unfolding ArePartsFeasible
 feasible-cons window part parts all = all
 
--- the need at i is of the class of all
+-- the need at i is of the class of all needs
 pub class-at : (class : ClassFields) (needs : List Need) (i : ℕ) (d : Need)
     → AreNeedsOfClass class needs → i < length needs → class_of (get_or needs i d).header ≡ class
 unfolding AreNeedsOfClass
@@ -305,14 +307,14 @@ class-at class [] i d all within = absurd (omega arith)
 class-at class (need ∷ needs) zero d all within = all.0
 class-at class (need ∷ needs) (suc i) d all within = class-at class needs i d all.1 (omega arith)
 
--- so it is of a need that the code reads, and of some of the needs
+-- the class of all needs is the class of a need that the code reads
 pub same-class : (class : ClassFields) (needs : List Need) (i : ℕ) (need : Need)
     → AreNeedsOfClass class needs → i < length needs → need ≡ get_or needs i need
     → class ≡ class_of need.header
 same-class class needs i need all within is =
     sym (ap (λ n. class_of n.header) is ∙ class-at class needs i need all within)
 
--- and the area of a slot is that in the class of the need
+-- the area of a slot is the area in the class of the need
 pub area-in : (class : ClassFields) (needs : List Need) (i area : ℕ) (need opened : Need)
     (slot : SlotFields) → AreNeedsOfClass class needs → i < length needs
     → need ≡ get_or needs i need → opened ≡ need → area ≡ area_of class slot opened.header.protected
@@ -329,7 +331,7 @@ class-take class needs zero all = tt
 class-take class [] (suc k) all = tt
 class-take class (need ∷ needs) (suc k) all = (all.0, class-take class needs k all.1)
 
--- those behind them are too
+-- the needs after them are of the class
 pub class-drop : (class : ClassFields) (needs : List Need) (k : ℕ) → AreNeedsOfClass class needs
     → AreNeedsOfClass class (drop k needs)
 unfolding AreNeedsOfClass
@@ -337,13 +339,13 @@ class-drop class needs zero all = all
 class-drop class [] (suc k) all = all
 class-drop class (need ∷ needs) (suc k) all = class-drop class needs k all.1
 
--- so is any stretch of them
+-- any range of the needs is of the class
 pub class-range : (class : ClassFields) (needs : List Need) (from to : ℕ)
     → AreNeedsOfClass class needs → AreNeedsOfClass class (slice_range needs from to)
 class-range class needs from to all =
     class-take class (drop from needs) (to - from) (class-drop class needs from all)
 
--- needs of one class are of that of their first
+-- needs of one class are of the class of their first
 pub one-class : (class : ClassFields) (needs : List Need) (d : Need) → AreNeedsOfOneClass needs
     → class ≡ class_of (get_or needs 0 d).header → AreNeedsOfClass class needs
 unfolding AreNeedsOfClass
@@ -351,7 +353,7 @@ one-class class [] d all is = tt
 one-class class (first ∷ needs) d all is =
     (sym is, subst (λ c. AreNeedsOfClass c needs) (sym is) all)
 
--- the window of a need is that of the first
+-- the window of a need is the window of the first
 window-at : (needs : List Need) (i : ℕ) (d : Need) → AreNeedsOfOneClass needs → i < length needs
     → window_of (get_or needs i d).header.version ≡ window_in needs
 window-at [] i d all within = absurd (omega arith)
@@ -368,7 +370,7 @@ part-some needs from end some within = omega (
   length-drop from needs,
 )
 
--- the window of the first need is that of all
+-- the window of the first need is the window of all
 pub window-first : (needs : List Need) (d : Need) (class : ClassFields) (window : ℕ)
     → AreNeedsOfOneClass needs → 0 < length needs → class ≡ class_of (get_or needs 0 d).header
     → window ≡ window_of class.version → window ≡ window_in needs
@@ -419,7 +421,7 @@ placeable-own class lengths window part is spanned most some feasible =
           (map own_frame part) largest feasible;
     }
 
--- what the call over the part at this place is on
+-- the part at this place has frames and a layout, and the parts after it have one too
 pub part-ready : (needs : List Need) (parts : List ℕ) (at end window : ℕ)
     → AllPairs (λ m n. m < n) parts → All (λ place. place < length needs) parts → at < length parts
     → (at + 1 < length parts → end ≡ get_or parts (at + 1) 0)

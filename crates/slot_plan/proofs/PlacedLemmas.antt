@@ -80,28 +80,28 @@ plan-placed window items placed all =
 
 -- ---- the lead-in of a part
 
--- with a lead-in of one slot in front less is needed by its area
+-- with one lead-in at the front, the frames need less by its area
 pub lead-needed : (class : ClassFields) (slot : SlotFields) (opens : List OpenFrame)
     → reserve_before (open_frame (lead_in_item class (slot ∷ [])) ∷ opens)
     ≡ reserve_before opens - area_of class slot false
 unfolding reserve_before greatest_number
 lead-needed class slot opens = omega arith
 
--- with a lead-in in front no more than a window is needed anywhere
+-- with a lead-in at the front, at most a window is needed anywhere
 pub lead-within : (window : ℕ) (class : ClassFields) (slot : SlotFields) (opens : List OpenFrame)
     → reserve_before opens ≤ window → AreReservesInWindow window opens
     → AreReservesInWindow window (open_frame (lead_in_item class (slot ∷ [])) ∷ opens)
 unfolding AreReservesInWindow
 lead-within window class slot opens most within = (most, within)
 
--- the area of a lead-in in front of chosen areas is chosen too
+-- the area of a lead-in before a choice of areas is a choice too
 pub lead-chosen : (class : ClassFields) (slot : SlotFields) (opens : List OpenFrame)
     (areas : List ℕ) → AreChosenAreas opens areas → AreChosenAreas
     (open_frame (lead_in_item class (slot ∷ [])) ∷ opens) (area_of class slot false ∷ areas)
 unfolding AreChosenAreas
 lead-chosen class slot opens areas chosen = ((zero, omega arith, refl), chosen)
 
--- what is placed before a part is its lead-in alone
+-- the lead-in that is placed before a part is the one that it has alone
 lead_in-alone : (window : ℕ) (choices : HeaderFields → List SlotFields) (part : List Need)
     (lead_in : Option SlotFields) → IsPlacedLeadIn window all_slots choices part lead_in
     → IsLeadIn window choices part lead_in
@@ -131,7 +131,7 @@ lead_in-can window choices part None is = is
 lead_in-can window choices [] (Some slot) is = absurd is
 lead_in-can window choices (first ∷ part) (Some slot) is = is.1
 
--- and so have all parts together
+-- no frames have a layout
 pub nothing-can : (window : ℕ) → CanBeLaid window []
 unfolding CanBeLaid AreChosenAreas frames_with_areas HasLayout IsDataLayout
 nothing-can window = ([], tt, ([], tt))
@@ -152,7 +152,7 @@ whole-can window choices (part ∷ parts) (lead_in ∷ lead_ins) all =
     (lead_in-can window choices part lead_in all.0)
     (whole-can window choices parts lead_ins all.1))
 
--- ---- placing on
+-- ---- placing more frames
 -- before the first frame nothing is placed
 pub places-begun : (window free : ℕ) (items : List PlanItem) (placed : List Placed)
     → PlacesMore window free free items items placed placed
@@ -171,7 +171,7 @@ placed-cons : (window free : ℕ) (item : PlanItem) (items : List PlanItem) (p :
 unfolding AreItemsPlaced
 placed-cons window free item items p placed is begin least behind = (is, begin, least, behind)
 
--- a frame in the least slot with what is needed after it is one placed more
+-- a frame in the least slot with what is needed after it is one more frame placed
 pub places-more : (window free now : ℕ) (items : List PlanItem) (item : PlanItem)
     (left : List PlanItem)
     (old new : List Placed) (p : Placed) → p.lead_in ≡ item.lead_in → p.begin ≡ now → IsLeastSlot
@@ -195,7 +195,7 @@ places-more window free now items item left old new p is begin least on = record
       (placed-cons window now item (left ++ rest) p placed is begin here all));
 }
 
--- frames placed up to one, and from it on, are all placed
+-- frames placed up to one, and then the others from it on, are all placed
 pub places-then : (window free now after : ℕ) (items left : List PlanItem)
     (old mid new : List Placed) → PlacesMore window free now items left old mid
     → PlacesMore window now after left [] mid new → PlacesMore window free after items [] old new
@@ -209,7 +209,7 @@ places-then window free now after items left old mid new first second = record {
       (first.goes rest (second.more ++ placed) none (second.goes rest placed none all));
 }
 
--- ---- part by part: whatever places the parts from here on rightly places all rightly
+-- ---- part by part: whatever places the parts from here on correctly places all correctly
 unfoldable pub PartsPlaced : ℕ → (HeaderFields → List SlotFields) → List (List Need)
     → List (List Need) → ℕ → List Placed → Type 0
 PartsPlaced window choices all left free before =
@@ -239,7 +239,7 @@ whole-cons : (choices : HeaderFields → List SlotFields) (part : List Need)
 unfolding all_items
 whole-cons choices part parts lead_in lead_ins = refl
 
--- a part that is placed behind those before it is one more
+-- a part that is placed after those before it is one more part placed
 pub parts-more : (window : ℕ) (choices : HeaderFields → List SlotFields) (all : List (List Need))
     (part : List Need) (left : List (List Need)) (free after : ℕ) (before behind : List Placed)
     → PlacesPart window all_slots choices part free after before behind
@@ -271,7 +271,7 @@ no-placed : (window free : ℕ) (choices : HeaderFields → List SlotFields)
 unfolding AreItemsPlaced all_items
 no-placed window free choices = tt
 
--- all parts, placed one after the other, are the plan
+-- all parts, placed in order, are the plan
 pub parts-all : (window : ℕ) (choices : HeaderFields → List SlotFields) (all : List (List Need))
     (free : ℕ) (placed : List Placed) → PartsPlaced window choices all [] free placed
     → IsPlan window choices all placed
@@ -287,7 +287,7 @@ parts-all window choices all free placed on =
     }
 
 -- ---- the next frame of a part
--- the frame at i, in the least slot with what is needed after it, is one placed more
+-- the frame at i, in the least slot with what is needed after it, is one more frame placed
 pub places-next : (window free now next : ℕ) (choices : HeaderFields → List SlotFields)
     (part : List Need) (i : ℕ) (need : Need) (p : Placed) (wanted : ℕ) (old new : List Placed)
     → i < length part → need ≡ get_or part i need
@@ -358,7 +358,7 @@ module _ (window : ℕ) (leads : List SlotFields) (choices : HeaderFields → Li
             (old ++ p ∷ []) new on places;
       }
 
-  -- the same where the class is known
+  -- a least lead-in and then the frames of a part place it as a led part, if the class is known
   pub led-of : (class : ClassFields) (part : List Need) (free mid after : ℕ) (p : Placed)
       (old new : List Placed) → 0 < length part → AreNeedsOfClass class part → p.lead_in ≡ true
       → p.begin ≡ free
@@ -396,7 +396,8 @@ module _ (window : ℕ) (leads : List SlotFields) (choices : HeaderFields → Li
         least,
       )
 
-  -- where its frames need something free, that is its own lead-in
+  -- a part whose frames need free bytes is placed with
+  -- its own lead-in if it is placed as a led part
   pub part-led : (part : List Need) (reserves : Reserves) (free after : ℕ) (old new : List Placed)
       → AreReserves window choices area part reserves → 0 < reserves.before
       → PlacesLedPart window leads choices part free after old new
@@ -440,7 +441,7 @@ nothing_placed : (window free : ℕ) → AreItemsPlaced window free [] []
 unfolding AreItemsPlaced
 nothing_placed window free = tt
 
--- is its led plan
+-- a part that is placed after the least lead-in of any slot is its led plan
 pub led-placed : (window after : ℕ) (choices : HeaderFields → List SlotFields) (part : List Need)
     (placed : List Placed) → PlacesLedPart window all_slots choices part 0 after [] placed
     → IsLedPlan window choices part placed

@@ -1,4 +1,4 @@
--- Over lists of numbers: which lists can be laid, by the bytes that are free before each
+-- Lists of numbers: which lists can be laid, by the bytes that are free before each
 -- frame, and that the smallest choice by what is needed after each is the least list.
 use Rattle.std.proofs.Common.{ap, arith, Contains, drop, inl, inr, List, max, refl, subst, suc, sym}
 use Rattle.std.proofs.Common.{zero, ℕ, [], ◌++◌, ◌+◌, ◌-◌, ◌<◌, ◌∙◌, ◌∷◌, ◌≡◌, ◌≤◌, ◌⊎◌}
@@ -15,7 +15,7 @@ AllFit window free [] = Unit {0}
 AllFit window free (frame ∷ frames) = (frame.bytes ≤ free + frame.area)
     × AllFit window (free_bytes_behind window free frame.bytes frame.area) frames
 
--- a layout shows that they fit, the free bytes being those that the window shows, or more
+-- frames with a layout fit, if at least the bytes that the window shows are free
 pub fit-layout : (window end before free : ℕ) (frames : List FrameLengths) (starts : List ℕ)
     → (before - end) - ((before - end) - window) ≤ free
     → IsDataLayout window end before frames starts → AllFit window free frames
@@ -40,7 +40,7 @@ starts_of window end before (frame ∷ frames) =
     let start = max end (before - window) in
     start ∷ starts_of window (start + frame.bytes) (before + frame.area) frames
 
--- the larger of two numbers is the one and what the other has beyond it
+-- the larger of two numbers is the first and what the second has beyond it
 pub max-is : (m n : ℕ) → max m n ≡ m + (n - m)
 max-is m n = omega arith
 
@@ -50,7 +50,7 @@ frees_of window free [] = []
 frees_of window free (frame ∷ frames) =
     free ∷ frees_of window (free_bytes_behind window free frame.bytes frame.area) frames
 
--- where they fit, the earliest starts are a layout
+-- if frames fit, the earliest starts are a layout
 pub layout-fit : (window end before free : ℕ) (frames : List FrameLengths) → end ≤ before
     → free ≡ (before - end) - ((before - end) - window) → AllFit window free frames
     → IsDataLayout window end before frames (starts_of window end before frames)
@@ -69,7 +69,7 @@ layout-fit window end before free (frame ∷ frames) ends is fit =
           (omega arith) fit.1,
     )
 
--- and main_data_begin is the number of free bytes
+-- if frames fit, main_data_begin is the number of free bytes
 pub begins-frees : (window end before free : ℕ) (frames : List FrameLengths) → end ≤ before
     → free ≡ (before - end) - ((before - end) - window) → AllFit window free frames
     → frees_of window free frames ≡ begins_of window end before frames
@@ -115,7 +115,7 @@ Contains-greatest (m ∷ k ∷ ns) n c =
           subst (Contains (m ∷ k ∷ ns)) is (zero, omega arith, refl)
     ]
 
--- where some choice fits, no more is needed than is free, and never more than the window
+-- if some choice fits, at most the free bytes are needed, and never more than the window
 pub needed-fit : (window free : ℕ) (opens : List OpenFrame) (areas : List ℕ) → free ≤ window
     → AreChosenAreas opens areas → AllFit window free (frames_with_areas opens areas)
     → (reserve_before opens ≤ free) × AreReservesInWindow window opens
@@ -130,7 +130,7 @@ needed-fit window free (o ∷ opens) (area ∷ areas) within chosen fit =
     let room : o.bytes ≤ free + area = fit.0 in
     (omega arith, (omega arith, rest.1))
 
--- and where no more is needed, some choice fits
+-- if at most the free bytes are needed, some choice fits
 pub fit-needed : (window free : ℕ) (opens : List OpenFrame) (some : List ℕ)
     → AreChosenAreas opens some → reserve_before opens ≤ free → AreReservesInWindow window opens
     → (areas : List ℕ) × AreChosenAreas opens areas
@@ -167,7 +167,7 @@ chosen-least window free (o ∷ opens) [] least = absurd least
 chosen-least window free (o ∷ opens) (area ∷ areas) least =
     (least.0, chosen-least window (free_bytes_behind window free o.bytes area) opens areas least.3)
 
--- and fit
+-- the least areas fit
 pub fit-least : (window free : ℕ) (opens : List OpenFrame) (areas : List ℕ)
     → AreLeastAreas window free opens areas → AllFit window free (frames_with_areas opens areas)
 unfolding AllFit frames_with_areas AreLeastAreas
@@ -209,9 +209,8 @@ not_behind-least window free (o ∷ opens) (area ∷ areas) (other ∷ others) w
           )
     ]
 
--- ---- what a choice that can be laid says
--- where some choice can be laid, nothing is needed before all frames, and no more than a window
--- anywhere
+-- ---- what a choice that can be laid shows
+-- if some choice can be laid, nothing is needed before all frames, and at most a window anywhere
 pub needed-can : (window : ℕ) (opens : List OpenFrame) → CanBeLaid window opens
     → (reserve_before opens ≡ 0) × AreReservesInWindow window opens
 unfolding CanBeLaid HasLayout
@@ -221,7 +220,7 @@ needed-can window opens can =
     let all = needed-fit window 0 opens can.0 (omega arith) can.1 fit in
     (omega (arith, all.0), all.1)
 
--- and where that is so, some choice can be laid
+-- if nothing is needed before all frames, and at most a window anywhere, some choice can be laid
 pub can-needed : (window : ℕ) (opens : List OpenFrame) (some : List ℕ) → AreChosenAreas opens some
     → reserve_before opens ≡ 0 → AreReservesInWindow window opens → CanBeLaid window opens
 unfolding CanBeLaid HasLayout
@@ -254,7 +253,7 @@ least-is window opens areas least =
     }
 
 -- ---- after more frames
--- frames before others that need nothing need what they do alone
+-- frames before others that need nothing need what they need alone
 pub append-needed : (xs ys : List OpenFrame) → reserve_before ys ≡ 0
     → reserve_before (xs ++ ys) ≡ reserve_before xs
 unfolding reserve_before
@@ -314,19 +313,19 @@ fit-drop window (suc k) (frame ∷ frames) fit =
     fit-drop window k frames (fit-more window
     (free_bytes_behind window window frame.bytes frame.area) window frames (omega arith) fit.1)
 
--- frames that can be laid after some free bytes fit from each of them on after a whole window
+-- frames that can be laid after some free bytes fit from each frame on after a whole window
 pub fit-after : (window before k : ℕ) (frames : List FrameLengths) → HasLayout window before frames
     → AllFit window window (drop k frames)
 unfolding HasLayout
 fit-after window before k frames feasible = fit-drop window k frames
     (fit-layout window 0 before window frames feasible.0 (omega arith) feasible.1)
 
--- frames that fit behind a whole window fit from each of them on
+-- frames that fit after a whole window fit from each frame on
 pub fit-from : (window k : ℕ) (frames : List FrameLengths) → HasLayout window window frames
     → AllFit window window (drop k frames)
 fit-from window k frames feasible = fit-after window window k frames feasible
 
--- and whole windows are all the same
+-- frames that can be laid after some free bytes can be laid after a window or more
 pub feasible-windows : (window before more : ℕ) (frames : List FrameLengths) → window ≤ more
     → HasLayout window before frames → HasLayout window more frames
 unfolding HasLayout

@@ -1,4 +1,4 @@
--- The table of slots by the length of a frame: one slot more, and what is found in it.
+-- The table of slots by the length of a frame: one more slot, and what is found in it.
 use Rattle.std.proofs.Common.{ap, ap₂, arith, Bool, Contains, false, get_or, inl, inr, length}
 use Rattle.std.proofs.Common.{length-append, List, replicate, sym, take, ℕ, [], ◌++◌, ◌+◌, ◌-◌, ◌<◌}
 use Rattle.std.proofs.{Common.{◌∙◌, ◌≡◌, ◌≤◌}, lemmas.Bool.cases_lt}
@@ -64,7 +64,7 @@ table-none c slots items empty =
       first = λ wanted d less. absurd (omega (arith, less, none));
     }
 
--- what the table has before a place is no longer than the slot there
+-- the table of the slots before a place is no longer than the frames of the slot there
 below : (c : ClassFields) (slots items : List SlotFields) (to : ℕ) → to < length slots
     → Rise c slots → IsTableTo c slots to items → length items ≤ long c slots to
 below c slots items to within rise so_far =
@@ -73,7 +73,7 @@ below c slots items to within rise so_far =
       | inr none ↦ omega (arith, so_far.none (omega (arith, none)))
     ]
 
--- the slots before a place are too short for what the table doesn't have
+-- the slots before a place are too short for a length that the table doesn't have
 short : (c : ClassFields) (slots items : List SlotFields) (to wanted : ℕ) → to < length slots
     → Rise c slots → IsTableTo c slots to items → length items ≤ wanted → (k : ℕ) → k < to
     → long c slots k < wanted
@@ -86,7 +86,7 @@ short c slots items to wanted within rise so_far from k before =
           omega (arith, many, from, ap (long c slots) here)
     ]
 
--- one slot more fills the table up to its length
+-- one more slot fills the table up to the length of its frames
 pub table-more : (c : ClassFields) (slots items next : List SlotFields) (to many : ℕ)
     (slot : SlotFields) → to < length slots → slot ≡ get_or slots to slot → many ≡ length_of c slot
     → 6 + side_size_of c < many
@@ -159,13 +159,13 @@ not_longer c slots i j before within rise =
           omega (arith, ap (long c slots) same)
     ]
 
--- where a slot of the list is
+-- the slot at a place where the list contains it is that slot
 found-at : (c : ClassFields) (slots : List SlotFields) (slot : SlotFields)
     (has : Contains slots slot) → long c slots has.0 ≡ length_of c slot
 found-at c slots slot has =
     ap (length_of c) (get_or_default slots has.0 (slot_of 1 false) slot has.1 ∙ has.2)
 
--- after the last slot it is the table of all
+-- after the last slot it is the table of all slots
 pub table-all : (slots : List SlotFields) (to : ℕ) (table : SlotTable) → 1 ≤ length slots
     → to ≡ length slots → Rise table.lengths slots
     → IsTableTo table.lengths slots to table.by_length.items → IsSlotTable slots table
@@ -206,7 +206,7 @@ table-all slots to table some all rise whole =
           };
     }
 
--- the shortest frame with so many bytes behind what is before its area has the least area
+-- the shortest frame with `wanted` bytes after what is before its area has the least area
 pub least-looked : (table : SlotTable) (slots : List SlotFields) (p : Bool) (wanted : ℕ)
     (slot : SlotFields) → IsSlotTable slots table
     → IsShortestSlot table.lengths slots (wanted + overhead_of table.lengths p) slot
@@ -223,7 +223,7 @@ least-looked table slots p wanted slot is shortest =
           omega (arith, shortest.least other has (omega (arith, fits, room, side)));
     }
 
--- there is an entry
+-- the table has an entry
 table-some : (table : SlotTable) (slots : List SlotFields) → IsSlotTable slots table
     → 0 < length table.by_length.items
 table-some table slots is =
@@ -257,7 +257,7 @@ last-looked table slots p is =
       longest.enough,
     )
 
--- what the largest area has is in the table
+-- the length of a frame whose area is at most the largest is in the table
 pub table-within : (table : SlotTable) (slots : List SlotFields) (p : Bool) (wanted : ℕ)
     → IsSlotTable slots table → wanted ≤ greatest_number (slot_areas table.lengths p slots)
     → wanted + overhead_of table.lengths p < length table.by_length.items

@@ -3,8 +3,8 @@ use Rattle.std.specs.Prelude.{false, length, List, slice_index, true, ℕ, ◌+�
 use Rattle.frame_header.specs.{Fields.{ClassFields, IsClass}, Slots.slot_of}
 use Rattle.frame_header.specs.Tables.{length_of, overhead_of}
 
--- the lengths without padding of the 14 bit rate indexes, and
--- the bytes before an area, without a check word and with it
+-- the lengths without padding for the 14 bit rate indexes, and the
+-- number of bytes before an area, without a check word and with it
 pub record AreLengths (class : ClassFields) (by_index : List ℕ)
     (unprotected protected : ℕ) : Type 0 where
   pub known : IsClass class

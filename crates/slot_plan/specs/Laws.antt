@@ -1,4 +1,4 @@
--- Laws of plans, and of frames behind free bytes, whatever the code.
+-- Laws of plans, and of frames after free bytes, whatever the code.
 use Rattle.std.specs.Prelude.{All, AllPairs, Contains, false, List, map, None, Some, true, ℕ, []}
 use Rattle.std.specs.Prelude.{◌++◌, ◌<◌, ◌↔◌, ◌∷◌, ◌≡◌, ◌≤◌}
 use Rattle.frame_header.specs.Fields.{ClassFields, HeaderFields, IsClass, SlotFields}
@@ -16,7 +16,7 @@ abbrev pub led_open_frames : (HeaderFields → List SlotFields) → Need → Lis
 led_open_frames choices first part = map open_frame
     (lead_in_item (class_of first.header) all_slots ∷ map (need_item choices) (first ∷ part))
 
--- The lead-in of a part that can't be laid without one is the first entry
+-- The lead-in of a part that has no layout without one is the first entry
 -- of the lexicographically least list of its frames after one lead-in.
 abbrev pub LeadInsComeFirst : Type 0
 LeadInsComeFirst =
@@ -35,37 +35,37 @@ pub record ChoosesInOrder (choices : HeaderFields → List SlotFields) (need : N
       (slot_areas (class_of need.header) need.header.protected (choices need.header))
   pub own : Contains (choices need.header) need.header.slot
 
--- so does each frame of each part
+-- each frame of each part chooses in order
 abbrev pub PartsChooseInOrder : (HeaderFields → List SlotFields) → List (List Need) → Type 0
 PartsChooseInOrder choices parts = All (λ part. All (ChoosesInOrder choices) part) parts
 
--- what the planner answers for parts
+-- what the planner returns for parts
 pub record IsPlanAnswer (choices : HeaderFields → List SlotFields) (needs : List Need)
     (places : List ℕ) (placed : List Placed) : Type 0 where
   -- the plan of the parts
   pub plan : IsPlan (window_in needs) choices (needs_in_parts needs places) placed
-  -- where the areas among which each frame chooses ascend, it is that of the first list
+  -- where the areas among which each frame chooses ascend, it is the plan of the first list
   pub least : PartsChooseInOrder choices (needs_in_parts needs places)
       → placed ≡ least_plan (window_in needs) choices (needs_in_parts needs places)
 
--- what the planner answers for one part that is to have a lead-in
+-- what the planner returns for one part that is to have a lead-in
 pub record IsLedPlanAnswer (choices : HeaderFields → List SlotFields) (needs : List Need)
     (placed : List Placed) : Type 0 where
   -- the led plan of the part
   pub plan : IsLedPlan (window_in needs) choices needs placed
-  -- where the areas among which each frame chooses ascend, it is that of the first list
+  -- where the areas among which each frame chooses ascend, it is the plan of the first list
   pub least : PartsChooseInOrder choices (needs ∷ [])
       → placed ≡ led_plan (window_in needs) choices needs
 
--- parts have no two plans
+-- parts have at most one plan
 abbrev pub PlansAreUnique : Type 0
 PlansAreUnique =
     (window : ℕ) (choices : HeaderFields → List SlotFields) (parts : List (List Need))
     (a b : List Placed) → PartsChooseInOrder choices parts → IsPlan window choices parts a
     → IsPlan window choices parts b → a ≡ b
 
--- parts of one class, each with a layout in its own
--- slots, have one plan, which is that of the first list
+-- parts of one class, each with a layout in its own slots,
+-- have one plan, which is the plan of the first list
 abbrev pub LeastPlanIsThePlan : Type 0
 LeastPlanIsThePlan =
     (class : ClassFields) (choices : HeaderFields → List SlotFields) (parts : List (List Need))
@@ -75,7 +75,7 @@ LeastPlanIsThePlan =
     ↔ (placed ≡ least_plan (window_of class.version) choices parts)
 
 -- a part of one class that has a layout in its own slots
--- has one led plan, which is that of the first list
+-- has one led plan, which is the plan of the first list
 abbrev pub LedPlanIsLeast : Type 0
 LedPlanIsLeast =
     (class : ClassFields) (choices : HeaderFields → List SlotFields) (part : List Need)
@@ -84,14 +84,14 @@ LedPlanIsLeast =
     → IsLedPlan (window_of class.version) choices part placed
     ↔ (placed ≡ led_plan (window_of class.version) choices part)
 
--- the plan of a part that can't be laid without a lead-in is its led plan
+-- the plan of a part that has no layout without a lead-in is its led plan
 abbrev pub LedWhereNeeded : Type 0
 LedWhereNeeded =
     (window : ℕ) (choices : HeaderFields → List SlotFields) (part : List Need)
     (placed : List Placed) → (CanBeLaid window (map open_frame (part_items choices part None)) → ⊥)
     → IsPlan window choices (part ∷ []) placed → IsLedPlan window choices part placed
 
--- Frames and then others fit behind some free bytes exactly where the
+-- Frames and then others fit after some free bytes exactly if the
 -- first do and what the others want is at most what the first leave.
 abbrev pub FitsBehindWhatIsLeft : Type 0
 FitsBehindWhatIsLeft =
@@ -100,14 +100,14 @@ FitsBehindWhatIsLeft =
     ↔ (FitsBehind window free first × ((left wanted : ℕ) → IsMostLeft window free first left
     → IsLeastWanted window others wanted → wanted ≤ left))
 
--- what frames and then others leave is what the others leave behind what the first leave
+-- what frames and then others leave is what the others leave after what the first leave
 abbrev pub LeavesGoOn : Type 0
 LeavesGoOn =
     (window free mid left : ℕ) (first others : List Need) → free ≤ window
     → IsMostLeft window free first mid
     → IsMostLeft window free (first ++ others) left ↔ IsMostLeft window mid others left
 
--- frames fit behind exactly the bytes that are at least what they want
+-- frames fit after exactly the numbers of bytes that are at least what they want
 abbrev pub FitsWhereWanted : Type 0
 FitsWhereWanted = (window free wanted : ℕ) (needs : List Need) → IsLeastWanted window needs wanted
     → FitsBehind window free needs ↔ (wanted ≤ free)
@@ -116,7 +116,7 @@ FitsWhereWanted = (window free wanted : ℕ) (needs : List Need) → IsLeastWant
 abbrev pub AreInOwnSlots : List Need → List Placed → Type 0
 AreInOwnSlots needs placed = AreItemSlots (map (need_item (λ h. h.slot ∷ [])) needs) placed
 
--- the same behind their lead-in
+-- the frames of a plan, each in its own slot, after their lead-in
 unfoldable pub AreLedInOwnSlots : ℕ → List Need → List Placed → Type 0
 AreLedInOwnSlots window [] placed = ⊥
 AreLedInOwnSlots window (first ∷ needs) [] = ⊥
@@ -124,8 +124,8 @@ AreLedInOwnSlots window (first ∷ needs) (p ∷ placed) =
     (p.lead_in ≡ true) × IsLeadInSlot window (class_of first.header) (first ∷ needs) p.slot
     × AreInOwnSlots (first ∷ needs) placed
 
--- the plan of one part whose frames keep their slots has
--- no lead-in where they want nothing, and else theirs
+-- the plan of one part whose frames keep their slots has no
+-- lead-in if they want nothing, and otherwise their lead-in
 abbrev pub LeadInWhereWanted : Type 0
 LeadInWhereWanted =
     (window : ℕ) (needs : List Need) (placed : List Placed)

@@ -1,6 +1,6 @@
--- The plan as a value: of all lists of slots the first, in the order of their areas, for which
--- there is a layout. What `cut`, `split`, `join`, `pack`, `salvage` and `drill` write is defined by
--- it; the laws say that it is the plan of `Plans`, and the only one.
+-- The plan as a value: the first of all lists of slots, in the order of their areas, for
+-- which there is a layout. It defines what `cut`, `split`, `join`, `pack`, `salvage` and
+-- `drill` write; the laws say that it is the plan of `Plans`, and the only one.
 use Rattle.std.specs.Prelude.{find, flat_map, if◌then◌else◌, is_some, List, map, None, Option}
 use Rattle.std.specs.Prelude.{option_and_then, option_map, slice_get, unwrap_or, ℕ, [], ◌∷◌}
 use Rattle.frame_header.specs.{Fields.{HeaderFields, SlotFields}, Slots.all_slots, Tables.class_of}
@@ -28,7 +28,7 @@ abbrev pub first_list : ℕ → List PlanItem → Option (List SlotFields)
 first_list window items =
     find (λ slots. has_layout window 0 0 (frames_in_slots items slots)) (all_lists items)
 
--- with main_data_begin of each
+-- the items in these slots, with each one's main_data_begin
 unfoldable pub placed_items : List PlanItem → List SlotFields → List ℕ → List Placed
 placed_items (item ∷ items) (slot ∷ slots) (begin ∷ begins) =
     record { lead_in = item.lead_in; slot = slot; begin = begin } ∷ placed_items items slots begins
@@ -44,7 +44,7 @@ abbrev pub least_placement : ℕ → List PlanItem → Option (List Placed)
 least_placement window items =
     option_map (earliest_placement window items) (first_list window items)
 
--- The lead-in of a part alone: none if there is a layout without one, else
+-- The lead-in of a part alone: none if there is a layout without one, otherwise
 -- the first slot of the first list with one, which may have any slot.
 unfoldable pub lead_in_alone : ℕ → (HeaderFields → List SlotFields) → List Need → Option SlotFields
 lead_in_alone window choices [] = None
@@ -54,12 +54,12 @@ lead_in_alone window choices (first ∷ part) =
     option_and_then (λ slots. slice_get slots 0)
     (first_list window (lead_in_item (class_of first.header) all_slots ∷ frames))
 
--- the plan of all parts, with the lead-in that each has alone; empty where there is none
+-- the plan of all parts, with the lead-in that each has alone; empty if there is none
 unfoldable pub least_plan : ℕ → (HeaderFields → List SlotFields) → List (List Need) → List Placed
 least_plan window choices parts = unwrap_or (least_placement window
     (all_items choices parts (map (lead_in_alone window choices) parts))) []
 
--- the first list of a part's frames after one lead-in of any
--- slot, laid as early as may be; empty where there is none
+-- the first list of a part's frames after one lead-in of any slot,
+-- their main data as early as they may be; empty if there is none
 unfoldable pub led_plan : ℕ → (HeaderFields → List SlotFields) → List Need → List Placed
 led_plan window choices part = unwrap_or (least_placement window (led_items choices part)) []

@@ -3,12 +3,12 @@ use Rattle.std.specs.Prelude.{Contains, List, ℕ, [], ◌<◌, ◌∷◌, ◌�
 use Rattle.slot_plan.specs.Layouts.{FrameLengths, HasLayout}
 
 -- a frame whose slot isn't decided: the length of its main
--- data in bytes, and the areas among which there is a choice
+-- data in bytes, and the areas among which it may choose
 pub record OpenFrame : Type 0 where
   pub bytes : ℕ
   pub areas : List ℕ
 
--- an area for each frame, one of those among which it chooses
+-- an area for each frame, one of those among which it may choose
 unfoldable pub AreChosenAreas : List OpenFrame → List ℕ → Type 0
 AreChosenAreas [] [] = Unit {0}
 AreChosenAreas [] (area ∷ areas) = ⊥
@@ -28,7 +28,7 @@ CanBeLaid window opens =
     (areas : List ℕ) × AreChosenAreas opens areas
     × HasLayout window 0 (frames_with_areas opens areas)
 
--- in lexicographic order, the first list isn't after the second
+-- in lexicographic order, the first list doesn't come after the second
 unfoldable pub IsNotBehind : List ℕ → List ℕ → Type 0
 IsNotBehind [] [] = Unit {0}
 IsNotBehind [] (n ∷ ns) = Unit {0}

@@ -26,7 +26,7 @@ slot_areas class protected slots = map (λ s. area_of class s protected) slots
 abbrev pub header_areas : (HeaderFields → List SlotFields) → HeaderFields → List ℕ
 header_areas choices h = slot_areas (class_of h) h.protected (choices h)
 
--- slots of which there is one, their areas ascending
+-- at least one slot, their areas ascending
 pub record AreRisingSlots (class : ClassFields) (protected : Bool)
     (slots : List SlotFields) : Type 0 where
   pub some : 1 ≤ length slots
@@ -57,7 +57,7 @@ lead_in_item class slots = record {
   choices = slots;
 }
 
--- the frame in its own slot
+-- the area of the frame's own slot
 abbrev pub own_slot_area : Need → ℕ
 own_slot_area need = area_of (class_of need.header) need.header.slot need.header.protected
 
@@ -65,29 +65,29 @@ own_slot_area need = area_of (class_of need.header) need.header.slot need.header
 abbrev pub own_frame : Need → FrameLengths
 own_frame need = record { bytes = need.bytes; area = own_slot_area need }
 
--- each part has a layout in its own slots, after as many free bytes as the window: what a plan
--- rests on, besides the numbers of frames and of parts
+-- each part has a layout in its own slots after a whole window of free bytes:
+-- what a plan requires, besides limits on the numbers of frames and of parts
 unfoldable pub ArePartsFeasible : ℕ → List (List Need) → Type 0
 ArePartsFeasible window [] = Unit {0}
 ArePartsFeasible window (part ∷ parts) =
     HasLayout window window (map own_frame part) × ArePartsFeasible window parts
 
--- all have this class
+-- all frames have this class
 unfoldable pub AreNeedsOfClass : ClassFields → List Need → Type 0
 AreNeedsOfClass class [] = Unit {0}
 AreNeedsOfClass class (need ∷ needs) = (class_of need.header ≡ class) × AreNeedsOfClass class needs
 
--- all have the class of the first
+-- all frames have the class of the first
 abbrev pub AreNeedsOfOneClass : List Need → Type 0
 AreNeedsOfOneClass [] = Unit {0}
 AreNeedsOfOneClass (first ∷ needs) = AreNeedsOfClass (class_of first.header) needs
 
--- the window of the first, which is that of all
+-- the window of the first frame; where frames are of one class, the window of all
 abbrev pub window_in : List Need → ℕ
 window_in [] = 0
 window_in (first ∷ needs) = window_of first.header.version
 
--- the needs from the place of each part to that of the next, and from the last place to the end
+-- the needs from each part's place to the next part's, and from the last place to the end
 unfoldable pub needs_in_parts : List Need → List ℕ → List (List Need)
 needs_in_parts needs [] = []
 needs_in_parts needs (from ∷ []) = slice_range needs from (length needs) ∷ []
@@ -95,19 +95,19 @@ needs_in_parts needs (from ∷ to ∷ places) =
     slice_range needs from to ∷ needs_in_parts needs (to ∷ places)
 
 -- parts that can be planned: the needs of their frames,
--- and the place among these of each part's first
+-- and the place among these of each part's first frame
 pub record CanBePlanned (needs : List Need) (places : List ℕ) : Type 0 where
   -- all frames are of one class
   pub class : AreNeedsOfOneClass needs
   -- there is a part
   pub some : 1 ≤ length places
-  -- the first begins with the first frame
+  -- the first part begins with the first frame
   pub first : slice_index places 0 ≡ 0
-  -- each begins after the one before
+  -- each part begins after the one before
   pub ascending : AllPairs (λ m n. m < n) places
-  -- and with a frame
+  -- each part begins with a frame
   pub within : All (λ place. place < length needs) places
-  -- each has a layout in its own slots after a whole window
+  -- each part has a layout in its own slots after a whole window
   pub feasible : ArePartsFeasible (window_in needs) (needs_in_parts needs places)
 
 -- a part's frames, after its lead-in if it has one
@@ -124,8 +124,8 @@ led_items choices [] = []
 led_items choices (first ∷ part) =
     lead_in_item (class_of first.header) all_slots ∷ map (need_item choices) (first ∷ part)
 
--- The lead-in of a part alone: none if its frames can be laid without one,
--- else the one with the smallest area with which they can be laid after it.
+-- The lead-in of a part alone: none if its frames have a layout without
+-- one, otherwise the one with the smallest area after which they have one.
 unfoldable pub IsLeadIn : ℕ → (HeaderFields → List SlotFields) → List Need → Option SlotFields
     → Type 0
 IsLeadIn window choices part None = CanBeLaid window (map open_frame (part_items choices part None))

@@ -1,5 +1,5 @@
--- The plan of parts: the least list with the lead-ins that each part has alone, laid as early as it
--- may be.
+-- The plan of parts: the least list with the lead-ins that
+-- each part has alone, with main data as early as they may be.
 use Rattle.std.specs.Prelude.{Contains, List, map, Option, ℕ, [], ◌∷◌, ◌≡◌}
 use Rattle.frame_header.specs.Fields.{HeaderFields, SlotFields}
 use Rattle.slot_plan.specs.{Layouts.begins_of, Lists.{frames_with_areas, IsLeastList}}
@@ -34,8 +34,8 @@ pub record IsPlan (window : ℕ) (choices : HeaderFields → List SlotFields) (p
   pub alone : AreLeadIns window choices parts lead_ins
   pub whole : IsPlanFor window (all_items choices parts lead_ins) placed
 
--- The led plan of a part: of all lists of slots with one lead-in in front of its
--- frames the least that has a layout, whether or not there is a layout without one.
+-- The led plan of a part: the least of all lists of slots for a lead-in and the part's
+-- frames that has a layout, whether or not there is a layout without a lead-in.
 abbrev pub IsLedPlan : ℕ → (HeaderFields → List SlotFields) → List Need → List Placed → Type 0
 IsLedPlan window choices part placed = IsPlanFor window (led_items choices part) placed
 

@@ -1,5 +1,5 @@
--- How `plan` works: the bytes that have to be free before a frame, and the
--- choice by them. What the plan is, is said without them (`Plans`, `LeastPlan`).
+-- How `plan` works: the bytes that have to be free before a frame, and the choice
+-- by them. What the plan is doesn't depend on them (`Plans`, `LeastPlan`).
 use Rattle.std.specs.Prelude.{Bool, Contains, false, length, List, map, max, None, Option, Some, ℕ}
 use Rattle.std.specs.Prelude.{[], ◌++◌, ◌+◌, ◌-◌, ◌<◌, ◌∷◌, ◌≡◌, ◌≤◌}
 use Rattle.frame_header.specs.{Fields.{ClassFields, HeaderFields, SlotFields}, Limits.most_back}
@@ -15,7 +15,7 @@ unfoldable pub greatest_number : List ℕ → ℕ
 greatest_number [] = 0
 greatest_number (n ∷ ns) = max n (greatest_number ns)
 
--- the smallest number of free bytes before the frames with which they can all be laid
+-- the smallest number of free bytes before the frames with which they all have a layout
 unfoldable pub reserve_before : List OpenFrame → ℕ
 reserve_before [] = 0
 reserve_before (o ∷ opens) = (o.bytes + reserve_before opens) - greatest_number o.areas
@@ -25,12 +25,12 @@ unfoldable pub reserves_behind : List OpenFrame → List ℕ
 reserves_behind [] = []
 reserves_behind (o ∷ opens) = reserves_behind opens ++ reserve_before opens ∷ []
 
--- the free bytes after a frame: what it leaves, but no more than the window
+-- the free bytes after a frame: what it leaves, but at most the window
 abbrev pub free_bytes_behind : ℕ → ℕ → ℕ → ℕ → ℕ
 free_bytes_behind window free bytes area = let left = (free + area) - bytes in
     left - (left - window)
 
--- of some slots, the one with the smallest area of at least so many bytes
+-- of some slots, the one with the smallest area of at least `wanted` bytes
 pub record IsLeastSlot (wanted : ℕ) (class : ClassFields) (protected : Bool)
     (slots : List SlotFields) (slot : SlotFields) : Type 0 where
   pub chosen : Contains slots slot
@@ -38,19 +38,20 @@ pub record IsLeastSlot (wanted : ℕ) (class : ClassFields) (protected : Bool)
   pub least : (other : SlotFields) → Contains slots other → wanted ≤ area_of class other protected
       → area_of class slot protected ≤ area_of class other protected
 
--- of the slots that a frame with this header may have
+-- of the slots that a frame with this header may have, the
+-- one with the smallest area of at least `wanted` bytes
 abbrev pub IsLeastSlotFor : ℕ → (HeaderFields → List SlotFields) → HeaderFields → SlotFields
     → Type 0
 IsLeastSlotFor wanted choices h slot = IsLeastSlot wanted (class_of h) h.protected (choices h) slot
 
--- the largest area that a frame with this header may have, and its own slot is one that it may have
+-- the largest area that a frame with this header may have, whose own slot is one that it may have
 pub record IsLargestAreaFor (choices : HeaderFields → List SlotFields) (h : HeaderFields)
     (area : ℕ) : Type 0 where
   pub largest : area ≡ greatest_number (header_areas choices h)
   pub own : Contains (choices h) h.slot
 
--- a frame, or a lead-in, is placed where so many bytes are
--- free, in the smallest of some slots that has so many
+-- a frame, or a lead-in, is placed where `free` bytes are free,
+-- in the slot with the smallest area of at least `wanted` bytes
 pub record IsLeastPlacement (lead_in : Bool) (free wanted : ℕ) (class : ClassFields)
     (protected : Bool)
     (slots : List SlotFields) (p : Placed) : Type 0 where
@@ -70,7 +71,7 @@ AreItemsPlaced window free (item ∷ items) (p ∷ placed) =
     × AreItemsPlaced window
     (free_bytes_behind window free item.bytes (item_area item p.slot)) items placed
 
--- after each frame no more is needed than the window
+-- after each frame at most the window is needed
 unfoldable pub AreReservesInWindow : ℕ → List OpenFrame → Type 0
 AreReservesInWindow window [] = Unit {0}
 AreReservesInWindow window (o ∷ opens) =
@@ -80,16 +81,16 @@ AreReservesInWindow window (o ∷ opens) =
 abbrev pub open_frames : (HeaderFields → List SlotFields) → List Need → List OpenFrame
 open_frames choices part = map open_frame (map (need_item choices) part)
 
--- frames can be placed where so many bytes are free,
--- by what is needed after each, the last frame's first
+-- frames can be placed where `free` bytes are free, by
+-- what is needed after each, the last frame's first
 pub record CanBePlaced (window free : ℕ) (opens : List OpenFrame) (needs : List ℕ) : Type 0 where
-  -- no more is free than the window
+  -- at most the window is free
   pub most : free ≤ window
-  -- what all need is free
+  -- as much is free as the frames need
   pub enough : reserve_before opens ≤ free
-  -- none needs more after it than the window
+  -- no frame needs more after it than the window
   pub within : AreReservesInWindow window opens
-  -- these are what they need
+  -- `needs` is what the frames need after each of them
   pub behind : needs ≡ reserves_behind opens
 
 -- the area of the own slot of a frame with this header
@@ -115,7 +116,7 @@ pub record IsPlaceablePart (window : ℕ) (class : ClassFields) (leads : List Sl
   pub feasible : HasLayout window (greatest_number (slot_areas class false leads))
       (map (frame_by_header area) part)
 
--- what the frames of a part need, where each may have one of these areas
+-- what the frames of a part need, if each may have one of these areas
 pub record AreReserves (window : ℕ) (choices : HeaderFields → List SlotFields)
     (area : HeaderFields → ℕ) (part : List Need) (reserves : Reserves) : Type 0 where
   pub before : reserves.before ≡ reserve_before (open_frames choices part)
@@ -126,7 +127,7 @@ pub record AreReserves (window : ℕ) (choices : HeaderFields → List SlotField
 
 -- More frames were placed, from `free` free bytes before the first of `items` to
 -- `after` before the first of those that are left. Whatever places the others
--- rightly from there on places, together with these frames, all of them rightly.
+-- correctly from there on places, together with these frames, all of them correctly.
 pub record PlacesMore (window free after : ℕ) (items left : List PlanItem)
     (old new : List Placed) : Type 0 where
   pub more : List Placed
@@ -135,8 +136,8 @@ pub record PlacesMore (window free after : ℕ) (items left : List PlanItem)
       → reserve_before (map open_frame rest) ≡ 0 → AreItemsPlaced window after (left ++ rest) placed
       → AreItemsPlaced window free (items ++ rest) (more ++ placed)
 
--- The lead-in after which a part is placed: none if its frames have a layout without one, else the
--- one of some slots with the smallest area that has what they need.
+-- The lead-in after which a part is placed: none if its frames have a layout without
+-- one, otherwise the one of some slots with the smallest area that has what they need.
 unfoldable pub IsPlacedLeadIn : ℕ → List SlotFields → (HeaderFields → List SlotFields)
     → List Need → Option SlotFields → Type 0
 IsPlacedLeadIn window leads choices part None =

@@ -4,7 +4,7 @@ use Rattle.frame_header.specs.{Fields.{ClassFields, SlotFields}, Tables.{length_
 use Rattle.slot_plan.specs.{Parts.AreNeedsOfClass, declared.needs.Need.Need}
 use Rattle.slot_plan.specs.declared.table.SlotTable.{SlotTable}
 
--- of some slots, the one with the shortest frame of at least so many bytes
+-- of some slots, the one with the shortest frame of at least `wanted` bytes
 pub record IsShortestSlot (class : ClassFields) (slots : List SlotFields) (wanted : ℕ)
     (slot : SlotFields) : Type 0 where
   pub chosen : Contains slots slot
@@ -12,8 +12,9 @@ pub record IsShortestSlot (class : ClassFields) (slots : List SlotFields) (wante
   pub least : (other : SlotFields) → Contains slots other → wanted ≤ length_of class other
       → length_of class slot ≤ length_of class other
 
--- There is a slot. The table has this slot for each length up to that of the
--- longest frame, and each frame has room for more than what is before its area.
+-- There is a slot. The table has for each length, up to the length of
+-- the longest frame, the slot with the shortest frame of at least that
+-- length; each frame has room for more than what is before its area.
 pub record IsSlotTable (slots : List SlotFields) (table : SlotTable) : Type 0 where
   pub some : 1 ≤ length slots
   pub room : (slot : SlotFields) → Contains slots slot
@@ -32,7 +33,7 @@ pub record IsClassTable (class : ClassFields) (slots : List SlotFields)
 -- the table of these slots in the class of these frames
 pub record IsTableForNeeds (slots : List SlotFields) (needs : List Need)
     (table : SlotTable) : Type 0 where
-  -- they are of its class
+  -- the frames are of the table's class
   pub class : AreNeedsOfClass table.lengths needs
-  -- it has these slots
+  -- the table has these slots
   pub of_slots : IsSlotTable slots table

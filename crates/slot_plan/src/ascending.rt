@@ -6,7 +6,8 @@ ghost use Rattle.frame_header.specs.Limits.{most_frame_length};
 
 use frame_header::{Class, Slot};
 
-/// The largest area of these slots, from 1 to 1,441 bytes: that of the last. There is at least one slot.
+/// The largest of these slots' areas, from 1 to 1,441 bytes: the last slot has it. There is at
+/// least one slot.
 pub fn largest_area_of(class: Class, protected: bool, slots: &[Slot]) -> u32
     requires rising { AreRisingSlots class protected slots.now }
     ensures largest { result ≡ greatest_number (slot_areas class protected slots.now) }
@@ -15,8 +16,8 @@ pub fn largest_area_of(class: Class, protected: bool, slots: &[Slot]) -> u32
     class.area_of(slots[slots.len() - 1], protected)
 }
 
-/// Of these slots, the first with an area of at least `wanted` bytes, which the last has. There is at least
-/// one slot, and the areas ascend.
+/// The first of these slots with an area of at least `wanted` bytes, as the last has. There is at
+/// least one slot, and the areas ascend.
 pub(crate) fn least_slot_among(class: Class, protected: bool, slots: &[Slot], wanted: u64) -> Slot
     requires rising { AreRisingSlots class protected slots.now }
     requires enough { wanted ≤ greatest_number (slot_areas class protected slots.now) }

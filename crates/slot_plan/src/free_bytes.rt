@@ -1,5 +1,5 @@
-//! Frames in their own slots behind some free bytes: behind how many they fit, how many they leave, and in
-//! which slot they join the frames that left these.
+//! Frames in their own slots after some free bytes: after how many they fit, how many they leave,
+//! and in which slot they join the frames that left these bytes.
 ghost use Rattle.std.specs.Prelude.{◌<◌, ◌≤◌, length};
 ghost use Rattle.frame_header.specs.Fields.{ClassFields};
 ghost use Rattle.frame_header.specs.Tables.{window_of};
@@ -11,10 +11,11 @@ use crate::needs::Need;
 use crate::slots::free_behind;
 use frame_header::{Header, Slot};
 
-/// The least number of bytes behind which the frames fit, each in its own slot: with so many bytes free before
-/// the first, the main data of all have room. At most the window; 0 for no frames.
+/// The least number of bytes after which the frames fit, each in its own slot: with this many bytes
+/// free before the first frame, the main data of all frames have room. At most the window; 0 for no
+/// frames.
 ///
-/// They are of one class, and fit behind a whole window.
+/// The frames are of one class, and fit after a whole window.
 pub fn wants(needs: &[Need]) -> u32
     requires { FitBehindWindow needs.now }
     ensures { (class : ClassFields) → AreNeedsOfClass class needs.now
@@ -29,10 +30,11 @@ pub fn wants(needs: &[Need]) -> u32
     wanted
 }
 
-/// The most bytes that the frames, each in its own slot, leave behind `free` bytes: a frame after them can have
-/// so many bytes of main data before its own area. At most the window; `free` for no frames.
+/// The most bytes that the frames, each in its own slot, leave after `free` bytes: the next frame
+/// can have this many bytes of main data before its own area. At most the window; `free` for no
+/// frames.
 ///
-/// They are of one class, and fit behind `free` bytes, which are at most the window.
+/// The frames are of one class, and fit after `free` bytes, which are at most the window.
 pub fn leaves(needs: &[Need], free: u32) -> u32
     requires { FitBehindFree free needs.now }
     ensures { (class : ClassFields) → AreNeedsOfClass class needs.now → free ≤ window_of class.version
@@ -46,10 +48,10 @@ pub fn leaves(needs: &[Need], free: u32) -> u32
     left
 }
 
-/// The header of the lead-in of these frames, each in its own slot: that of the first of them without a check
-/// word, in the least slot behind whose area they fit.
+/// The header of the lead-in of these frames, each in its own slot: the first frame's header
+/// without a check word, in the least slot after whose area they fit.
 ///
-/// There is at least one; they are of one class, and fit behind a whole window.
+/// There is at least one frame; they are of one class, and fit after a whole window.
 pub fn lead_in(needs: &[Need]) -> Header
     requires some { 0 < length needs.now }
     requires fits { FitBehindWindow needs.now }
@@ -58,7 +60,8 @@ pub fn lead_in(needs: &[Need]) -> Header
 {
     let first = &needs[0];
     let header = &first.header;
-    // A look inside gives the proof that its class is one of the standard's, in which some slot is large enough.
+    // Reading the slot gives the proof that the header's class is one of the standard's, in which
+    // some slot is large enough.
     let _ = &header.slot;
     let class = header.class();
     let slots = class.slots();
@@ -66,10 +69,12 @@ pub fn lead_in(needs: &[Need]) -> Header
     header.unprotected(slot)
 }
 
-/// The slot in which the frames join others that left `free` bytes: the least one, not less than its own, in
-/// which the first and then the others, in their own slots, fit behind these. None where there is none.
+/// The slot in which the frames join others that left `free` bytes: the least slot, not less than
+/// the first frame's own, in which the first frame and then the others, in their own slots, fit
+/// after these bytes. `None` if there is no such slot.
 ///
-/// There is at least one; they are of one class, and fit behind a whole window, which is at least `free`.
+/// There is at least one frame; they are of one class, and fit after a whole window, which is at
+/// least `free`.
 pub fn joins(free: u32, needs: &[Need]) -> Option<Slot>
     requires { CanJoinBehind free needs.now }
     ensures { (class : ClassFields) → AreNeedsOfClass class needs.now

@@ -35,7 +35,7 @@ const FIRST_SLOT: Slot = Slot {
 };
 
 impl Lengths {
-    /// Those of this class.
+    /// The lengths for this class.
     pub fn new(class: Class) -> Lengths
         ensures class { result ≡ class }
     {
@@ -68,7 +68,7 @@ impl Lengths {
         }
     }
 
-    /// The length of a frame's area in bytes. From 1 to 1,441.
+    /// The length of a frame's area, from 1 to 1,441 bytes.
     pub fn area_of(&self, slot: Slot, protected: bool) -> u32
         ensures area { result ≡ area_of self.now slot protected }
         ensures most { result ≤ most_frame_length }

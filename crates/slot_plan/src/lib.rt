@@ -1,5 +1,5 @@
-//! Decides in which slots frames are written and where their main data begin: layouts of main data, and the
-//! lexicographically least list of slots that has one.
+//! Decides in which slots frames are written and where their main data begin: layouts of main data,
+//! and the lexicographically least list of slots that has one.
 #![tactic(auto)]
 
 mod ascending;

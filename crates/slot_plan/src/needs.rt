@@ -1,9 +1,9 @@
-//! What `plan` is given, and what it answers.
+//! What `plan` is given, and what it returns.
 
 use frame_header::{Header, Slot};
 use info_header::InSlot;
 
-/// A frame that is to be placed: its header, and the length of its main data in bytes. It takes 16 bytes of
+/// A frame to place: its header, and the length of its main data in bytes. It takes 16 bytes of
 /// memory.
 #[derive(Clone, Copy, Debug, PartialEq, Eq)]
 pub struct Need {

@@ -1,4 +1,4 @@
-//! What is asked of slots by placing: those that a policy gives, or those of a menu.
+//! What placing asks of slots: those that a policy gives, or those of a menu.
 ghost use Rattle.std.specs.Prelude.{◌≡◌, ◌≤◌, ℕ, List, Contains};
 ghost use Rattle.frame_header.specs.Fields.{SlotFields, HeaderFields};
 ghost use Rattle.frame_header.specs.Tables.{class_of};
@@ -11,27 +11,27 @@ use crate::policy::Policy;
 use crate::table::SlotTable;
 use frame_header::{Header, Slot};
 
-/// The slots of frames and of lead-ins, as placing asks for them. A `Policy` is one, by which a lead-in may
-/// have any slot of the class.
+/// The slots of frames and of lead-ins, as placing asks for them. Every `Policy` is an offer, in
+/// which a lead-in may have any slot of the class.
 pub trait Offer {
     // The slots that a frame with this header may have, and one of their areas.
     ghost slots_of: { Self → HeaderFields → List SlotFields };
 
     ghost some_area_of: { Self → HeaderFields → ℕ };
 
-    // Those that a lead-in may have.
+    // The slots that a lead-in may have.
     ghost lead_slots_of: { Self → List SlotFields };
 
-    /// The largest area that a frame with this header may have, in bytes. The table is that of the slots of
-    /// lead-ins.
+    /// The largest area that a frame with this header may have, in bytes. The table has the slots
+    /// of lead-ins.
     fn largest_area_for(&self, header: &Header, table: &SlotTable) -> u64
         requires table { IsClassTable (class_of header.now) (lead_slots_of self.now) table.now }
         ensures largest { result ≡ greatest_number (header_areas (slots_of self.now) header.now) }
         ensures has { Contains (header_areas (slots_of self.now) header.now)
             (some_area_of self.now header.now) };
 
-    /// Of the slots that a frame with this header may have, the one with the smallest area of at least
-    /// `wanted` bytes. The largest area has so many.
+    /// Of the slots that a frame with this header may have, the one with the smallest area of at
+    /// least `wanted` bytes. The largest area has at least `wanted` bytes.
     fn least_slot_for(&self, header: &Header, wanted: u64, table: &SlotTable) -> Slot
         requires table { IsClassTable (class_of header.now) (lead_slots_of self.now) table.now }
         requires enough { wanted ≤ greatest_number (header_areas (slots_of self.now) header.now) }
@@ -41,7 +41,7 @@ pub trait Offer {
 impl<P: Policy> Offer for P {
     ghost slots_of = { P.choices_of };
 
-    // Its own area.
+    // The header's own area.
     ghost some_area_of = { λ p. own_area_of };
 
     ghost lead_slots_of = { λ p. all_slots };

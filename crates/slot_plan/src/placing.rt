@@ -1,4 +1,4 @@
-//! Gives each frame of a part, from the first to the last, the slot with the smallest area that leaves what
+//! Gives each frame of a part, from first to last, the slot with the smallest area that leaves what
 //! is needed after it.
 ghost use Rattle.std.specs.Prelude.{◌+◌, ◌-◌, ◌≤◌, false, [], map, IfOk};
 ghost use Rattle.frame_header.specs.Tables.{class_of};
@@ -14,8 +14,8 @@ use crate::slots::free_behind;
 use crate::table::SlotTable;
 use std::alloc::{AllocError, Global};
 
-/// The frame in the slot with the smallest area that leaves `behind` bytes free after it, where `free` are
-/// free before it.
+/// The frame in the slot with the smallest area that leaves `behind` bytes free after it, if `free`
+/// bytes are free before it.
 fn place_frame<O: Offer>(
     need: &Need,
     behind: u16,
@@ -38,18 +38,18 @@ fn place_frame<O: Offer>(
     }
 }
 
-/// What is free before a frame: so many bytes, and at most the window.
+/// The room before a frame: the bytes that are free, and the window, which they don't exceed.
 #[derive(Clone, Copy)]
 pub struct Room {
     pub window: u32,
     pub free: u32,
 }
 
-/// Places the frames of a part, and answers how many bytes are free after them. `behind` has what is needed
-/// after each, the last frame's first.
+/// Places the frames of a part, and returns how many bytes are free after them. `behind` has what
+/// is needed after each frame, the last frame's first.
 ///
 /// # Errors
-/// Where there is no memory.
+/// If memory runs out.
 fn place_frames<O: Offer>(
     room: Room,
     part: &[Need],
@@ -80,10 +80,10 @@ fn place_frames<O: Offer>(
     Ok(free)
 }
 
-/// Places the frames of a part after the smallest lead-in that has what they need, of which there is one.
+/// Places the frames of a part after the smallest lead-in that has what they need. There is one.
 ///
 /// # Errors
-/// Where there is no memory.
+/// If memory runs out.
 fn place_behind_lead_in<O: Offer>(
     room: Room,
     part: &[Need],
@@ -115,12 +115,12 @@ fn place_behind_lead_in<O: Offer>(
     place_frames(room, part, offer, table, reserves.behind, placed)
 }
 
-/// Places the frames of a part, where so many bytes are free before it, after the smallest lead-in with which
-/// they have a layout, also if they have one without it; and answers how many bytes are free after them. The
-/// table is that of the slots of lead-ins.
+/// Places the frames of a part after the smallest lead-in with which they have a layout, even if
+/// they have one without it, and returns how many bytes are free after them. `room` is what is free
+/// before the part. The table has the slots of lead-ins.
 ///
 /// # Errors
-/// Where there is no memory.
+/// If memory runs out.
 pub(crate) fn place_led<O: Offer>(
     alloc: Global,
     room: Room,
@@ -141,12 +141,12 @@ pub(crate) fn place_led<O: Offer>(
     place_behind_lead_in(room, part, offer, table, reserves, placed)
 }
 
-/// Places the frames of a part, where so many bytes are free before it, after the smallest lead-in with which
-/// they have a layout if they have none without one; and answers how many bytes are free after them. The table
-/// is that of the slots of lead-ins.
+/// Places the frames of a part, after the smallest lead-in with which they have a layout if they
+/// have none without one, and returns how many bytes are free after them. `room` is what is free
+/// before the part. The table has the slots of lead-ins.
 ///
 /// # Errors
-/// Where there is no memory.
+/// If memory runs out.
 pub fn place_part<O: Offer>(
     alloc: Global,
     room: Room,

@@ -11,7 +11,7 @@ use crate::policy::Policy;
 use crate::table::SlotTable;
 use std::alloc::{AllocError, Global};
 
-/// Where the part at place `at` ends: where the next begins, or after the last of `needs`.
+/// Where the part at place `at` ends: where the next part begins, or after the last of `needs`.
 pub fn end_of(needs: &[Need], parts: &[u32], at: usize) -> usize
     requires { at < length parts.now }
     ensures next { at + 1 < length parts.now → result ≡ slice_index parts.now (at + 1) }
@@ -25,16 +25,16 @@ pub fn end_of(needs: &[Need], parts: &[u32], at: usize) -> usize
 }
 
 /// The plan of 1 to 64 parts: the lexicographically least list of areas that has a layout, with the
-/// lead-ins that the parts have alone. A part has none if its frames have a layout without one, else the
-/// one with the smallest area with which they have one. Main data begin as early as they may (ISO/IEC
-/// 11172-3, 2.4.2.7).
+/// lead-ins that the parts have alone. A part has none if its frames have a layout without one,
+/// otherwise the one with the smallest area with which they have one. Main data begin as early as
+/// they may (ISO/IEC 11172-3, 2.4.2.7).
 ///
-/// `needs` has at most 2,900,000 frames, all of one class. `parts` has the place in it of each part's first
-/// frame, the first 0, each greater than the one before. Each part has a layout in its own slots after a
-/// whole window of free bytes.
+/// `needs` has at most 2,900,000 frames, all of one class. `parts` has the place in it of each
+/// part's first frame: the first is 0, and each is greater than the one before. Each part has a
+/// layout in its own slots after a whole window of free bytes.
 ///
 /// # Errors
-/// Where there is no memory.
+/// If memory runs out.
 pub fn plan<P: Policy>(
     alloc: Global,
     needs: &[Need],
@@ -61,15 +61,15 @@ pub fn plan<P: Policy>(
     Ok(Plan { placed })
 }
 
-/// The plan of one part with a lead-in in front, also where its frames have a layout without one: of all lists
-/// with one lead-in, which may have any slot, the lexicographically least list of areas that has a layout. Main
-/// data begin as early as they may (ISO/IEC 11172-3, 2.4.2.7).
+/// The plan of one part that begins with a lead-in, even if its frames have a layout without one:
+/// of all lists with one lead-in, which may have any slot, the lexicographically least list of
+/// areas that has a layout. Main data begin as early as they may (ISO/IEC 11172-3, 2.4.2.7).
 ///
-/// `needs` is as for `plan` with one part: 1 to 2,900,000 frames, all of one class, with a layout in their own
-/// slots after a whole window of free bytes.
+/// `needs` is as for `plan` with one part: 1 to 2,900,000 frames, all of one class, with a layout
+/// in their own slots after a whole window of free bytes.
 ///
 /// # Errors
-/// Where there is no memory.
+/// If memory runs out.
 pub fn plan_led<P: Policy>(alloc: Global, needs: &[Need], policy: &P) -> Result<Plan, AllocError>
     requires planned { CanBePlanned needs.now (0 ∷ []) }
     requires needs { length needs.now ≤ most_frames }

@@ -1,4 +1,4 @@
-//! Among which slots a frame may choose.
+//! The slots among which a frame may choose.
 ghost use Rattle.std.specs.Prelude.{◌≡◌, ◌<◌, ◌≤◌, List, [], ◌∷◌, map, Contains, AllPairs};
 ghost use Rattle.frame_header.specs.Fields.{SlotFields, HeaderFields};
 ghost use Rattle.frame_header.specs.Tables.{class_of, area_of};
@@ -12,19 +12,21 @@ use crate::table::SlotTable;
 use arrayvec::ArrayVec;
 use frame_header::{Header, Slot};
 
-/// The slots that a frame may have. Only `choices` has to be written; the others follow from it, and a policy
-/// that can answer them without the list may write them too.
+/// The slots that a frame may have. Only `choices` must be written; the others follow from it, and
+/// a policy that can compute them without the list may write them too.
 pub trait Policy {
     ghost choices_of: { Self → HeaderFields → List SlotFields };
 
-    /// The slots that a frame with this header may have, by ascending areas. Its own is among them.
+    /// The slots that a frame with this header may have, their areas ascending. Its own slot is
+    /// among them.
     fn choices(&self, header: &Header) -> ArrayVec<Slot, 28>
         ensures choices { result.items ≡ choices_of self.now header.now }
         ensures ascending { AllPairs (λ m n. m < n)
             (map (λ s. area_of (class_of header.now) s header.now.protected) result.items) }
         ensures own { Contains result.items header.now.slot };
 
-    /// The largest area that a frame with this header may have, in bytes: that of the last of the choices.
+    /// The largest area that a frame with this header may have, in bytes: the area of the last
+    /// choice.
     fn largest_area(&self, header: &Header) -> u32
         ensures { IsLargestAreaFor (choices_of self.now) header.now result }
     {
@@ -32,8 +34,9 @@ pub trait Policy {
         largest_area_of(header.class(), header.protected, choices.as_slice())
     }
 
-    /// Of the slots that a frame with this header may have, the one with the smallest area of at least
-    /// `wanted` bytes, which is the first such. The largest area has so many.
+    /// Of the slots that a frame with this header may have, the one with the smallest area of at
+    /// least `wanted` bytes, which is the first such slot. The largest area has at least `wanted`
+    /// bytes.
     fn least_slot(&self, header: &Header, wanted: u64) -> Slot
         requires { wanted ≤ greatest_number (header_areas (choices_of self.now) header.now) }
         ensures { IsLeastSlotFor wanted (choices_of self.now) header.now result }
@@ -42,7 +45,7 @@ pub trait Policy {
         least_slot_among(header.class(), header.protected, choices.as_slice(), wanted)
     }
 
-    /// `largest_area`, where the lengths of the header's class are known.
+    /// `largest_area` with a table of the lengths of the header's class.
     fn largest_area_by(&self, header: &Header, _table: &SlotTable) -> u32
         requires class { _table.now.lengths ≡ class_of header.now }
         ensures { IsLargestAreaFor (choices_of self.now) header.now result }
@@ -50,7 +53,7 @@ pub trait Policy {
         self.largest_area(header)
     }
 
-    /// `least_slot`, where there is a table of all slots of the header's class.
+    /// `least_slot` with a table of all slots of the header's class.
     fn least_slot_by(&self, header: &Header, wanted: u64, _table: &SlotTable) -> Slot
         requires table { IsClassTable (class_of header.now) all_slots _table.now }
         requires enough { wanted ≤ greatest_number (header_areas (choices_of self.now) header.now) }
@@ -96,7 +99,7 @@ impl Policy for Least {
     ghost choices_of = { λ p h. all_slots };
 
     fn choices(&self, header: &Header) -> ArrayVec<Slot, 28> {
-        // A look inside gives the proof that its own slot is one of them.
+        // Reading the slot gives the proof that the header's own slot is one of them.
         let _ = &header.slot;
         header.class().slots()
     }

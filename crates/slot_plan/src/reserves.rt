@@ -1,5 +1,5 @@
-//! How many bytes have to be free before and after each frame of a part, from the last frame back to the
-//! first.
+//! How many bytes must be free before and after each frame of a part, computed from the last frame
+//! back to the first.
 ghost use Rattle.std.specs.Prelude.{◌≡◌, ◌+◌, ◌-◌, IfOk, Contains};
 ghost use Rattle.frame_header.specs.Tables.{class_of};
 ghost use Rattle.slot_plan.specs.Parts.{need_item, open_frame};
@@ -11,7 +11,7 @@ use crate::offer::Offer;
 use crate::table::SlotTable;
 use std::alloc::{AllocError, Global};
 
-/// How many bytes have to be free.
+/// How many bytes must be free.
 #[derive(Drop)]
 pub(crate) struct Reserves {
     /// After each frame, the last frame's first.
@@ -20,7 +20,7 @@ pub(crate) struct Reserves {
     pub(crate) before: u16,
 }
 
-/// How many bytes have to be free before a frame, if `behind` bytes have to be free after it.
+/// How many bytes must be free before a frame, if `behind` bytes must be free after it.
 fn needed_before<O: Offer>(need: &Need, behind: u16, offer: &O, table: &SlotTable) -> u64
     requires table { IsClassTable (class_of need.now.header) (O.lead_slots_of offer.now) table.now }
     ensures needed { result ≡ (need.now.bytes + behind) - greatest_number
@@ -32,10 +32,10 @@ fn needed_before<O: Offer>(need: &Need, behind: u16, offer: &O, table: &SlotTabl
     (u64::from(need.bytes) + u64::from(behind)).saturating_sub(largest)
 }
 
-/// What each frame of the part needs after it, and the first before it.
+/// What each frame of the part needs after it, and what the first frame needs before it.
 ///
 /// # Errors
-/// Where there is no memory.
+/// If memory runs out.
 pub(crate) fn reserves_of<O: Offer>(
     alloc: Global,
     window: u32,

@@ -3,8 +3,8 @@ ghost use Rattle.std.specs.Prelude.{◌≡◌, ◌+◌, ◌≤◌};
 ghost use Rattle.slot_plan.specs.Reserve.{free_bytes_behind};
 ghost use Rattle.frame_header.specs.Limits.{most_back, most_frame_length};
 
-/// The free bytes after a frame: what it leaves of those before it and of its own area, but no more than
-/// the window.
+/// The free bytes after a frame: what it leaves of the free bytes before it and of its own area,
+/// but at most the window.
 pub fn free_behind(window: u32, free: u32, bytes: u32, area: u32) -> u32
     requires window { window ≤ most_back }
     requires free { free ≤ window }

@@ -1,4 +1,4 @@
-//! Slots of one class whose areas ascend, as a table by the length of a frame.
+//! A table of slots of one class whose areas ascend, by the length of a frame.
 ghost use Rattle.std.specs.Prelude.{◌≡◌, ◌+◌, ◌<◌, false, List, length, IfOk};
 ghost use Rattle.frame_header.specs.Fields.{SlotFields};
 ghost use Rattle.frame_header.specs.Tables.{overhead_of};
@@ -11,11 +11,13 @@ use crate::lengths::Lengths;
 use frame_header::{Class, Slot};
 use std::alloc::{AllocError, Global};
 
-/// The lengths of a class, and of some slots the first whose frames have so many bytes.
+/// The lengths of a class, and for each number of bytes the first of some slots whose frames have
+/// at least as many.
 #[derive(Drop)]
 pub struct SlotTable {
     pub lengths: Lengths,
-    /// The first slot with so long a frame, from 0 bytes to the length of the last.
+    /// The first slot whose frames have at least this many bytes, from 0 to the length of the last
+    /// slot's frames.
     pub by_length: Vec<Slot>,
 }
 
@@ -23,7 +25,7 @@ impl SlotTable {
     /// The table of these slots, at least one, whose areas ascend.
     ///
     /// # Errors
-    /// Where there is no memory.
+    /// If memory runs out.
     pub fn new(alloc: Global, class: Class, slots: &[Slot]) -> Result<SlotTable, AllocError>
         requires { AreRisingSlots class false slots.now }
         ensures { IfOk result (IsClassTable class slots.now) }
@@ -41,7 +43,7 @@ impl SlotTable {
     /// The table of all slots of this class.
     ///
     /// # Errors
-    /// Where there is no memory.
+    /// If memory runs out.
     pub fn of_class(alloc: Global, class: Class) -> Result<SlotTable, AllocError>
         ensures { IfOk result (IsClassTable class all_slots) }
     {
@@ -49,7 +51,7 @@ impl SlotTable {
         SlotTable::new(alloc, class, slots.as_slice())
     }
 
-    /// The largest area of the slots, in bytes: that of the longest frame.
+    /// The largest area of the slots, in bytes: the area of the longest frame.
     pub fn largest_area(&self, protected: bool) -> u64
         requires within { overhead_of self.now.lengths protected
             < length self.now.by_length.items }
@@ -60,7 +62,8 @@ impl SlotTable {
         longest - u64::from(self.lengths.overhead_of(protected))
     }
 
-    /// Of the slots, the one with the smallest area of at least `wanted` bytes, which one of them has.
+    /// The slot with the smallest area of at least `wanted` bytes. One of the slots has such an
+    /// area.
     pub fn least_slot(&self, protected: bool, wanted: u64) -> Slot
         requires within { wanted + overhead_of self.now.lengths protected < length
             self.now.by_length.items }

@@ -1,4 +1,4 @@
--- One area more, from the last to the first.
+-- One more area, from the last to the first.
 use Rattle.std.proofs.Common.{ap, ap₂, arith, get_or, length, replicate, subst, sym, take, ◌++◌}
 use Rattle.std.proofs.Common.{◌+◌, ◌-◌, ◌∙◌, ◌≡◌}
 use Rattle.best_plan.proofs.BoundedSlopeLemmas.{IsNearTo, near-begin, near-end, near-next}

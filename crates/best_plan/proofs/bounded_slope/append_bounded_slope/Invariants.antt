@@ -1,4 +1,4 @@
--- The sums and places after fewer free bytes than those
+-- The sums and places for fewer free bytes than those
 -- with which an area before this one leaves enough.
 use Rattle.best_plan.proofs.BoundedSlopeLemmas.{IsNearTo}
 use Rattle.best_plan.proofs.bounded_slope.append_bounded_slope.Given as goal

@@ -1,4 +1,4 @@
--- The free bytes so far.
+-- Each of the free bytes so far saves at most one.
 use Rattle.std.proofs.Common.{get_or, ℕ, ◌+◌, ◌<◌, ◌≤◌}
 use Rattle.best_plan.proofs.bounded_slope.bounded_slope_start.Given as goal
 

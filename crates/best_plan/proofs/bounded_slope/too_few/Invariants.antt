@@ -1,4 +1,4 @@
--- There was no sum yet.
+-- There is no sum so far.
 use Rattle.std.proofs.Common.{get_or, ℕ, ◌<◌, ◌≡◌}
 use Rattle.best_plan.specs.Rows.{nothing}
 use Rattle.best_plan.proofs.bounded_slope.too_few.Given as goal

@@ -1,4 +1,4 @@
--- There are none so far.
+-- There are no sums so far.
 use Rattle.std.proofs.Common.{get_or, length, ℕ, ◌<◌, ◌≡◌}
 use Rattle.best_plan.specs.Rows.{nothing}
 use Rattle.best_plan.proofs.bounded_slope.write_none.Given as goal

@@ -1,4 +1,4 @@
--- The list of the plan is one of those among which the best is.
+-- The plan's list is one of those among which the best is.
 use Rattle.best_plan.proofs.BestExistsLemmas.{best-exists}
 use Rattle.best_plan.proofs.laws.best_exists.Goals as goal
 

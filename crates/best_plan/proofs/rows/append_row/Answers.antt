@@ -1,4 +1,4 @@
--- One number of free bytes more.
+-- One more number of free bytes.
 use Rattle.std.proofs.Common.{arith, subst, sym, [], ◌++◌, ◌+◌, ◌∷◌}
 use Rattle.best_plan.proofs.RowLemmas.{IsRowTo, row-more}
 use Rattle.best_plan.proofs.rows.append_row.Goals as goal

@@ -1,4 +1,4 @@
--- The row so far, and a place of an area.
+-- The row so far, and `from` as a place of the areas, or after the last.
 use Rattle.std.proofs.Common.{length, ◌≤◌}
 use Rattle.best_plan.proofs.RowLemmas.{IsRowTo}
 use Rattle.best_plan.proofs.rows.append_row.Given as goal

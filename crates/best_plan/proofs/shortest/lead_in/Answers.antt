@@ -1,4 +1,4 @@
--- The slots of a lead-in are all slots, and with the largest a whole window is free.
+-- A lead-in's slots are all slots, and after the largest a whole window is free.
 use Rattle.std.proofs.Common.{All, ap, arith, false, length, refl, rules, subst, sym, ◌∙◌, ◌≤◌}
 use Rattle.best_plan.proofs.PlanLemmas.{lead-by, lead-ready, lead-within}
 use Rattle.slot_plan.{proofs.AreaLemmas.{Ascend, lead-ascend}, specs.Parts.slot_areas}

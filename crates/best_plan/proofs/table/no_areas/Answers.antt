@@ -1,4 +1,4 @@
--- One sum more, and all.
+-- One more sum, and all.
 use Rattle.std.proofs.{Common.{ap, arith, get_or, length, refl, ◌+◌, ◌∙◌}, lemmas.List.length_push}
 use Rattle.best_plan.proofs.RowLemmas.{zero-more}
 use Rattle.best_plan.proofs.table.no_areas.Goals as goal

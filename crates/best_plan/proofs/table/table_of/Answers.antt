@@ -1,4 +1,4 @@
--- One frame more, from the last to the first.
+-- One more frame, from the last to the first.
 use Rattle.std.proofs.Common.{All, arith, drop, rules, subst, ◌+◌, ◌-◌, ◌∙◌, ◌≡◌, ◌≤◌}
 use Rattle.best_plan.proofs.WalkLemmas.{table-more, table-none, table-width}
 use Rattle.best_plan.specs.{Rows.AppendsRow, Table.IsTable}

@@ -1,4 +1,4 @@
--- The table of the frames from i on, and whether each free byte spares one.
+-- The table of the frames from i on, and how many bytes each free byte saves.
 use Rattle.std.proofs.Common.{drop}
 use Rattle.best_plan.specs.{Rows.AreKnownSlopes, Table.IsTable}
 use Rattle.best_plan.proofs.table.table_of.Given as goal

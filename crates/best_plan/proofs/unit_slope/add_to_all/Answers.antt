@@ -1,4 +1,4 @@
--- One sum more.
+-- One more sum.
 use Rattle.std.proofs.Common.{arith, length, refl, ◌<◌}
 use Rattle.best_plan.proofs.UnitSlopeLemmas.{added-more}
 use Rattle.best_plan.proofs.unit_slope.add_to_all.Goals as goal

@@ -1,4 +1,4 @@
--- The sums so far have more, and the others are as they were.
+-- The sums so far have `bytes` added, and the others are unchanged.
 use Rattle.std.proofs.Common.{drop, map, take, ◌++◌, ◌+◌, ◌≡◌}
 use Rattle.best_plan.proofs.unit_slope.add_to_all.Given as goal
 

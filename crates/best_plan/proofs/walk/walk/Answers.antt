@@ -1,4 +1,4 @@
--- One frame more, and the last.
+-- One more frame, and the last.
 use Rattle.std.proofs.Common.{ap, arith, drop, length, take, ◌+◌, ◌-◌, ◌∙◌, ◌≡◌}
 use Rattle.best_plan.proofs.WalkLemmas.{area-is, goes-all, goes-begun, goes-more, place-is}
 use Rattle.best_plan.proofs.WalkLemmas.{walk-next, walk-open}

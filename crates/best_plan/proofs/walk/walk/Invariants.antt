@@ -1,4 +1,4 @@
--- The frames before were placed, and by what is left of the table some list fits.
+-- The frames so far were placed, and by what is left of the table some list fits.
 use Rattle.std.proofs.Common.{drop, ◌≤◌}
 use Rattle.best_plan.{proofs.WalkLemmas.GoesOn, specs.Table.CanWalkTable}
 use Rattle.best_plan.proofs.walk.walk.Given as goal

@@ -1,4 +1,4 @@
--- One slot is the first that isn't too small, or the last is.
+-- The first slot that isn't too small, or the last.
 use Rattle.std.proofs.Common.{arith, length, ◌-◌}
 use Rattle.slot_plan.proofs.AreaLemmas.{area-last, least-first}
 use Rattle.slot_plan.proofs.ascending.least_slot_among.Goals as goal

@@ -1,4 +1,5 @@
--- The least slot, not less than the first's own, that has what is missing; or none has.
+-- The least slot, not less than the first's own, that
+-- has what is missing; `None` if no slot has it.
 use Rattle.std.proofs.Common.{ap, ap₂, arith, max, ◌∙◌}
 use Rattle.frame_header.specs.Tables.{class_of, window_of}
 use Rattle.slot_plan.proofs.FreeByteLemmas.{window-most}

@@ -1,4 +1,4 @@
--- The least slot that has what the frames want, of which there is one.
+-- The least slot that has what the frames want. There is one.
 use Rattle.std.proofs.Common.{ap, arith, false, refl, subst, sym, ◌∙◌}
 use Rattle.frame_header.{proofs.HeaderLemmas.IsClass-class_of, specs.Fields.{IsClass, IsHeader}}
 use Rattle.frame_header.specs.Tables.{class_of}

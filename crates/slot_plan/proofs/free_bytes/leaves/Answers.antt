@@ -1,4 +1,4 @@
--- One frame more, and the last.
+-- One more frame, and the last.
 use Rattle.std.proofs.Common.{ap, arith, ◌∙◌}
 use Rattle.frame_header.specs.Tables.{window_of}
 use Rattle.slot_plan.proofs.FreeByteLemmas.{fits-in, leaves-all, leaves-more, leaves-none}

@@ -1,4 +1,4 @@
--- One frame more, from the last to the first.
+-- One more frame, from the last to the first.
 use Rattle.std.proofs.Common.{arith, sym, ◌-◌, ◌∙◌}
 use Rattle.frame_header.specs.Tables.{window_of}
 use Rattle.slot_plan.proofs.FreeByteLemmas.{fits-in, wanted-all, wanted-before, wanted-most}

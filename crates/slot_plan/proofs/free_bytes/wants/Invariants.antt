@@ -1,4 +1,4 @@
--- The frames from here on want so many bytes.
+-- `wanted` is what the frames from here on want.
 use Rattle.std.proofs.Common.{drop, ◌≡◌}
 use Rattle.slot_plan.proofs.FreeByteLemmas.{own_needed}
 use Rattle.slot_plan.proofs.free_bytes.wants.Given as goal

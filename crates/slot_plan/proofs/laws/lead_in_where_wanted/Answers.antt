@@ -1,4 +1,4 @@
--- A lead-in exactly where the frames want something.
+-- A lead-in exactly if the frames want something.
 use Rattle.slot_plan.proofs.OwnLeadInLemmas.{lead-where-wanted}
 use Rattle.slot_plan.proofs.laws.lead_in_where_wanted.Goals as goal
 

@@ -1,4 +1,4 @@
--- The plan is that of the first list.
+-- The plan is the plan of the first list.
 use Rattle.slot_plan.proofs.LeastPlanLemmas.{least-plan-is}
 use Rattle.slot_plan.proofs.laws.least_plan_is_the_plan.Goals as goal
 

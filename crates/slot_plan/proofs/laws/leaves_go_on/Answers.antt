@@ -1,4 +1,4 @@
--- What the others leave is what all leave.
+-- What all leave is what the others leave after the first.
 use Rattle.slot_plan.proofs.FreeByteLemmas.{left-on}
 use Rattle.slot_plan.proofs.laws.leaves_go_on.Goals as goal
 

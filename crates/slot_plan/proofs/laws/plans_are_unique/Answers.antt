@@ -1,4 +1,4 @@
--- One plan at most.
+-- At most one plan.
 use Rattle.slot_plan.proofs.OnePlanLemmas.{one-plan}
 use Rattle.slot_plan.proofs.laws.plans_are_unique.Goals as goal
 

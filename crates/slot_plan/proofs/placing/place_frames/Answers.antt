@@ -1,4 +1,4 @@
--- One frame more.
+-- One more frame.
 use Rattle.std.proofs.Common.{ap, arith, drop, map, subst, sym, ℕ, ◌+◌, ◌∙◌, ◌≡◌}
 use Rattle.std.proofs.lemmas.List.{length-drop}
 use Rattle.frame_header.specs.Tables.{area_of, class_of}

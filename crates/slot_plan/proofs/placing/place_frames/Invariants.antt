@@ -1,4 +1,4 @@
--- The frames before were placed, and what those from here on need is free.
+-- The frames so far are placed, and what the frames from here on need is free.
 use Rattle.std.proofs.Common.{drop, length, map, ◌+◌, ◌≡◌, ◌≤◌}
 use Rattle.std.specs.Prelude.{vec_capacity, vec_len}
 use Rattle.slot_plan.specs.Parts.{need_item}

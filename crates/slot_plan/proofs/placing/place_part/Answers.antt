@@ -1,4 +1,4 @@
--- The part is placed, after its lead-in where it needs something free.
+-- The part is placed, after its lead-in if it needs free bytes.
 use Rattle.std.proofs.{Common.arith, lemmas.Result.IfOk-weaker}
 use Rattle.slot_plan.proofs.PlacedLemmas.{part-led, part-without}
 use Rattle.slot_plan.proofs.placing.place_part.Goals as goal

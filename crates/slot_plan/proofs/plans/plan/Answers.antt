@@ -1,4 +1,4 @@
--- One part more.
+-- One more part.
 use Rattle.std.proofs.Common.{arith, drop, get_or, length, refl, rules, subst, sym, ◌+◌, ◌<◌}
 use Rattle.std.specs.Prelude.{slice_range}
 use Rattle.slot_plan.proofs.LeastPlanLemmas.{plan-least}

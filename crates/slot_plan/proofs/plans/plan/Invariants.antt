@@ -1,4 +1,4 @@
--- The parts before were placed, and those from here on can be.
+-- The parts so far are placed, and the parts from here on can be.
 use Rattle.std.proofs.Common.{drop, ◌≤◌}
 use Rattle.slot_plan.proofs.PlacedLemmas.{PartsPlaced}
 use Rattle.slot_plan.specs.Parts.{ArePartsFeasible, needs_in_parts}

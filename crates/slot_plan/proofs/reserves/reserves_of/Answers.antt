@@ -1,4 +1,4 @@
--- One frame more, from the last to the first.
+-- One more frame, from the last to the first.
 use Rattle.std.proofs.Common.{arith, length, subst, sym, [], ◌++◌, ◌+◌, ◌-◌, ◌<◌, ◌∷◌, ◌≡◌, ◌≤◌}
 use Rattle.slot_plan.proofs.PartLemmas.{reserves-all, reserves-more, reserves-none, ReservesFrom}
 use Rattle.slot_plan.proofs.{PartLemmas.same-class, reserves.reserves_of.Given.Over}

@@ -1,4 +1,4 @@
--- The lengths of the bit rate indexes before this one.
+-- The lengths for the bit rate indexes before this one.
 use Rattle.std.proofs.Common.{false, get_or, length, ℕ, ◌+◌, ◌<◌, ◌≡◌}
 use Rattle.frame_header.specs.{Slots.slot_of, Tables.length_of}
 use Rattle.slot_plan.proofs.lengths.Lengths.new.Given as goal

@@ -1,4 +1,4 @@
--- No overhead has more bytes.
+-- An overhead has at most 38 bytes.
 use Rattle.std.proofs.Common.{arith, false, true}
 use Rattle.slot_plan.proofs.LengthLemmas.{overhead-most}
 use Rattle.slot_plan.proofs.lengths.Lengths.overhead_of.Goals as goal

@@ -1,4 +1,4 @@
--- One slot more.
+-- One more slot.
 use Rattle.std.proofs.Common.{ap, arith, replicate, subst, sym, take, ◌++◌, ◌+◌, ◌-◌, ◌∙◌}
 use Rattle.slot_plan.proofs.TableLemmas.{IsTableTo, Rise, rise-areas, table-all, table-more}
 use Rattle.slot_plan.proofs.TableLemmas.{table-none}
