@@ -1,4 +1,4 @@
--- Which frames fit: all do that fit in the largest slot each, after a lead-in of that slot.
+-- Which frames fit: those that fit in the largest slots, after a lead-in in the largest slot.
 use Rattle.std.proofs.Common.{ap, arith, Bool, Contains, drop, false, get_or, length, List, map}
 use Rattle.std.proofs.Common.{refl, subst, sym, take, true, ℕ, [], ◌++◌, ◌+◌, ◌<◌, ◌∙◌, ◌∷◌, ◌≡◌}
 use Rattle.std.proofs.Common.{◌≤◌}
@@ -131,7 +131,7 @@ laid-fit window class menu (first ∷ needs) same some can =
     (subst (AllFit window (start_of window (class_of first.header) menu))
     (frames-top menu (first ∷ needs)) fit)
 
--- and frames that fit so have one
+-- frames that fit in their largest slots after the largest lead-in have a layout after a lead-in
 pub fit-laid : (window : ℕ) (class : ClassFields) (menu : List SlotFields) (needs : List Need)
     → AreNeedsOfClass class needs → 1 ≤ length needs → 1 ≤ length menu
     → AllFit window (start_of window class menu) (map (top_frame menu) needs)
@@ -149,7 +149,7 @@ fit-laid window class menu (first ∷ needs) same some slots fit =
     (lead-chosen (class_of first.header) menu opens slots (tops-chosen menu (first ∷ needs) slots))
     (lead-fit window (class_of first.header) menu opens tops)
 
--- so they can be placed
+-- frames with a layout after a lead-in can be placed
 pub laid-feasible : (window : ℕ) (class : ClassFields) (menu : List SlotFields) (needs : List Need)
     → AreNeedsOfClass class needs → 1 ≤ length needs → CanBeLaidFromMenu window true menu needs
     → HasLayout window (greatest_number (slot_areas class false menu)) (map (top_frame menu) needs)
@@ -162,7 +162,7 @@ laid-feasible window class menu needs same some can =
           (laid-fit window class menu needs same some can),
     )
 
--- what has a layout without a lead-in has one after it
+-- frames with a layout without a lead-in fit after the largest one
 pub without-fit : (window : ℕ) (class : ClassFields) (menu : List SlotFields) (needs : List Need)
     → CanBeLaidFromMenu window false menu needs
     → AllFit window (start_of window class menu) (map (top_frame menu) needs)
@@ -171,7 +171,7 @@ without-fit window class menu needs can =
     subst (AllFit window (start_of window class menu)) (frames-top menu needs)
     (can-tops window (start_of window class menu) (open_frames (menu_choices menu) needs) can)
 
--- ---- one frame more
+-- ---- one more frame
 
 -- the free bytes after some frames
 unfoldable pub left_of : ℕ → ℕ → List FrameLengths → ℕ
@@ -223,7 +223,7 @@ fit-take window free menu needs k fit =
     fit-front window free (map (top_frame menu) (take k needs))
     (map (top_frame menu) (drop k needs)) (subst (AllFit window free) parts fit)
 
--- the largest area of the class is that of the frame
+-- the largest area for the class is the largest area for the frame
 pub area-at : (class : ClassFields) (menu : List SlotFields) (needs : List Need) (i : ℕ)
     (need : Need) → AreNeedsOfClass class needs → i < length needs → need ≡ get_or needs i need
     → greatest_number (slot_areas class need.header.protected menu) ≡ most_area menu need
@@ -233,7 +233,7 @@ area-at class menu needs i need same within is =
 
 -- ---- the frames before i fit
 
--- the frames so far fit in their largest slots, and so many bytes are free after them
+-- the frames so far fit in their largest slots, and `free` bytes are free after them
 pub record FitTo (window : ℕ) (class : ClassFields) (menu : List SlotFields) (needs : List Need)
     (i free : ℕ) : Type 0 where
   pub fit : AllFit window (start_of window class menu) (map (top_frame menu) (take i needs))
@@ -255,7 +255,7 @@ next_frame menu needs i need within is =
 
 module _ (window : ℕ) (class : ClassFields) (menu : List SlotFields) (needs : List Need)
     (i : ℕ) where
-  -- a frame that fits in the free bytes and its largest area is one more
+  -- a frame that fits in the free bytes and its largest area is one more that fits
   pub to-more : (need : Need) (free next : ℕ) → i < length needs → need ≡ get_or needs i need
       → need.bytes ≤ free + most_area menu need
       → next ≡ free_bytes_behind window free need.bytes (most_area menu need)

@@ -1,4 +1,4 @@
--- With the largest slot in the menu whatever has a layout in its own slots fits.
+-- If the largest slot is in the menu, whatever has a layout in its own slots fits.
 use Rattle.std.proofs.Common.{All, arith, Bool, Contains, false, length, List, map, subst, suc, sym}
 use Rattle.std.proofs.Common.{true, ℕ, [], ◌+◌, ◌∷◌, ◌≡◌, ◌≤◌}
 use Rattle.frame_header.proofs.SlotLemmas.{area-largest, window-spanned}
@@ -46,7 +46,7 @@ fit-own window free more class menu (need ∷ needs) less sound same are has fit
 some-slot : (menu : List SlotFields) → Contains menu largest_slot → 1 ≤ length menu
 some-slot menu has = omega (arith, has.1)
 
--- with the largest slot in the menu whatever has a layout in its own slots fits
+-- if the largest slot is in the menu, whatever has a layout in its own slots fits
 pub largest-fits : LargestSlotFits
 largest-fits = λ class menu needs i sound same are has feasible unfit.
     let window : ℕ = window_of class.version in

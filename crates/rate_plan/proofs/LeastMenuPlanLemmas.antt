@@ -1,4 +1,4 @@
--- The plan from a menu, or the first unfit frame, is that of the first list.
+-- The plan from a menu, or the first unfit frame, is the value for the first list.
 use Rattle.std.proofs.Common.{AllPairs, ap, arith, Bool, cond, Err, false, find, get_or, inl, inr}
 use Rattle.std.proofs.Common.{is_none, length, List, map, MatchOption, None, Ok, ok_or, Option}
 use Rattle.std.proofs.Common.{refl, Result, Some, subst, suc, sym, take, true, unwrap_or, zero, ℕ}
@@ -49,9 +49,9 @@ can-of : (window : ℕ) (opens : List OpenFrame) (areas : List ℕ) → IsLeastL
 unfolding CanBeLaid
 can-of window opens areas least = (areas, least.chosen, least.feasible)
 
--- ---- of a range
+-- ---- the numbers of a range
 
--- whether one passes, and which is the first
+-- no number of a range passes the test, or one is the first that does
 first-of : (test : ℕ → Bool) (n from : ℕ) → MatchOption (find test (range_with_len from n))
     ((k : ℕ) → from ≤ k → k < from + n → test k ≡ false) (λ i. (from ≤ i) × (i < from + n)
     × (test i ≡ true) × ((k : ℕ) → from ≤ k → k < i → test k ≡ false))
@@ -122,7 +122,7 @@ module _ (window : ℕ) (class : ClassFields) (menu : List SlotFields) (needs : 
   fit-before k can = ap is_none
       (some-list window (menu_items true menu (take (k + 1) needs)) (ordered-front k) can).1
 
-  -- ---- and back
+  -- ---- the converse
 
   none-can : (lead_in : Bool) → least_placement window (menu_items lead_in menu needs) ≡ None
       → CanBeLaidFromMenu window lead_in menu needs → ⊥
@@ -232,7 +232,7 @@ module _ (window : ℕ) (class : ClassFields) (menu : List SlotFields) (needs : 
             before = λ k less. front-can k (first.3 k (omega arith) less);
           })
 
-  -- there is one
+  -- there is at most one first unfit frame
   one-unfit : (i j : ℕ) → IsFirstUnfitFrame window menu needs i
       → IsFirstUnfitFrame window menu needs j → i ≡ j
   one-unfit i j first second =
@@ -272,7 +272,7 @@ least_menu_plan-is = λ window class menu needs same some ascend slots. (
   )),
 )
 
--- what the planner answers, whose class is that of the first frame
+-- what the planner returns, whose class is the class of the first frame
 module _ (class : ClassFields) (menu : List SlotFields) (needs : List Need) (d : Need)
     (all : AreNeedsOfOneClass needs) (some : 1 ≤ length needs)
     (is : class ≡ class_of (get_or needs 0 d).header) (is_menu : IsMenu menu needs) where
@@ -293,7 +293,7 @@ module _ (class : ClassFields) (menu : List SlotFields) (needs : List Need) (d :
       (plan-least (window_of class.version) class menu needs (one-class class needs d all is)
       (ascends needs is some is_menu) placed plan)
 
-  -- the first unfit frame is given where there is no list
+  -- if there is no list, the value is the first unfit frame
   pub unfit-answered : (i : ℕ) → IsFirstUnfitFrame (window_of class.version) menu needs i
       → least_menu_plan (window_in needs) menu needs ≡ Err i
   unfit-answered i unfit =

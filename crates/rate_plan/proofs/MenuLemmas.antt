@@ -1,4 +1,4 @@
--- Menus of slots that are side by side among all slots.
+-- Menus of slots that are next to each other among all slots.
 use Rattle.std.proofs.Common.{AllPairs, ap, arith, Bool, Contains, drop, get_or, length, List, lit≤}
 use Rattle.std.proofs.Common.{slice_range, subst, sym, take, ℕ, ◌+◌, ◌-◌, ◌<◌, ◌∙◌, ◌≡◌, ◌≤◌}
 use Rattle.std.proofs.lemmas.List.{drop-map, get_or-drop, get_or-take, length-drop, length-take-le}
@@ -10,14 +10,14 @@ use Rattle.frame_header.specs.{Slots.{all_slots, areas_of, largest_slot}, Tables
 use Rattle.rate_plan.specs.Laws.{SlicesAreMenus}
 use Rattle.slot_plan.specs.Parts.{slot_areas}
 
--- a slice of the slots has as many as its bounds are apart
+-- a slice of the slots has as many slots as its bounds are apart
 pub slice-many : (from to : ℕ) → from < to → to ≤ 28
     → length (slice_range all_slots from to) ≡ to - from
 slice-many from to some within =
     length-take-le (to - from) (drop from all_slots)
     (omega (arith, length-drop from all_slots, length-all_slots, within))
 
--- an element of a slice is the one that far behind its beginning
+-- an element of a slice is the element of the list that is `from` places further on
 pub slice-at : {X : Type 0} (xs : List X) (from to i : ℕ) (d : X) → i < to - from
     → get_or (slice_range xs from to) i d ≡ get_or xs (from + i) d
 slice-at xs from to i d before =
@@ -60,7 +60,7 @@ ends-largest from to some last =
           ∙ get_or-place_of largest_slot largest_slot (lit≤ tt, lit≤ tt),
     )
 
--- slots side by side among all slots are a menu
+-- slots next to each other among all slots are a menu
 pub slices-menus : SlicesAreMenus
 slices-menus = λ class from to sound some within. (
   (λ protected. subst (AllPairs (λ m n. m < n)) (sym (areas-slice class protected from to))

@@ -25,7 +25,7 @@ nothing : reserve_before [] ≡ 0
 unfolding reserve_before
 nothing = refl
 
--- all were placed after nothing
+-- frames that were placed after nothing are all that is placed
 places-all : (window after : ℕ) (items : List PlanItem) (new : List Placed)
     → PlacesMore window 0 after items [] [] new → AreItemsPlaced window 0 items new
 places-all window after items new on =
@@ -34,7 +34,7 @@ places-all window after items new on =
     subst (AreItemsPlaced window 0 items) more
     (subst (λ l. AreItemsPlaced window 0 l (on.more ++ [])) (append-nil items) all)
 
--- a lead-in with the least of the slots of a menu is placed among them
+-- a part placed after the least slot of a menu as a lead-in is placed after a lead-in of the menu
 lead-among : (window : ℕ) (class : ClassFields) (menu : List SlotFields) (slot : SlotFields)
     (items : List PlanItem) (placed : List Placed)
     → IsLeastSlot (reserve_before (map open_frame items)) class false menu slot

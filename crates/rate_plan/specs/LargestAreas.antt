@@ -4,11 +4,11 @@ use Rattle.frame_header.specs.{Fields.{ClassFields, SlotFields}, Limits.most_fra
 use Rattle.rate_plan.specs.declared.largest.Largest.{Largest}
 use Rattle.slot_plan.specs.{Parts.slot_areas, Reserve.greatest_number}
 
--- that of a frame, by whether it has a check word
+-- the largest area of a frame with or without a check word
 abbrev pub menu_largest_area : Largest → Bool → ℕ
 menu_largest_area largest protected = if protected then largest.protected else largest.unprotected
 
--- these are the largest areas, of which none is above 1,441
+-- these are the largest areas of a menu, at most 1,441 bytes
 pub record AreLargestAreas (class : ClassFields) (menu : List SlotFields)
     (largest : Largest) : Type 0 where
   pub are : (protected : Bool)

@@ -1,4 +1,4 @@
--- What holds of plans from a menu, whatever the code.
+-- Laws of plans from a menu, whatever the code.
 use Rattle.std.specs.Prelude.{All, Contains, Err, length, List, map, Ok, slice_range, ℕ, ◌<◌, ◌↔◌}
 use Rattle.std.specs.Prelude.{◌≡◌, ◌≤◌}
 use Rattle.frame_header.specs.Fields.{ClassFields, IsClass, IsSlot, SlotFields}
@@ -19,7 +19,7 @@ LargestSlotFits =
     → IsFirstUnfitFrame (window_of class.version) menu needs i → ⊥
 
 -- All slots from one on and before another, such as those from one bit
--- rate to another, are a menu; those up to the last have the largest.
+-- rate to another, are a menu; those up to the last include the largest.
 abbrev pub SlicesAreMenus : Type 0
 SlicesAreMenus =
     (class : ClassFields) (from to : ℕ) → IsClass class → from < to → to ≤ 28
@@ -27,8 +27,8 @@ SlicesAreMenus =
     × (1 ≤ length (slice_range all_slots from to))
     × (to ≡ 28 → Contains (slice_range all_slots from to) largest_slot)
 
--- Frames of one class have one plan from a menu, or one first unfit frame, which
--- is that of the first list: a frame is unfit exactly where no list has a layout.
+-- Frames of one class have one plan from a menu, which is the plan of the first
+-- list, or one first unfit frame: a frame is unfit exactly if no list has a layout.
 abbrev pub LeastMenuPlanIsThePlan : Type 0
 LeastMenuPlanIsThePlan =
     (window : ℕ) (class : ClassFields) (menu : List SlotFields) (needs : List Need)

@@ -1,4 +1,4 @@
--- The plan of one part whose frames, and whose lead-in, have slots of one menu.
+-- The plan of one part whose frames and lead-in have slots of one menu.
 use Rattle.std.specs.Prelude.{AllPairs, Bool, false, length, List, map, take, true, ℕ, [], ◌+◌, ◌<◌}
 use Rattle.std.specs.Prelude.{◌↔◌, ◌∷◌, ◌≡◌, ◌≤◌}
 use Rattle.frame_header.specs.{Fields.{ClassFields, HeaderFields, SlotFields}, Limits.most_frames}
@@ -9,7 +9,7 @@ use Rattle.slot_plan.specs.Parts.{AreNeedsOfClass, lead_in_item, need_item, open
 use Rattle.slot_plan.specs.{Parts.slot_areas, Plans.IsPlanFor, declared.needs.Need.Need}
 use Rattle.slot_plan.specs.declared.needs.Placed.{Placed}
 
--- whatever its header, a frame has any slot of the menu
+-- whatever its header, a frame may have any slot of the menu
 abbrev pub menu_choices : List SlotFields → HeaderFields → List SlotFields
 menu_choices menu header = menu
 
@@ -27,12 +27,12 @@ pub record IsMenuOf (class : ClassFields) (menu : List SlotFields) : Type 0 wher
 -- frames of this class that can be planned together
 pub record ArePlannableNeeds (class : ClassFields) (needs : List Need) : Type 0 where
   pub class_is : AreNeedsOfClass class needs
-  -- there is one
+  -- there is a frame
   pub some : 1 ≤ length needs
-  -- and no more than a stream may have
+  -- there are at most as many as a stream may have
   pub few : length needs ≤ most_frames
 
--- they ascend in the class of the first frame
+-- the areas of the menu ascend in the class of the first frame
 abbrev pub IsMenu : List SlotFields → List Need → Type 0
 IsMenu menu [] = Unit {0}
 IsMenu menu (first ∷ needs) = HasAscendingAreas (class_of first.header) menu
@@ -50,7 +50,7 @@ CanBeLaidFromMenu window lead_in menu needs =
     CanBeLaid window (map open_frame (menu_items lead_in menu needs))
 
 -- The plan: with a lead-in exactly if no list has a layout without one, the
--- lexicographically least list with or without it, laid as early as it may be.
+-- lexicographically least list with or without it, with main data as early as they may be.
 pub record IsMenuPlan (window : ℕ) (menu : List SlotFields) (needs : List Need)
     (placed : List Placed) : Type 0 where
   pub lead_in : Bool

@@ -8,11 +8,11 @@ use thiserror::Error;
 /// Why there is no plan from a menu.
 #[derive(Clone, Copy, Debug, PartialEq, Eq, Error)]
 pub enum RateFault {
-    /// The first frame, counted from 0, up to which the frames have no layout in slots of the menu, even
-    /// after a lead-in.
+    /// The first frame, counted from 0, up to which the frames have no layout in slots of the menu,
+    /// even after a lead-in.
     #[error("frame {0} does not fit")]
     Unfit(u32),
-    /// There was no memory left.
+    /// Memory ran out.
     #[error("out of memory")]
     Memory,
 }

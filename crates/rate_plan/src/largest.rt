@@ -6,7 +6,8 @@ ghost use Rattle.rate_plan.specs.LargestAreas.{menu_largest_area, AreLargestArea
 use frame_header::{Class, Slot};
 use slot_plan::largest_area_of;
 
-/// The largest areas of the slots of a menu, in bytes: those of frames without a check word and with it.
+/// The largest areas of the slots of a menu, in bytes, for frames without a check word and with
+/// one.
 #[derive(Clone, Copy)]
 pub(crate) struct Largest {
     pub(crate) unprotected: u32,
@@ -14,7 +15,7 @@ pub(crate) struct Largest {
 }
 
 impl Largest {
-    /// Those of this menu.
+    /// The largest areas of this menu.
     pub(crate) fn of_menu(class: Class, menu: &[Slot]) -> Largest
         requires { IsMenuOf class menu.now }
         ensures { AreLargestAreas class menu.now result }
@@ -25,7 +26,7 @@ impl Largest {
         }
     }
 
-    /// The largest area of a frame, by whether it has a check word.
+    /// The largest area of a frame with or without a check word.
     pub(crate) fn area(self, protected: bool) -> u32
         ensures { result ≡ menu_largest_area self protected }
     {

@@ -1,5 +1,5 @@
-//! Plans from a menu: each frame and the lead-in have one of a few slots, such as those of one bit rate or
-//! of all from one on.
+//! Plans from a menu: each frame and the lead-in have one of a few slots, such as the slots of one
+//! bit rate, or all slots from one on.
 #![tactic(auto)]
 
 mod fault;

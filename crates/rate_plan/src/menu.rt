@@ -1,4 +1,4 @@
-//! A menu as placing asks it.
+//! A menu as an offer, for placing.
 ghost use Rattle.slot_plan.specs.Parts.{header_areas};
 ghost use Rattle.slot_plan.specs.Reserve.{greatest_number};
 ghost use Rattle.rate_plan.specs.Menus.{menu_choices};
@@ -15,7 +15,7 @@ pub(crate) struct Menu<'a> {
 impl<'a> Offer for Menu<'a> {
     ghost slots_of = { λ m. menu_choices m.slots.now };
 
-    // The largest.
+    // The largest area.
     ghost some_area_of = { λ m h. greatest_number (header_areas (menu_choices m.slots.now) h) };
 
     ghost lead_slots_of = { λ m. m.slots.now };

@@ -17,7 +17,7 @@ use std::alloc::{AllocError, Global};
 /// The plan of frames that have a layout after one lead-in.
 ///
 /// # Errors
-/// Where there is no memory.
+/// If memory runs out.
 fn fit_plan(alloc: Global, class: Class, needs: &[Need], menu: &[Slot]) -> Result<Plan, AllocError>
     requires needs { ArePlannableNeeds class needs.now }
     requires menu { IsMenuOf class menu.now }
@@ -37,14 +37,14 @@ fn fit_plan(alloc: Global, class: Class, needs: &[Need], menu: &[Slot]) -> Resul
     Ok(Plan::from_placed(placed))
 }
 
-/// The plan of 1 to 2,900,000 frames of one class: the lexicographically least list of areas that has a
-/// layout, all slots being of the menu, after one lead-in of the menu if none has a layout without one.
-/// Main data begin as early as they may (ISO/IEC 11172-3, 2.4.2.7). The menu has at least one slot, and its
-/// areas ascend.
+/// The plan of 1 to 2,900,000 frames of one class: the lexicographically least list of areas that
+/// has a layout, with all slots from the menu, after one lead-in from the menu if no list has a
+/// layout without one. Main data begin as early as they may (ISO/IEC 11172-3, 2.4.2.7). The menu
+/// has at least one slot, and its areas ascend.
 ///
 /// # Errors
-/// `Unfit` exactly where no list has a layout, even after a lead-in, with the first frame up to which none
-/// has. `Memory` where there is no memory.
+/// `Unfit` exactly if no list has a layout, even after a lead-in, with the first frame up to which
+/// none has. `Memory` if memory runs out.
 pub fn rate_plan(alloc: Global, needs: &[Need], menu: &[Slot]) -> Result<Plan, RateFault>
     requires class { AreNeedsOfOneClass needs.now }
     requires some { 1 ≤ length needs.now }

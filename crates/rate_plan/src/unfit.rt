@@ -1,4 +1,4 @@
-//! Whether all frames fit, from the first to the last, each in the largest slot after a lead-in of that
+//! Whether all frames fit, from first to last, each in the largest slot, after a lead-in in that
 //! slot.
 ghost use Rattle.std.specs.Prelude.{true, MatchOption};
 ghost use Rattle.frame_header.specs.Tables.{window_of};
@@ -8,7 +8,8 @@ use crate::largest::Largest;
 use frame_header::{Class, Slot};
 use slot_plan::{Need, free_behind};
 
-/// The first frame up to which the frames have no layout, even after a lead-in; `None` if all have one.
+/// The first frame up to which the frames have no layout, even after a lead-in; `None` if all of
+/// them have one.
 pub(crate) fn first_unfit(class: Class, needs: &[Need], menu: &[Slot]) -> Option<u32>
     requires needs { ArePlannableNeeds class needs.now }
     requires menu { IsMenuOf class menu.now }

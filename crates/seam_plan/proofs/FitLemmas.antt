@@ -1,4 +1,4 @@
--- The test whether frames fit behind free bytes finds whether they do.
+-- The test whether frames fit after free bytes finds whether they do.
 use Rattle.std.proofs.{Common.{arith, List, map, ℕ, ◌-◌}, lemmas.Bool.{le-leb, leb-true}}
 use Rattle.std.specs.{Bool.Decides, Prelude.nat_le}
 use Rattle.seam_plan.specs.Joins.{fits_behind}
@@ -7,7 +7,7 @@ use Rattle.slot_plan.proofs.LeastPlanLemmas.{fit-has, has-fit}
 use Rattle.slot_plan.specs.{FreeBytes.{FitsBehind, IsLeastWanted}, Parts.own_frame}
 use Rattle.slot_plan.specs.declared.needs.Need.{Need}
 
--- the test whether frames fit behind free bytes finds whether they do
+-- the test whether frames fit after free bytes finds whether they do
 pub fits-tested : (window free : ℕ) (needs : List Need)
     → Decides (fits_behind window free needs) (FitsBehind window free needs)
 fits-tested window free needs = (
@@ -17,7 +17,7 @@ fits-tested window free needs = (
       (omega arith) (fit-feasible window free (map own_frame needs) fits),
 )
 
--- They fit where so many bytes are free as they want.
+-- Frames fit exactly if as many bytes are free as they want.
 pub wanted-tested : (window free wanted : ℕ) (needs : List Need) → IsLeastWanted window needs wanted
     → Decides (nat_le wanted free) (FitsBehind window free needs)
 wanted-tested window free wanted needs is =

@@ -1,5 +1,5 @@
--- The frames of an input that follows the one before it are the last of the run, from that of its
--- first played position on.
+-- The frames of an input that follows the one before it are the
+-- last of the run, from the frame of its first played position on.
 use Rattle.std.proofs.Common.{ap, append-nil, append_assoc, ap₂, arith, Bool, drop, eqb, false}
 use Rattle.std.proofs.Common.{flat_map, length, List, map, min, None, Option, refl, Some, subst}
 use Rattle.std.proofs.Common.{suc, sym, take, true, zero, ℕ, [], ◌%◌, ◌*◌, ◌++◌, ◌+◌, ◌-◌, ◌/◌, ◌∙◌}
@@ -23,7 +23,7 @@ use Rattle.seam_plan.specs.declared.seam.Seam.TheVariants.{Follows, LeadIn}
 
 -- ---- lists
 
--- an item behind so many is that of the list, so many places on
+-- an item of a list without its first n is the item n places further on in the list
 pub get-drop : {X : Type 0} (n : ℕ) (xs : List X) (i : ℕ)
     → slice_get (drop n xs) i ≡ slice_get xs (n + i)
 get-drop zero xs i = ap (slice_get xs) (omega arith)
@@ -40,7 +40,7 @@ pub record IsSoundOf (frames : List RunFrame) (i : ℕ) (sound : List ℕ) : Typ
   pub found : slice_get frames i ≡ Some frame
   pub is : frame.sound ≡ sound
 
--- a sound in the list of sounds is that of a frame at the same place
+-- a sound in the list of sounds is the sound of the frame at the same place
 pub sound-of : (frames : List RunFrame) (i : ℕ) (sound : List ℕ)
     → slice_get (sounds frames) i ≡ Some sound → IsSoundOf frames i sound
 sound-of frames i sound is =
@@ -63,7 +63,7 @@ alike-sounds (f ∷ fs) (g ∷ gs) is =
     ap₂ (λ (x : List ℕ) (xs : List (List ℕ)). x ∷ xs) ((bytes_eq-Decides f.sound g.sound).0 parts.0)
     (alike-sounds fs gs parts.1)
 
--- to join changes no sound
+-- joining changes no sound
 pub joining-sounds : (window : ℕ) (run rest frames : List RunFrame)
     → joining_frames window run rest ≡ Some frames → sounds frames ≡ sounds rest
 unfolding joining_frames
@@ -78,8 +78,8 @@ joining-sounds window run (f ∷ fs) frames is =
 
 -- ---- what is shared
 
--- the frames that are shared are whole, and there; those that are to be alike are from that of the
--- first played position on
+-- the shared frames are whole and in the input, and those that
+-- must be alike begin with the frame of the first played position
 record IsShared (class : ClassFields) (rest start frames : ℕ) (overlap : Overlap) : Type 0 where
   whole : start + rest ≡ overlap.frames * samples_in class
   there : overlap.frames ≤ frames
@@ -209,7 +209,7 @@ module _ (class : ClassFields) (run : List RunFrame) (before input : Brought) wh
     unfolding following_joint
     is-following is = by_ended before.played refl is
 
-  -- an input without its lead-in doesn't follow
+  -- an input that joins without its lead-in doesn't follow
   abbrev IsWithout : Option JointFrames → Type 0
   IsWithout None = Unit {0}
   IsWithout (Some joint) = joint.seam ≡ LeadIn
@@ -232,7 +232,7 @@ module _ (class : ClassFields) (run : List RunFrame) (before input : Brought) wh
       by_test true = by_joined (joining_frames (window_of class.version) run (drop 1 input.frames))
       by_test false = tt
 
-  -- nor does a whole one
+  -- an input that follows joins as the following input
   joint-follows : (out : ℕ) → (joint_of class run before input).seam ≡ Follows out
       → following_joint class run before input ≡ Some (joint_of class run before input)
   joint-follows out is =
@@ -293,7 +293,7 @@ module _ (class : ClassFields) (run : List RunFrame) (before input : Brought) wh
         joining-sounds (window_of class.version) run (drop shared input.frames) joint.frames
         is.frames
 
-    -- the frames that are alike and those that are added are the input's from the first of these on
+    -- the frames that are alike and the added ones are the input's from the first of these on
     input-parts : compared_frames is.overlap input ++ drop shared input.frames
         ≡ drop first input.frames
     input-parts =
@@ -410,7 +410,7 @@ joint-at class run first (i ∷ inputs) (suc n) before input joint is_before is_
     (append_assoc run here.frames
     (added (take n (joints_from class (run ++ here.frames) i inputs))))
 
--- each input that follows goes on where the one before it ended
+-- each input that follows continues where the one before it ends
 pub followers-on : FollowersGoOn
 followers-on class first inputs number before input joint out is_before is_input is_joint seam =
     let joints : List JointFrames = joints_of class first inputs in

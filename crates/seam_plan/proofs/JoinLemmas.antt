@@ -1,4 +1,4 @@
--- Frames join a run by what it leaves.
+-- How frames join a run, by what it leaves.
 use Rattle.std.proofs.Common.{ap, arith, Bool, Contains, drop, length, List, None, Option, refl}
 use Rattle.std.proofs.Common.{Some, subst, sym, true, ℕ, [], ◌++◌, ◌<◌, ◌∙◌, ◌∷◌, ◌≡◌, ◌≤◌}
 use Rattle.std.proofs.lemmas.Bool.{and_from, and_parts, le-leb, leb-true}
@@ -48,7 +48,8 @@ module _ (window left : ℕ) (run : List Need) (is : IsMostLeft window window ru
             (one-left window window left other run is left_is) (wanted_is.least left fits),
       )
 
-  -- the run and then frames fit behind a whole window where these fit behind what it leaves
+  -- the run and then frames fit after a whole window
+  -- exactly if the frames fit after what the run leaves
   pub behind-tested : (needs : List Need)
       → Decides (fits_behind window window (run ++ needs)) (FitsBehind window left needs)
   behind-tested needs = (
@@ -80,7 +81,7 @@ module _ (window left : ℕ) (run : List Need) (is : IsMostLeft window window ru
           fits = (behind-tested (need_in_slot slot first ∷ needs)).0 both.1;
         }
 
-    -- if the frames join in a slot, it is found
+    -- if the frames join in a slot, the search finds it
     pub join-found : (slot : SlotFields) → IsJoinSlot window left (first ∷ needs) (Some slot)
         → join_slot window run first needs ≡ Some slot
     unfolding IsJoinSlot
@@ -92,14 +93,14 @@ module _ (window left : ℕ) (run : List Need) (is : IsMostLeft window window ru
         (joins-passes slot joins.joins)
         (λ other has passes. joins.least other (passes-joins other has passes))
 
-    -- if they don't, none is
+    -- if the frames join in no slot, the search finds none
     pub join-none : IsJoinSlot window left (first ∷ needs) None
         → join_slot window run first needs ≡ None
     unfolding IsJoinSlot
     join-none none = find-none joins_in all_slots
         (λ other has passes. none other (passes-joins other has passes))
 
--- what `joins` answers is how the frames join
+-- what `joins` returns is how the frames join
 pub joining-some : (window left : ℕ) (seam : Seam) (run : List RunFrame) (first : RunFrame)
     (frames : List RunFrame) (slot : SlotFields) (result : CodeJoint)
     → IsMostLeft window window (needs_of run) left → IsClass (class_of first.need.header)
@@ -118,7 +119,7 @@ joining-some window left seam run first frames slot result is known joins gives 
       slot = ap (λ (j : CodeJoint). j.slot) gives;
     })
 
--- if the frames don't join behind what the run leaves, no seam is found
+-- if the frames don't join after what the run leaves, there is no seam
 pub joining-none : (window left : ℕ) (seam : Seam) (run : List RunFrame) (first : RunFrame)
     (frames : List RunFrame) → IsMostLeft window window (needs_of run) left
     → IsClass (class_of first.need.header) → IsJoinSlot window left (needs_of (first ∷ frames)) None
@@ -128,7 +129,7 @@ joining-none window left seam run first frames is known none =
     subst (λ o. IsJointOfFrames seam (option_map (λ s. frame_in_slot s first ∷ frames) o) None)
     (sym (join-none window left (needs_of run) is first.need (needs_of frames) known none)) tt
 
--- ---- the answers of `joins`
+-- ---- what `joins` returns
 
 -- no frames join any run, without a slot
 pub joining-empty : (window : ℕ) (seam : Seam) (run rest : List RunFrame) (needs : List Need)
@@ -154,7 +155,7 @@ module _ (class : ClassFields) (seam : Seam) (run : List RunFrame) (left : ℕ) 
   unfolding IsJoinSlot
   no-join joined is joins = subst (λ l. IsJoinSlot (window_of class.version) left l joined) is joins
 
-  -- where the frames join in a slot, that is their seam
+  -- if the frames join in a slot, they join the run in it
   pub joins-some : (rest : List RunFrame) (slot : SlotFields) → needs ≡ needs_of rest
       → IsJoinSlot (window_of class.version) left needs (Some slot) → IsJointOfFrames seam
       (joining_frames (window_of class.version) run rest)
@@ -165,7 +166,7 @@ module _ (class : ClassFields) (seam : Seam) (run : List RunFrame) (left : ℕ) 
       (record { seam = seam; slot = Some slot }) before (first-known class f fs needs is same known)
       (subst (λ l. IsJoinSlot (window_of class.version) left l (Some slot)) is joins) refl
 
-  -- where they don't join there is none
+  -- if the frames don't join, there is no seam
   pub joins-none : (rest : List RunFrame) → needs ≡ needs_of rest
       → IsJoinSlot (window_of class.version) left needs None
       → IsJointOfFrames seam (joining_frames (window_of class.version) run rest) None
@@ -182,7 +183,7 @@ unfolding IsJoinSlot needs_with_first_slot
 join-fit class left [] slot joins = joins
 join-fit class left (x ∷ xs) slot joins = joins.joins.fits
 
--- frames that fit behind nothing fit as they are
+-- frames that fit after no bytes fit in their own slots after what a run leaves
 pub whole-fit : (class : ClassFields) (left : ℕ) (needs : List Need) (first : Need)
     → 0 < length needs → first ≡ slice_index_or needs 0 first
     → FitsBehind (window_of class.version) 0 needs

@@ -1,4 +1,4 @@
--- The lead-in in front of an input.
+-- The lead-in at the front of an input.
 use Rattle.std.proofs.Common.{ap, ap₂, arith, Bool, drop, eqb, false, length, List, refl, Some}
 use Rattle.std.proofs.Common.{subst, suc, sym, true, zero, ℕ, [], ◌<◌, ◌∙◌, ◌∷◌, ◌≡◌, ◌≤◌}
 use Rattle.std.proofs.lemmas.{Bool.{eqb-true, Decides.same_from_decides}, List.drop-map}
@@ -18,7 +18,7 @@ use Rattle.slot_plan.proofs.OnePlanLemmas.{slots_ascend}
 use Rattle.slot_plan.specs.FreeBytes.{FitsBehind, IsLeadInHeader, IsLeastWanted}
 use Rattle.slot_plan.specs.declared.needs.Need.{Need}
 
--- frames that want nothing fit behind nothing
+-- frames that want nothing fit after no bytes
 pub alone-tested : (window wanted : ℕ) (needs : List Need) → IsLeastWanted window needs wanted
     → Decides (eqb wanted 0) (FitsBehind window 0 needs)
 alone-tested window zero needs is =
@@ -28,13 +28,13 @@ alone-tested window (suc wanted) needs is = (
   λ fits. absurd (omega (arith, is.least 0 fits)),
 )
 
--- whether frames want nothing is whether they fit behind nothing
+-- frames want nothing exactly if they fit after no bytes
 pub alone-is : (window wanted : ℕ) (needs : List Need) → IsLeastWanted window needs wanted
     → eqb wanted 0 ≡ fits_behind window 0 needs
 alone-is window wanted needs is =
     same_from_decides _ _ (alone-tested window wanted needs is) (fits-tested window 0 needs)
 
--- headers are the same where their bytes are
+-- headers are the same exactly if their bytes are
 pub header-same : (g h : HeaderFields) (a b : List ℕ) → bits a ≡ header_bits g → bits b
     ≡ header_bits h → AreBytes a → AreBytes b → (r : Bool) → r ≡ bytes_eq a b
     → r ≡ is_same_header g h
@@ -47,7 +47,7 @@ header-same g h a b first second octets others r is =
           (bytes_eq-Decides (header_bits g) (header_bits h)).1 (sym first ∙ ap bits same ∙ second),
     )
 
--- the header that `lead_in` answers is the one of the definition
+-- the header that `lead_in` returns is the one of the definition
 pub lead-in-is : (window : ℕ) (first : Need) (needs : List Need) (header : HeaderFields)
     → IsClass (class_of first.header) → IsLeadInHeader window (first ∷ needs) header
     → lead_in_header window (first ∷ needs) ≡ Some header
@@ -64,7 +64,7 @@ lead-in-is window first needs header known is =
     ap (option_map (λ slot. record first.header { protected = false; slot = slot })) found
     ∙ ap Some (sym is.1)
 
--- the first frame has it
+-- the first frame leads the others exactly if its header is that of their lead-in
 pub leads-is : (window : ℕ) (needs : List Need) (first : Need) (header : HeaderFields)
     → first ≡ slice_index_or needs 0 first → 2 ≤ length needs → IsHeader header
     → IsLeadInHeader window (drop 1 needs) header
@@ -97,7 +97,7 @@ has-then window input brought r is blank leads =
     leads ∙ ap (leads_others window) is.needs
     ∙ ap (λ b. b && leads_others window (needs_of brought.frames)) (sym blank ∙ is.blank)
 
--- one whose first frame isn't silent has none
+-- an input whose first frame isn't silent has no lead-in
 pub has-else : (window : ℕ) (input : Input) (brought : Brought) → IsBroughtInput input brought
     → input.blank ≡ false → input.blank ≡ has_lead_in window brought
 unfolding has_lead_in
@@ -106,7 +106,7 @@ has-else window input brought is blank =
 
 -- ---- the lead-in that leaves the run
 
--- where the first input has no lead-in, none is left out
+-- if the first input has no lead-in, none is left out
 pub front-none : (class : ClassFields) (brought : Brought) (frames : List RunFrame) (has : Bool)
     → has ≡ false → has ≡ has_lead_in (window_of class.version) brought
     → 0 ≡ front_left_out_count class brought frames
@@ -115,7 +115,7 @@ front-none class brought frames has none is =
     ap (λ h. cond (h && not (fits_behind (window_of class.version) 0 (needs_of (drop 1 frames)))) 1
     0) (sym none ∙ is)
 
--- its lead-in is left out where it has one that the others need
+-- the first input's lead-in is left out if it has one that the others need
 pub front-is : (class : ClassFields) (brought : Brought) (frames : List RunFrame) (run : List Need)
     (has alone : Bool) → run ≡ needs_of frames → has ≡ has_lead_in (window_of class.version) brought
     → alone ≡ fits_behind (window_of class.version) 0 (drop 1 run)

@@ -31,7 +31,7 @@ use Rattle.slot_plan.specs.{Reserve.free_bytes_behind, declared.needs.Need.Need}
 needs-append : (xs ys : List RunFrame) → needs_of (xs ++ ys) ≡ needs_of xs ++ needs_of ys
 needs-append xs ys = map-append (λ (f : RunFrame). f.need) xs ys
 
--- if all fit, so do the first
+-- if frames and then others fit, so do the first
 pub front-fits : (window free : ℕ) (xs ys : List RunFrame)
     → fits_behind window free (needs_of (xs ++ ys)) ≡ true
     → fits_behind window free (needs_of xs) ≡ true
@@ -42,7 +42,7 @@ front-fits window free xs ys fits =
     (fits-tested window free (needs_of xs)).1
     (fits-front window free (needs_of xs) (needs_of ys) all)
 
--- and if the first don't, all don't
+-- if the first frames don't fit, they don't fit with others after them
 front-lacks : (window free : ℕ) (xs ys : List RunFrame) → fits_behind window free (needs_of xs)
     ≡ false → fits_behind window free (needs_of (xs ++ ys)) ≡ false
 front-lacks window free xs ys lacks = at (fits_behind window free (needs_of (xs ++ ys))) refl
@@ -54,7 +54,7 @@ front-lacks window free xs ys lacks = at (fits_behind window free (needs_of (xs 
         absurd (both_ways (fits_behind window free (needs_of xs)) lacks
         (front-fits window free xs ys is))
 
--- a frame without main data may be in front of all
+-- with a frame without main data before them, frames still fit
 pub empty-fits : (window : ℕ) (f : RunFrame) (xs : List RunFrame) → f.need.bytes ≡ 0
     → fits_behind window window (needs_of xs) ≡ true
     → fits_behind window window (needs_of (f ∷ xs)) ≡ true
@@ -67,12 +67,12 @@ empty-fits window f xs empty fits =
     (fits-tested window window (needs_of (f ∷ xs))).1
     (cons-fits window window f.need (needs_of xs) (omega arith) (omega (arith, empty)) behind)
 
--- the first of known frames are known
+-- the headers of the first of known frames are known
 pub known-front : (xs ys : List RunFrame) → AreHeadersKnown (xs ++ ys) → AreHeadersKnown xs
 known-front [] ys are = tt
 known-front (x ∷ xs) ys are = (are.0, known-front xs ys are.1)
 
--- and so are those after them
+-- the headers of the frames after the first of known ones are known
 pub known-behind : (xs ys : List RunFrame) → AreHeadersKnown (xs ++ ys) → AreHeadersKnown ys
 known-behind [] ys are = are
 known-behind (x ∷ xs) ys are = known-behind xs ys are.1
@@ -117,7 +117,7 @@ module _ (class : ClassFields) where
   window = window_of class.version
 
   module _ (run : List RunFrame) (before input : Brought) where
-    -- it follows none
+    -- an input whose head has no counts follows none
     none-follows : input.played ≡ None → following_joint class run before input ≡ None
     unfolding following_joint
     none-follows none = ap (option_and_then (overlap_joint class run input)) (at before.played)
@@ -217,7 +217,7 @@ module _ (class : ClassFields) where
 
   -- ---- the first piece
 
-  -- the run begins with this, and all of it fits
+  -- if the run begins with these frames and all of it fits, only lead-ins are left out
   pieces-joined : (begin : List RunFrame) (more : List (List RunFrame)) (first : Brought)
       (inputs : List Brought) (front : ℕ) → ArePiecesOf window more inputs
       → AreHeadersKnown (concat_frames more) → first.frames ≡ begin
@@ -298,14 +298,14 @@ module _ (class : ClassFields) where
         at true fit = unled-run (piece.unled fit)
         at false lacks = led-run lacks (piece.led lacks)
 
--- such pieces are joined to one run, where all frames fit behind a whole window
+-- such pieces are joined to one run, if all frames fit after a whole window
 pub pieces-one-run : PiecesAreOneRun
 pieces-one-run class frames more first inputs piece are known fits =
     one-run class frames more first inputs are known fits piece
 
--- ---- an input whose head counts nothing, whatever its frames
+-- ---- an input whose head has no counts, whatever its frames
 
--- it is whole, or its lead-in is left out
+-- the input is whole, or its lead-in is left out
 abbrev pub IsWithoutLeadIn : ℕ → Brought → JointFrames → Type 0
 IsWithoutLeadIn window input joint =
     (joint.seam ≡ Whole) ⊎ ((joint.seam ≡ LeadIn) × (has_lead_in window input ≡ true))
@@ -338,7 +338,7 @@ module _ (class : ClassFields) (run : List RunFrame) (before input : Brought) wh
           by_joined (joining_frames (window_of class.version) run (drop 1 input.frames)) (has refl)
       by_test false has = tt
 
-  -- an input that counts nothing is whole, or its lead-in is left out
+  -- an input whose head has no counts is whole, or its lead-in is left out
   pub uncounted-joint : input.played ≡ None
       → IsWithoutLeadIn (window_of class.version) input (joint_of class run before input)
   uncounted-joint none =

@@ -11,12 +11,12 @@ use Rattle.seam_plan.specs.Decisions.{frame_place, frame_places, IsSlid, last_se
 use Rattle.seam_plan.specs.declared.run.FramePlace.{FramePlace}
 use Rattle.slot_plan.proofs.ReserveLemmas.{max-is}
 
--- without its first part a list is its second part
+-- a list without its first part is its second part
 pub drop-front : {X : Type 0} (xs ys : List X) → drop (length xs) (xs ++ ys) ≡ ys
 drop-front xs ys = drop-append-le (length xs) xs ys (omega arith)
     ∙ ap (λ l. l ++ ys) (drop_all (length xs) xs (omega arith))
 
--- the last seven of the last seven and others are those of all
+-- the last seven of the last seven and others are the last seven of all
 pub last-append : {X : Type 0} (xs ys : List X)
     → last_seven (last_seven xs ++ ys) ≡ last_seven (xs ++ ys)
 last-append {X} xs ys =
@@ -30,17 +30,17 @@ last-append {X} xs ys =
     ap (drop (length (drop a xs ++ ys) - 7)) front
     ∙ drop-drop (length (drop a xs ++ ys) - 7) a (xs ++ ys) ∙ ap (λ n. drop n (xs ++ ys)) same
 
--- seven at the end are the last
+-- seven at the end of a list are its last seven
 pub last-seven : {X : Type 0} (xs ys : List X) → length ys ≡ 7 → last_seven (xs ++ ys) ≡ ys
 last-seven xs ys seven =
     let many : length (xs ++ ys) - 7 ≡ length xs = omega (arith, length-append xs ys, seven) in
     ap (λ n. drop n (xs ++ ys)) many ∙ drop-front xs ys
 
--- at most seven are all of them
+-- the last seven of at most seven are all of them
 pub last-few : {X : Type 0} (xs : List X) → length xs ≤ 7 → last_seven xs ≡ xs
 last-few xs few = let none : length xs - 7 ≡ 0 = omega (arith, few) in ap (λ n. drop n xs) none
 
--- one frame more adds its place
+-- one more frame adds its place
 pub places-more : (input from at : ℕ) → from ≤ at → frame_places input from (at + 1 - from)
     ≡ frame_places input from (at - from) ++ frame_place input at ∷ []
 places-more input from at after =
@@ -49,7 +49,7 @@ places-more input from at after =
     ap (frame_places input from) many
     ∙ map-range_with_len_more (frame_place input) from (at - from) at next
 
--- a place is added to the last seven, of which the first goes where there are seven
+-- a place added to seven drops the first of them
 last-full : (items : List FramePlace) (p : FramePlace) → length items ≡ 7
     → drop 1 items ++ p ∷ [] ≡ last_seven (items ++ p ∷ [])
 last-full items p full =
@@ -63,7 +63,7 @@ last-room : (items : List FramePlace) (p : FramePlace) → length items < 7
 last-room items p room =
     sym (last-few (items ++ p ∷ []) (omega (arith, length-append items (p ∷ []), room)))
 
--- the last of places that were there, and of those from one of an input on
+-- the last seven of the earlier places and the places so far of an input
 abbrev pub Notes : List FramePlace → List FramePlace → ℕ → ℕ → ℕ → Type 0
 Notes old items input from at = (places : List FramePlace) → old ≡ last_seven places
     → items ≡ last_seven (places ++ frame_places input from (at - from))
@@ -77,7 +77,7 @@ note-by old items new input from at after gives notes places is =
     ∙ ap last_seven (append_assoc places (frame_places input from (at - from))
     (frame_place input at ∷ []) ∙ ap (λ l. places ++ l) (sym (places-more input from at after)))
 
--- what `slide` answers
+-- what `slide` makes of the last seven
 slid : (items new : List FramePlace) (p : FramePlace) → IsSlid items p new
     → new ≡ last_seven (items ++ p ∷ [])
 slid items new p is =
@@ -87,14 +87,14 @@ slid items new p is =
           is.full all ∙ last-full items p all
     ]
 
--- a place that is added, in place of the first of seven, is noted
+-- an added place, instead of the first of seven, is noted
 pub note-slid : (old items new : List FramePlace) (input from at : ℕ) → from ≤ at
     → IsSlid items (frame_place input at) new → Notes old items input from at
     → Notes old new input from (at + 1)
 note-slid old items new input from at after is notes =
     note-by old items new input from at after (slid items new (frame_place input at) is) notes
 
--- where the noting begins
+-- the noting begins at the first frame, or at the seventh from the end
 pub note-from : (from to first sub : ℕ) → first ≡ max from sub → sub ≡ to - 7 → from ≤ to
     → (from ≤ first) × (first ≤ to) × ((first ≡ from) ⊎ (to - first ≡ 7))
 note-from from to first sub is less within =
@@ -107,7 +107,7 @@ note-from from to first sub is less within =
       ],
     )
 
--- All places of an input up to a frame end with those of the last seven of them.
+-- All places of an input up to a frame end with the last seven of them.
 pub last-from : (places : List FramePlace) (input from first to : ℕ) → from ≤ first → first ≤ to
     → to - first ≡ 7 → last_seven (places ++ frame_places input first (to - first))
     ≡ last_seven (places ++ frame_places input from (to - from))
@@ -132,7 +132,7 @@ last-from places input from first to after within seven =
     (frame_places input first (to - first)) many
     )
 
--- so of the places of an input only the last seven need be noted
+-- noting the last seven places of an input is as good as noting all
 pub note-all : (old items : List FramePlace) (input from first to : ℕ) → from ≤ first → first ≤ to
     → (first ≡ from) ⊎ (to - first ≡ 7) → Notes old items input first to
     → (places : List FramePlace) → old ≡ last_seven places

@@ -1,5 +1,5 @@
--- The run fits behind a whole window, and its frames are those of the inputs but for some at the
--- front of each, of which the first may be in another slot: they sound the same.
+-- The run fits after a whole window, and its frames are those of the inputs except some at
+-- the front of each. The first frame of each may be in another slot: they sound the same.
 use Rattle.std.proofs.Common.{ap, append-nil, append_assoc, arith, Bool, cond, Contains, drop}
 use Rattle.std.proofs.Common.{false, inl, inr, length, List, None, Option, refl, Some, subst, suc}
 use Rattle.std.proofs.Common.{sym, true, zero, ℕ, [], ◌++◌, ◌<◌, ◌∙◌, ◌∷◌, ◌≡◌, ◌⊎◌}
@@ -46,7 +46,7 @@ moved-append (x ∷ xs) ys (other ∷ others) more front behind =
 
 -- ---- the slot of the first
 
--- it passes the test, and is one of the slots
+-- the slot passes the test, and is one of the slots
 abbrev Passes : (SlotFields → Bool) → List SlotFields → SlotFields → Type 0
 Passes test slots slot = (test slot ≡ true) × Contains slots slot
 
@@ -69,12 +69,12 @@ found-passes test (s ∷ slots) slot e =
 
 -- ---- frames that join a run
 
--- these are frames of an input, of which the first may be in another slot
+-- these are frames of an input, the first of which may be in another slot
 pub record AreOwn (own frames : List RunFrame) : Type 0 where
   pub moved : AreMoved (needs_of own) (needs_of frames)
   pub sounding : sounds frames ≡ sounds own
 
--- with them the run fits behind a whole window
+-- with these frames the run fits after a whole window
 abbrev JoinIn : ℕ → List RunFrame → List RunFrame → Option (List RunFrame) → Type 0
 JoinIn window run rest None = Unit {0}
 JoinIn window run rest (Some frames) =
@@ -112,7 +112,7 @@ joins-in window run (f ∷ fs) fits = at (join_slot window (needs_of run) f.need
           },
         )
 
--- frames that fit behind nothing fit behind a run
+-- frames that fit after no bytes fit after a run
 then-alone : (window : ℕ) (first others : List Need) → FitsBehind window window first
     → FitsBehind window 0 others → FitsBehind window window (first ++ others)
 then-alone window first others fits alone = at _ (own-left window window first (omega arith) fits)
@@ -125,16 +125,16 @@ then-alone window first others fits alone = at _ (own-left window window first (
 
 -- ---- an input
 
--- it fits behind no bytes, as every file does whose head is set apart
+-- the input fits after no bytes, as every file does when its head is set apart
 abbrev pub FitsAlone : ClassFields → Brought → Type 0
 FitsAlone class input = FitsBehind (window_of class.version) 0 (needs_of input.frames)
 
--- frames fit behind a whole window
+-- frames fit after a whole window
 abbrev pub FitsWindow : ClassFields → List RunFrame → Type 0
 FitsWindow class frames =
     FitsBehind (window_of class.version) (window_of class.version) (needs_of frames)
 
--- the frames that an input adds to a run: its own but for some at the front
+-- the frames that an input adds to a run: its own except some at the front
 pub record IsAdded (class : ClassFields) (run : List RunFrame) (input : Brought)
     (joint : JointFrames)
     : Type 0 where
@@ -171,14 +171,14 @@ abbrev pub AllFitAlone : ClassFields → List Brought → Type 0
 AllFitAlone class [] = Unit {0}
 AllFitAlone class (input ∷ inputs) = FitsAlone class input × AllFitAlone class inputs
 
--- each adds its own frames but for some at the front
+-- each input adds its own frames except some at the front
 abbrev pub AddOwn : List JointFrames → List Brought → Type 0
 AddOwn [] [] = Unit {0}
 AddOwn (joint ∷ joints) (input ∷ inputs) =
     AreOwn (drop (left_out_count joint.seam) input.frames) joint.frames × AddOwn joints inputs
 AddOwn _ _ = ⊥
 
--- the run with the frames of such inputs fits behind a whole window, and each adds its own
+-- the run with the frames of such inputs fits after a whole window, and each input adds its own
 pub joints-added : (class : ClassFields) (run : List RunFrame) (before : Brought)
     (inputs : List Brought) → FitsWindow class run → AllFitAlone class inputs
     → AddOwn (joints_from class run before inputs) inputs
@@ -197,7 +197,7 @@ joints-added class run before (input ∷ inputs) fits alone =
 
 -- ---- the front
 
--- an input with a lead-in in front has a frame after it
+-- an input that begins with a lead-in has a frame after it
 leads-two : (window : ℕ) (input : Brought) → has_lead_in window input ≡ true
     → 1 < length input.frames
 unfolding has_lead_in lead_in_header
@@ -210,7 +210,7 @@ leads-two window input e =
     at (f ∷ []) e = absurd cc
     at (f ∷ g ∷ frames) e = omega arith
 
--- so not all frames of the first input are left out
+-- not all frames of the first input are left out
 front-within : (class : ClassFields) (first : Brought) (run : List RunFrame)
     → 0 < length first.frames → front_left_out_count class first run < length first.frames
 unfolding front_left_out_count
@@ -234,7 +234,7 @@ pub record IsJoined (class : ClassFields) (first : Brought) (inputs : List Broug
   pub run : run_of first joined ≡ drop joined.front first.frames ++ added joined.joints
   pub fits : FitsWindow class (run_of first joined)
 
--- inputs that fit alone are joined to a run that fits behind a whole window
+-- inputs that fit alone are joined to a run that fits after a whole window
 pub inputs-joined : (class : ClassFields) (first : Brought) (inputs : List Brought)
     → 0 < length first.frames → FitsAlone class first → AllFitAlone class inputs
     → IsJoined class first inputs (seamless_join class first inputs)

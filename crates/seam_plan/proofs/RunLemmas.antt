@@ -22,13 +22,13 @@ use Rattle.slot_plan.specs.FreeBytes.{need_in_slot, needs_with_first_slot}
 use Rattle.slot_plan.specs.{Parts.{AreNeedsOfClass, own_slot_area}, Reserve.free_bytes_behind}
 use Rattle.slot_plan.specs.declared.needs.Need.{Need}
 
--- an input that can be joined fits behind a whole window
+-- an input that can be joined fits after a whole window
 pub fits-window : (class : ClassFields) (input : Input) → IsJoinableInput class input
     → FitsBehind (window_of class.version) (window_of class.version) input.needs.now
 fits-window class input can = more-behind (window_of class.version) 0
     (window_of class.version) input.needs.now (omega arith) can.fits
 
--- all frames of an input but so many at its front fit behind a whole window
+-- all frames of an input except the first k fit after a whole window
 pub drop-window : (class : ClassFields) (input : Input) (k : ℕ) → IsJoinableInput class input
     → FitBehindWindow (drop k input.needs.now)
 drop-window class input k can = record {
@@ -37,13 +37,13 @@ drop-window class input k can = record {
   fits = fits-drop (window_of class.version) 0 k input.needs.now can.fits;
 }
 
--- so all its frames do
+-- all frames of an input fit after a whole window
 pub all-window : (class : ClassFields) (input : Input) → IsJoinableInput class input
     → FitBehindWindow input.needs.now
 all-window class input can =
     record { class = class; same = can.same; fits = fits-window class input can }
 
--- they fit there by the window of the class, too
+-- all frames of an input fit after the window of the class, too
 pub all-free : (class : ClassFields) (input : Input) → IsJoinableInput class input
     → FitBehindFree (window_of class.version) input.needs.now
 all-free class input can = record {
@@ -122,7 +122,7 @@ module _ (class : ClassFields) (number : ℕ) (frames : List RunFrame) (places :
     };
   }
 
--- the same whatever is alike, where these are the frames that are added
+-- whatever is alike, if these frames are added, the run continues with them
 module _ (class : ClassFields) (number : ℕ) (frames more : List RunFrame) (places : List FramePlace)
     (before brought : Brought)
     (input : Input) (old new : Run) (result : CodeJoint) (is : IsRun class frames places before old)
@@ -173,7 +173,7 @@ module _ (class : ClassFields) (number : ℕ) (frames more : List RunFrame) (pla
         brings.played;
   }
 
--- what is left of a run that begins with an input
+-- what a run that begins with an input leaves
 pub run-begins : (class : ClassFields) (input : Input) (first : Brought) (run : Run)
     → IsBroughtInput input first → run.class ≡ class
     → IsMostLeft (window_of class.version) (window_of class.version) input.needs.now run.left
@@ -206,13 +206,13 @@ unfolding needs_with_first_slot
 first-moved [] slot first some at = absurd (omega (arith, some))
 first-moved (x ∷ xs) slot first some at = ap (λ (n : Need). need_in_slot slot n ∷ xs) (sym at)
 
--- frames that fit in a slot are some
+-- if frames fit with the first in a slot, there is a frame
 pub some-in : (class : ClassFields) (left : ℕ) (needs : List Need) (slot : SlotFields)
     → AddedFramesFit class left needs (Some slot) → 0 < length needs
 some-in class left [] slot fit = absurd fit
 some-in class left (x ∷ xs) slot fit = omega arith
 
--- the first of some frames in this slot, and the others, which fit behind what is left
+-- the first of some frames in this slot, and the others, which fit after what is left
 module _ (class : ClassFields) (left : ℕ) (needs : List Need) (slot : SlotFields)
     (first moved : Need) (area : ℕ) (within : left ≤ window_of class.version)
     (fit : AddedFramesFit class left needs (Some slot)) (at : first ≡ slice_index_or needs 0 first)
@@ -238,7 +238,7 @@ module _ (class : ClassFields) (left : ℕ) (needs : List Need) (slot : SlotFiel
         ≡ free_bytes_behind (window_of class.version) left moved.bytes (own_slot_area moved)
     same-free = frees ∙ ap (free_bytes_behind (window_of class.version) left moved.bytes) has
 
-    -- the other frames fit behind what the first leaves
+    -- the other frames fit after what the first leaves
     pub others-free : FitBehindFree free (drop 1 needs)
     others-free = record {
       class = class;
@@ -248,7 +248,7 @@ module _ (class : ClassFields) (left : ℕ) (needs : List Need) (slot : SlotFiel
           (sym same-free) both-fit.1;
     }
 
-    -- a run with these frames behind it leaves what the others leave behind the first
+    -- a run with these frames after it leaves what the others leave after the first
     pub add-left : (new : ℕ) → IsMostLeft (window_of class.version) free (drop 1 needs) new
         → (frames : List Need)
         → IsMostLeft (window_of class.version) (window_of class.version) frames left
@@ -264,7 +264,7 @@ module _ (class : ClassFields) (left : ℕ) (needs : List Need) (slot : SlotFiel
 
 -- ---- frames of a slice
 
--- the frames behind some of those that fit behind a whole window fit there too
+-- if frames fit after a whole window, so do those after the first k
 pub drop-fits : (k : ℕ) (needs : List Need) → FitBehindWindow needs → FitBehindWindow (drop k needs)
 drop-fits k needs fit = record {
   class = fit.class;
@@ -274,7 +274,7 @@ drop-fits k needs fit = record {
 
 -- ---- the frames that are shared
 
--- an overlap that is short, and within the input, is one by which it can follow
+-- the input can follow by an overlap that is short and within the input
 pub can-follow : (class : ClassFields) (input : Input) (shared : Option Overlap)
     → IfSome shared IsOverlap → IfSome shared (λ o. o.frames ≤ length input.needs.now)
     → IfSome shared (IsOverlapShort class) → IfSome shared (CanFollow input)

@@ -1,5 +1,5 @@
--- A run of inputs of one class that fit behind no bytes is of this class, and sounds as the frames
--- that they bring.
+-- A run of inputs of one class that fit after no bytes is of
+-- this class, and sounds like the frames that they bring.
 use Rattle.std.proofs.Common.{ap, ap₂, arith, drop, List, refl, subst, sym, ℕ, [], ◌++◌, ◌∙◌, ◌∷◌}
 use Rattle.std.proofs.{Common.◌≡◌, lemmas.List.{drop-map, map-append}}
 use Rattle.frame_header.specs.{Fields.ClassFields, Tables.{class_of, window_of}}
@@ -29,7 +29,7 @@ moved-class class (need ∷ needs) (other ∷ others) moved same = (
   moved-class class needs others moved.1 same.1,
 )
 
--- the sounds of the frames that inputs bring, but for those that are left out
+-- the sounds of the frames that inputs bring, except those that are left out
 abbrev pub sounds_left : List JointFrames → List Brought → List (List ℕ)
 sounds_left [] inputs = []
 sounds_left (joint ∷ joints) [] = []
@@ -38,7 +38,7 @@ sounds_left (joint ∷ joints) (input ∷ inputs) =
 
 -- ---- the inputs
 
--- what is known of an input: its frames are of the class and fit behind no bytes
+-- what is known of an input: its frames are of the class and fit after no bytes
 pub record IsFit (class : ClassFields) (input : Brought) : Type 0 where
   pub same : AreNeedsOfClass class (needs_of input.frames)
   pub fits : FitsBehind (window_of class.version) 0 (needs_of input.frames)
@@ -95,7 +95,7 @@ module _ (class : ClassFields) where
         (more-behind window 0 window (needs_of first.frames) (omega arith) fit.fits)
         (all-alone inputs are)
 
-    -- the run fits behind a whole window
+    -- the run fits after a whole window
     pub run-fits : FitsBehind window window (needs_of (run_with first joints))
     run-fits = whole.1
 
@@ -107,7 +107,7 @@ module _ (class : ClassFields) where
         (class-append class (needs_of first.frames) (needs_of (added joints)) fit.same
         (added-class joints inputs whole.0 are))
 
-    -- the run sounds as the first input does, and then as what is left of the others
+    -- the run sounds like the first input, and then like what is left of the others
     pub run-sounds : sounds (run_with first joints)
         ≡ sounds first.frames ++ sounds_left joints inputs
     run-sounds =

@@ -1,4 +1,4 @@
--- What becomes of an input, by what is asked of the run.
+-- What becomes of an input, by what its code asks of the run.
 use Rattle.std.proofs.Common.{ap, ap₂, arith, Bool, drop, false, length, List, None, Option, refl}
 use Rattle.std.proofs.Common.{Some, subst, sym, true, ℕ, [], ◌-◌, ◌<◌, ◌∙◌, ◌∷◌, ◌≡◌}
 use Rattle.std.proofs.lemmas.Bool.{and_from, and_left, and_right, not_from_false, not_from_true}
@@ -27,7 +27,7 @@ follows_with class run brought overlap =
     option_map (joint_with (Follows overlap.frames))
     (joining_frames (window_of class.version) run (drop overlap.frames brought.frames))
 
--- it follows where the frames that are to be alike are
+-- an input follows if the frames that must be alike are
 pub follow-is : (class : ClassFields) (run : List RunFrame) (before brought : Brought)
     → following_joint class run before brought
     ≡ option_and_then (follows_with class run brought) (alike_overlap class run before brought)
@@ -54,7 +54,7 @@ follow-none class run before brought alike is none =
     subst (λ o. AreJoint o None) (sym (follow-is class run before brought
     ∙ ap (option_and_then (follows_with class run brought)) (sym is ∙ none))) tt
 
--- with one it follows as the frames behind the overlap join
+-- with an overlap that is alike an input follows as the frames after the overlap join
 pub follow-some : (class : ClassFields) (run : List RunFrame) (before brought : Brought)
     (alike : Option Overlap) (overlap : Overlap) (result : Option CodeJoint)
     → alike ≡ alike_overlap class run before brought → alike ≡ Some overlap
@@ -66,7 +66,7 @@ follow-some class run before brought alike overlap result is some joins =
 
 -- ---- an input without its lead-in
 
--- an input joins without its lead-in where it has one that the others need and they can join
+-- an input joins without its lead-in if it has one that the others need, and the others can join
 pub without-is : (class : ClassFields) (run : List RunFrame) (input : Input) (brought : Brought)
     (has alone : Bool) → IsBroughtInput input brought
     → has ≡ has_lead_in (window_of class.version) brought
@@ -87,7 +87,7 @@ abbrev WithoutIf : ClassFields → List RunFrame → Brought → Bool → Option
 WithoutIf class run brought b = if b then option_map (joint_with LeadIn)
     (joining_frames (window_of class.version) run (drop 1 brought.frames)) else None
 
--- it has none
+-- no lead-in is left out of an input that has none
 pub without-lead : (class : ClassFields) (run : List RunFrame) (input : Input) (brought : Brought)
     (has : Bool) → IsBroughtInput input brought
     → has ≡ has_lead_in (window_of class.version) brought → has ≡ false
@@ -97,7 +97,7 @@ without-lead class run input brought has is leads none =
     subst (λ o. AreJoint o None) (sym (without-is class run input brought has alone is leads refl
     ∙ ap (WithoutIf class run brought) (and_left has (not alone) none))) tt
 
--- it isn't wanted
+-- an input whose lead-in isn't wanted doesn't join without it
 pub without-want : (class : ClassFields) (run : List RunFrame) (input : Input) (brought : Brought)
     (has alone : Bool) → IsBroughtInput input brought
     → has ≡ has_lead_in (window_of class.version) brought
@@ -108,7 +108,7 @@ without-want class run input brought has alone is leads fits true_is =
     ∙ ap (WithoutIf class run brought) (and_right has (not alone) (not_from_true alone true_is))))
     tt
 
--- it is left out where the others can join
+-- a lead-in that the others want is left out if the others can join
 pub without-some : (class : ClassFields) (run : List RunFrame) (input : Input) (brought : Brought)
     (has alone : Bool) (result : Option CodeJoint) → IsBroughtInput input brought
     → has ≡ has_lead_in (window_of class.version) brought → alone
@@ -120,7 +120,7 @@ without-some class run input brought has alone result is leads fits has_is alone
     (sym (without-is class run input brought has alone is leads fits ∙ ap (WithoutIf class run
     brought) (and_from has (not alone) has_is (not_from_false alone alone_is)))) joins
 
--- the frames of an input but for so many at its front need what is left of its needs
+-- the frames of an input except the first k need what is left of its needs
 pub needs-drop : (k : ℕ) (input : Input) (brought : Brought) → IsBroughtInput input brought
     → drop k input.needs.now ≡ needs_of (drop k brought.frames)
 needs-drop k input brought is =
@@ -128,27 +128,27 @@ needs-drop k input brought is =
 
 -- ---- what is decided
 
--- what becomes of an input is the first that is found of two
+-- what becomes of an input is the first choice, if there is one
 pub joint-first : (x y : Option JointFrames) (z : JointFrames) (result : CodeJoint)
     → AreJoint x (Some result) → IsJoint (unwrap_or (option_or x y) z) result
 joint-first None y z result is = absurd is
 joint-first (Some joint) y z result is = is
 
--- if the first isn't found, it is the second
+-- if there is no first choice, it is the second
 pub joint-second : (x y : Option JointFrames) (z : JointFrames) (result : CodeJoint)
     → AreJoint x None → AreJoint y (Some result) → IsJoint (unwrap_or (option_or x y) z) result
 joint-second None None z result first is = absurd is
 joint-second None (Some joint) z result first is = is
 joint-second (Some joint) y z result first is = absurd first
 
--- if neither is found, it is the last
+-- if there is neither, it is the last
 pub joint-last : (x y : Option JointFrames) (z : JointFrames) (result : CodeJoint) → AreJoint x None
     → AreJoint y None → IsJoint z result → IsJoint (unwrap_or (option_or x y) z) result
 joint-last None None z result first second is = is
 joint-last None (Some joint) z result first second is = absurd second
 joint-last (Some joint) y z result first second is = absurd first
 
--- ---- what holds of it
+-- ---- a property of what becomes of an input
 
 module _ (class : ClassFields) (run : List RunFrame) (before brought : Brought)
     (P : JointFrames → Type 0)
@@ -186,8 +186,8 @@ module _ (class : ClassFields) (run : List RunFrame) (before brought : Brought)
           (joining_frames (window_of class.version) run (drop 1 brought.frames)) refl
       at false = tt
 
-  -- what holds of frames that join, with any seam, and of the whole input, holds of what becomes
-  -- of it
+  -- a property of frames that join, with any seam, and of the
+  -- whole input, is a property of what becomes of the input
   pub joint-by : P (joint_of class run before brought)
   joint-by =
       at (following_joint class run before brought)
@@ -233,7 +233,7 @@ all-moves (f ∷ fs) result is = ap (λ o. joined_needs o (f.need ∷ needs_of f
 whole-adds : (brought : Brought) → Adds brought (whole_joint brought)
 whole-adds brought = all-moves brought.frames
 
--- what becomes of an input adds its frames but for those that are left out
+-- what becomes of an input adds its frames except those that are left out
 pub joint-adds : (class : ClassFields) (run : List RunFrame) (before brought : Brought)
     → Adds brought (joint_of class run before brought)
 joint-adds class run before brought =
@@ -246,7 +246,7 @@ joint-adds class run before brought =
     (sym (drop-map (λ (f : RunFrame). f.need) (left_out_count seam) brought.frames)))
     (whole-adds brought)
 
--- as many as are left
+-- as many frames join as are left
 pub length-moved : (slot : Option SlotFields) (needs : List Need)
     → length (joined_needs slot needs) ≡ length needs
 unfolding needs_with_first_slot
@@ -254,7 +254,7 @@ length-moved None needs = refl
 length-moved (Some slot) [] = refl
 length-moved (Some slot) (need ∷ needs) = refl
 
--- all frames of an input are joined but for as many as its seam leaves out
+-- all frames of an input are joined except as many as its seam leaves out
 pub length-joint : (class : ClassFields) (run : List RunFrame) (before brought : Brought)
     (result : CodeJoint) → IsJoint (joint_of class run before brought) result
     → length (joint_of class run before brought).frames

@@ -1,4 +1,4 @@
--- Of slots whose areas ascend the first that passes a test is the least that does.
+-- The first of slots with ascending areas that passes a test is the least that does.
 use Rattle.std.proofs.Common.{ap, arith, Bool, cond, Contains, false, List, None, refl, Some, suc}
 use Rattle.std.proofs.{Common.{true, zero, [], ◌∙◌, ◌∷◌, ◌≡◌, ◌≤◌}, lemmas.Bool.both_ways}
 use Rattle.std.specs.Prelude.{find}
@@ -26,14 +26,14 @@ module _ (c : ClassFields) (p : Bool) (test : SlotFields → Bool) where
       absurd (both_ways (test s) fails (ap test at ∙ passes))
   behind s slots slot (suc k, within, at) passes fails = (k, omega (arith, within), at)
 
-  -- it is found if it is, or else among the others
+  -- the slot is the first, if this passes, or otherwise found among the others
   found : (s : SlotFields) (slots : List SlotFields) (slot : SlotFields) (b : Bool)
       → (b ≡ true → s ≡ slot) → (b ≡ false → find test slots ≡ Some slot)
       → cond b (Some s) (find test slots) ≡ Some slot
   found s slots slot true here later = ap Some (here refl)
   found s slots slot false here later = later refl
 
-  -- of slots with ascending areas the first that passes the test is the least that does
+  -- the first of slots with ascending areas that passes the test is the least that does
   pub find-least : (slots : List SlotFields) (slot : SlotFields) → Ascend (slot_areas c p slots)
       → Contains slots slot → test slot ≡ true → IsLeastIn slots slot → find test slots ≡ Some slot
   find-least [] slot ascend has passes least = absurd (omega (arith, has.1))

@@ -1,5 +1,5 @@
--- Spans of one recording, of which neighbours share frames, follow each other and are joined to all
--- their frames.
+-- Spans of one recording whose neighbours share frames
+-- follow each other, and are joined to all their frames.
 use Rattle.std.proofs.Common.{ap, append-nil, append_assoc, ap₂, arith, drop, eqb, length, List}
 use Rattle.std.proofs.Common.{min, None, Option, refl, Some, subst, sym, take, take-add, true, ℕ}
 use Rattle.std.proofs.Common.{[], ◌%◌, ◌*◌, ◌++◌, ◌+◌, ◌-◌, ◌/◌, ◌<◌, ◌∙◌, ◌∷◌, ◌≡◌, ◌≤◌}
@@ -82,7 +82,7 @@ leads-fit window [] xs empty fits = fits
 leads-fit window (f ∷ leads) xs empty fits =
     empty-fits window f (leads ++ xs) empty.0 (leads-fit window leads xs empty.1 fits)
 
--- frames are alike themselves
+-- frames are like themselves
 alike-same : (fs : List RunFrame) → are_frames_alike fs fs ≡ true
 unfolding are_frames_alike
 alike-same [] = refl
@@ -118,8 +118,8 @@ are-shared Two start rest shared frames same there =
 are-shared TwoFive start rest shared frames same there =
     shared-by TwoFive start rest shared frames there (omega (arith, same)) (omega (arith, same))
 
--- the sum of what is before the first played position of a span and after the last of the one
--- before it
+-- the sum of what is before the first played position of a
+-- span and what is after the last one of the span before it
 sum-is : (v : Version) (start end leads leads_before from from_before last mid : ℕ)
     → start + from * samples_of v ≡ mid + leads * samples_of v
     → end + from_before * samples_of v ≡ mid + leads_before * samples_of v
@@ -146,7 +146,7 @@ below-last One from last mid early most = omega (arith, early, most)
 below-last Two from last mid early most = omega (arith, early, most)
 below-last TwoFive from last mid early most = omega (arith, early, most)
 
--- ---- a span behind the one before it
+-- ---- a span after the one before it
 
 module _ (class : ClassFields) (all : List RunFrame) (known : AreHeadersKnown all)
     (fits : fits_behind (window_of class.version) (window_of class.version) (needs_of all) ≡ true)
@@ -232,7 +232,7 @@ module _ (class : ClassFields) (all : List RunFrame) (known : AreHeadersKnown al
             some,
           )
 
-      -- the frames of the input from one behind its lead-ins on
+      -- the frames of the input from one after its lead-ins on
       input-drop : (k : ℕ) → z ≤ k → k ≤ length input.frames
           → drop k input.frames ≡ slice_range all (is.from + (k - z)) is.to
       input-drop k behind few =

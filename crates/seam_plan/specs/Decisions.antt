@@ -1,4 +1,4 @@
--- What is known of the run and of the next input where their seam is decided.
+-- What is known of the run and of the next input when their seam is decided.
 use Rattle.std.specs.List.{range_with_len}
 use Rattle.std.specs.Prelude.{drop, IfSome, if◌then◌else◌, length, List, map, nat_le, None, Option}
 use Rattle.std.specs.Prelude.{option_and_then, option_map, slice_get, Some, ℕ, [], ◌++◌, ◌+◌, ◌-◌}
@@ -15,8 +15,8 @@ use Rattle.seam_plan.specs.declared.seam.Seam.{Seam}
 use Rattle.slot_plan.specs.FreeBytes.{FitsBehind, IsMostLeft, needs_with_first_slot}
 use Rattle.slot_plan.specs.{Parts.AreNeedsOfClass, declared.needs.Need.Need}
 
--- frames of an input of this class, each in its own slot; they fit
--- behind no bytes, as those of every file do whose head is set apart
+-- frames of an input of this class, each in its own slot; they fit after
+-- no bytes, as the frames of every file do when its head is set apart
 pub record IsJoinableInput (class : ClassFields) (input : Input) : Type 0 where
   pub some : 0 < length input.needs.now
   pub few : length input.needs.now < 4294967296
@@ -34,13 +34,13 @@ pub record IsBroughtInput (input : Input) (brought : Brought) : Type 0 where
 abbrev pub last_seven : {X : Type 0} → List X → List X
 last_seven xs = drop (length xs - 7) xs
 
--- the positions after the last played one, where the head counts
+-- the positions after the last played one, if the head has counts
 abbrev pub brought_rest : ClassFields → Brought → Option ℕ
 brought_rest class brought =
     option_map (λ p. rest_of class (length brought.frames) p) brought.played
 
--- The run has these frames, which are at these places, the last
--- of them of what this input brings, or of inputs before it.
+-- The run has these frames, which are at these places; the last
+-- of them are what this input brings, or inputs before it.
 pub record IsRun (class : ClassFields) (frames : List RunFrame) (places : List FramePlace)
     (before : Brought) (run : Run) : Type 0 where
   pub of_class : run.class ≡ class
@@ -50,28 +50,29 @@ pub record IsRun (class : ClassFields) (frames : List RunFrame) (places : List F
   pub same : length places ≡ length frames
   pub rest : run.rest ≡ brought_rest class before
 
--- no more bytes are left than the window of its class
+-- at most the window of the run's class is left
 pub record IsRunInWindow (run : Run) : Type 0 where
   pub known : IsClass run.class
   pub most : run.left ≤ window_of run.class.version
 
--- nor are more positions after the last played one than a head counts
+-- no more positions are after the last played one than
+-- a head can count, and at most the window is left
 pub record IsSoundRun (run : Run) : Type 0 where
   pub within : IsRunInWindow run
   pub rest : IfSome run.rest (λ rest. rest ≤ longest_rest)
 
--- frames are shared, all of them of the input; one to seven of them are to be alike
+-- the shared frames are all in the input, and one to seven of them must be alike
 pub record CanFollow (input : Input) (overlap : Overlap) : Type 0 where
   pub some : IsOverlap overlap
   pub within : overlap.frames ≤ length input.needs.now
   pub few : overlap.frames ≤ overlap.first_alike + 7
 
--- of the frames that are shared, those that are to be alike are
+-- the overlap, if those of its frames that must be alike are
 abbrev pub overlap_if_alike : List RunFrame → Brought → Overlap → Option Overlap
 overlap_if_alike run brought overlap =
     if ends_alike run (compared_frames overlap brought) then Some overlap else None
 
--- the frames that the input shares with the one before it, if these are alike
+-- the frames that the input shares with the one before it, if those that must be alike are
 abbrev pub alike_overlap : ClassFields → List RunFrame → Brought → Brought → Option Overlap
 alike_overlap class run before brought =
     option_and_then (overlap_if_alike run brought) (overlap_of class before brought)
@@ -80,7 +81,7 @@ alike_overlap class run before brought =
 abbrev pub frame_place : ℕ → ℕ → FramePlace
 frame_place input frame = record { input = input; frame = frame }
 
--- the places of the frames of an input from one on, so many
+-- the places of `count` frames of an input, from `from` on
 abbrev pub frame_places : ℕ → ℕ → ℕ → List FramePlace
 frame_places input from count = map (frame_place input) (range_with_len from count)
 
@@ -91,19 +92,19 @@ pub record IsJoint (joint : JointFrames) (result : CodeJoint) : Type 0 where
   pub slot : result.slot
       ≡ option_map (λ (f : RunFrame). f.need.header.slot) (slice_get joint.frames 0)
 
--- a place comes behind the last seven, of which the first goes where there are seven
+-- a place is added after the last seven; the first of them is dropped if there are seven
 pub record IsSlid (old : List FramePlace) (place : FramePlace) (new : List FramePlace)
     : Type 0 where
   pub few : length old ≤ 7
   pub room : length old < 7 → new ≡ old ++ place ∷ []
   pub full : length old ≡ 7 → new ≡ drop 1 old ++ place ∷ []
 
--- the last of these places, so many; none where there are fewer
+-- the last `count` of these places; none if there are fewer
 abbrev pub last_places : List FramePlace → ℕ → Option (List FramePlace)
 last_places places count =
     if nat_le count (length places) then Some (drop (length places - count) places) else None
 
--- this is what becomes of the input, and the run goes on with the frames that it adds
+-- this is what becomes of the input, and the run continues with the frames that it adds
 pub record JoinsRun (class : ClassFields) (number : ℕ) (frames : List RunFrame)
     (places : List FramePlace)
     (before brought : Brought) (result : CodeJoint) (run : Run) : Type 0 where
@@ -118,7 +119,7 @@ abbrev pub joined_needs : Option SlotFields → List Need → List Need
 joined_needs None needs = needs
 joined_needs (Some slot) needs = needs_with_first_slot slot needs
 
--- the run goes on with the frames of the input that are left so, whatever they sound like
+-- the run continues with the frames of the input that this joint leaves, whatever they sound like
 abbrev pub RunGoesOn : ℕ → Input → CodeJoint → Run → Run → Type 0
 RunGoesOn number input joint old new =
     (class : ClassFields) (frames more : List RunFrame) (places : List FramePlace)
@@ -127,8 +128,8 @@ RunGoesOn number input joint old new =
     → IsRun class (frames ++ more)
     (places ++ frame_places number (left_out_count joint.seam) (length more)) brought new
 
--- The frames of an input that are added to a run fit behind what it
--- leaves, each in its own slot but for the first, which has this one.
+-- The frames of an input that are added to a run fit after the bytes that
+-- it leaves, each in its own slot except the first, which has this slot.
 abbrev pub AddedFramesFit : ClassFields → ℕ → List Need → Option SlotFields → Type 0
 AddedFramesFit class left [] None = Unit {0}
 AddedFramesFit class left [] (Some slot) = ⊥
@@ -136,13 +137,13 @@ AddedFramesFit class left (first ∷ needs) None = ⊥
 AddedFramesFit class left (first ∷ needs) (Some slot) =
     FitsBehind (window_of class.version) left (needs_with_first_slot slot (first ∷ needs))
 
--- so do those that are left in the input
+-- the frames of the input that aren't left out fit after the bytes that the run leaves
 pub record AddedInputFits (class : ClassFields) (left : ℕ) (input : Input)
     (joint : CodeJoint) : Type 0 where
   pub out : left_out_count joint.seam ≤ length input.needs.now
   pub fit : AddedFramesFit class left (drop (left_out_count joint.seam) input.needs.now) joint.slot
 
--- this is decided, or nothing
+-- the same joint is decided, or none
 abbrev pub AreJoint : Option JointFrames → Option CodeJoint → Type 0
 AreJoint None None = Unit {0}
 AreJoint (Some joint) (Some result) = IsJoint joint result
@@ -152,7 +153,8 @@ AreJoint _ _ = ⊥
 abbrev pub IsJointOfFrames : Seam → Option (List RunFrame) → Option CodeJoint → Type 0
 IsJointOfFrames seam frames result = AreJoint (option_map (joint_with seam) frames) result
 
--- so it is with frames that are left of an input behind a run, which need this
+-- the result is how frames of an input with these needs
+-- join the run with this seam, or that they can't
 abbrev pub JoinRun : Seam → List Need → Run → Option CodeJoint → Type 0
 JoinRun seam needs run result =
     (class : ClassFields) (frames rest : List RunFrame) (places : List FramePlace)

@@ -3,8 +3,8 @@ use Rattle.std.specs.Prelude.{Bool, List, map, Option, ℕ}
 use Rattle.exact_span.specs.declared.played.Played.{Played}
 use Rattle.slot_plan.specs.declared.needs.Need.{Need}
 
--- A frame: what it needs, and its sound: the numbers by which it is compared
--- with others, which tell its entry in the stream, but for the gains.
+-- A frame: what it needs, and its sound, the numbers by which it is compared
+-- with others. These determine its entry in the stream, except for the gains.
 pub record RunFrame : Type 0 where
   pub need : Need
   pub sound : List ℕ
@@ -15,9 +15,9 @@ needs_of frames = map (λ f. f.need) frames
 
 -- what an input brings: its frames, and its played positions
 pub record Brought : Type 0 where
-  -- all its frames; there is one
+  -- all its frames, at least one
   pub frames : List RunFrame
-  -- all bytes of the side information of the first are 0
+  -- whether all bytes of the side information of the first frame are 0
   pub blank : Bool
-  -- its played positions, where its head counts
+  -- its played positions, if its head has counts
   pub played : Option Played

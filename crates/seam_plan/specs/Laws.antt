@@ -1,4 +1,4 @@
--- What holds of the run, whatever the code.
+-- Laws of the run, whatever the code.
 use Rattle.std.specs.List.{list_all}
 use Rattle.std.specs.Prelude.{Bool, false, flat_map, if◌then◌else◌, length, List, map, None}
 use Rattle.std.specs.Prelude.{slice_get, slice_range, Some, take, true, ℕ, [], ◌*◌, ◌++◌, ◌+◌, ◌-◌}
@@ -12,22 +12,22 @@ use Rattle.seam_plan.specs.declared.seam.Seam.TheVariants.{Follows, LeadIn, Whol
 
 -- ---- an input that follows the one before it
 
--- the run after so many of the later inputs
+-- the run after `count` of the later inputs
 abbrev pub run_after : Brought → List JointFrames → ℕ → List RunFrame
 run_after first joints count = run_with first (take count joints)
 
--- From one on, the frames of an input are alike the last frames of a run: each is alike the one
--- that is as far from the end.
+-- From `from` on, the frames of an input are like the last frames
+-- of a run: each is like the one that is as far from the end.
 pub record EndsAlike (run input : List RunFrame) (from : ℕ) : Type 0 where
   pub within : length input ≤ from + length run
   pub alike : (i : ℕ) (f : RunFrame) → from ≤ i → slice_get input i ≡ Some f
       → (g : RunFrame) × (slice_get run (i + length run - length input) ≡ Some g)
       × (g.sound ≡ f.sound)
 
--- The input follows the one before it, and so many of its frames are left out. Its first played
--- position is where the played positions of the other end, if the last frame of the other is the
--- last before those that the input adds; and from the frame of its first played position on its
--- frames are the last of the run, but for their gains.
+-- The input follows the one before it, and `out` of its frames are left out. If the last
+-- frame of the one before it is right before the frames that the input adds, the input's
+-- first played position is where the played positions of that one end; and from the frame of
+-- its first played position on, its frames are the last of the run, except for their gains.
 pub record InputGoesOn (class : ClassFields) (before input : Brought) (old new : List RunFrame)
     (out : ℕ)
     : Type 0 where
@@ -40,7 +40,7 @@ pub record InputGoesOn (class : ClassFields) (before input : Brought) (old new :
   pub longer : length new + out ≡ length old + length input.frames
   pub alike : EndsAlike new input.frames (played.start / samples_in class)
 
--- so it is with each input that follows
+-- each input that follows continues where the one before it ends
 abbrev pub FollowersGoOn : Type 0
 FollowersGoOn =
     (class : ClassFields) (first : Brought) (inputs : List Brought) (number : ℕ)
@@ -51,9 +51,9 @@ FollowersGoOn =
     → InputGoesOn class before input (run_after first joints number)
     (run_after first joints (number + 1)) out
 
--- ---- frames of one recording, each part behind the lead-in that it wants
+-- ---- frames of one recording, each part after the lead-in that it wants
 
--- the frames of all of these, in order
+-- the frames of all these lists, in order
 abbrev pub concat_frames : List (List RunFrame) → List RunFrame
 concat_frames more = flat_map (λ (frames : List RunFrame). frames) more
 
@@ -64,13 +64,13 @@ pub record IsLedPiece (window : ℕ) (frames : List RunFrame) (input : Brought) 
   pub empty : lead_in.need.bytes ≡ 0
   pub has : has_lead_in window input ≡ true
 
--- these frames, the first of which is no lead-in, nor has its header and side information
+-- these frames, whose first doesn't have the header and side information of a lead-in
 pub record IsUnledPiece (window : ℕ) (frames : List RunFrame) (input : Brought) : Type 0 where
   pub frames_are : input.frames ≡ frames
   pub none : has_lead_in window input ≡ false
 
--- The input is these frames, after a lead-in where they don't fit behind no bytes; its head counts
--- nothing.
+-- The input is these frames, after a lead-in if they
+-- don't fit after no bytes; its head has no counts.
 pub record IsPieceOf (window : ℕ) (frames : List RunFrame) (input : Brought) : Type 0 where
   pub led : fits_behind window 0 (needs_of frames) ≡ false → IsLedPiece window frames input
   pub unled : fits_behind window 0 (needs_of frames) ≡ true → IsUnledPiece window frames input
@@ -88,7 +88,7 @@ abbrev pub AreHeadersKnown : List RunFrame → Type 0
 AreHeadersKnown [] = Unit {0}
 AreHeadersKnown (f ∷ frames) = IsHeader f.need.header × AreHeadersKnown frames
 
--- whose lead-in is left out, and which is whole
+-- the seam of a piece: whole if its frames fit after no bytes, otherwise without its lead-in
 abbrev pub piece_seam : ℕ → List RunFrame → Seam
 piece_seam window frames = if fits_behind window 0 (needs_of frames) then Whole else LeadIn
 
@@ -100,7 +100,7 @@ pub record AreOneRun (window : ℕ) (frames : List RunFrame) (more : List (List 
   pub front : joined.front ≡ (if fits_behind window 0 (needs_of frames) then 0 else 1)
   pub seams : map (λ (j : JointFrames). j.seam) joined.joints ≡ map (piece_seam window) more
 
--- so it is with such pieces, where all frames fit behind a whole window
+-- such pieces are one run, if all frames fit after a whole window
 abbrev pub PiecesAreOneRun : Type 0
 PiecesAreOneRun =
     (class : ClassFields) (frames : List RunFrame) (more : List (List RunFrame)) (first : Brought)
@@ -111,15 +111,15 @@ PiecesAreOneRun =
     → fits_behind window window (needs_of (frames ++ concat_frames more)) ≡ true
     → AreOneRun window frames more first (seamless_join class first inputs)
 
--- ---- spans of one recording, of which neighbours share frames
+-- ---- spans of one recording whose neighbours share frames
 
--- they have no main data
+-- the frames have no main data
 abbrev pub AreEmptyFrames : List RunFrame → Type 0
 AreEmptyFrames [] = Unit {0}
 AreEmptyFrames (f ∷ frames) = (f.need.bytes ≡ 0) × AreEmptyFrames frames
 
--- The input is frames of a recording, from one to before another, after lead-ins. Its played
--- positions are those of the recording from `begin` to before `end`, and are in these frames.
+-- The input is frames of a recording, from `from` to before `to`, after lead-ins. Its played
+-- positions are the recording's from `begin` to before `end`, and are in these frames.
 pub record IsSpanOf (class : ClassFields) (all : List RunFrame) (begin end : ℕ) (input : Brought)
     : Type 0 where
   pub lead_ins : List RunFrame
@@ -136,9 +136,9 @@ pub record IsSpanOf (class : ClassFields) (all : List RunFrame) (begin end : ℕ
   pub before : from * samples_in class ≤ begin
   pub behind : end ≤ to * samples_in class
 
--- Each of these inputs plays from where the one before it ends, up to the point at its place. None
--- begins before the frame `low`, nor ends before the one before it; and each has a frame before the
--- one in which it begins to play, or begins to play within a frame.
+-- Each of these inputs plays from where the one before it ends, up to the point at its
+-- place. None begins before the frame `low`, nor ends before the one before it; and each
+-- has a frame before the one in which it begins to play, or begins to play within a frame.
 abbrev pub AreSpansOf : ClassFields → List RunFrame → ℕ → ℕ → ℕ → List Brought → List ℕ → Type 0
 AreSpansOf class all low last begin [] [] = Unit {0}
 AreSpansOf class all low last begin (input ∷ inputs) (end ∷ points) =
@@ -147,7 +147,7 @@ AreSpansOf class all low last begin (input ∷ inputs) (end ∷ points) =
     × AreSpansOf class all low is.to end inputs points
 AreSpansOf class all low last begin _ _ = ⊥
 
--- the frame after the last of them
+-- the frame after the last frame of the last span
 abbrev pub spans_end : (class : ClassFields) (all : List RunFrame) (low last begin : ℕ)
     (inputs : List Brought) (points : List ℕ)
     → AreSpansOf class all low last begin inputs points → ℕ
@@ -162,8 +162,8 @@ abbrev pub is_following_seam : Seam → Bool
 is_following_seam (Follows frames) = true
 is_following_seam _ = false
 
--- Each follows, and the run is the first input's lead-ins and then the frames from its first to the
--- last of all.
+-- Each input follows, and the run is the first input's lead-ins
+-- and then the frames from its first to the last of all inputs.
 abbrev pub SpansAreOneRun : Type 0
 SpansAreOneRun =
     (class : ClassFields) (all : List RunFrame) (begin end : ℕ) (first : Brought)

@@ -1,4 +1,4 @@
--- Which frames at the front of each input are left out where inputs are joined
+-- Which frames at the front of each input are left out when inputs are joined
 -- without seams, and the run of all others, which is written as one part.
 use Rattle.std.specs.Option.{option_or}
 use Rattle.std.specs.Prelude.{Bool, bytes_eq, drop, false, flat_map, if◌then◌else◌, length, List}
@@ -21,7 +21,7 @@ pub record JointFrames : Type 0 where
 abbrev pub joint_with : Seam → List RunFrame → JointFrames
 joint_with seam frames = record { seam = seam; frames = frames }
 
--- how many frames are left out at its front
+-- how many frames are left out at the front of an input
 abbrev pub left_out_count : Seam → ℕ
 left_out_count (Follows frames) = frames
 left_out_count LeadIn = 1
@@ -36,13 +36,13 @@ are_frames_alike (f ∷ frames) (g ∷ others) =
     bytes_eq f.sound g.sound && are_frames_alike frames others
 are_frames_alike _ _ = false
 
--- the last frames of a run are alike these
+-- the last frames of a run are like these, one by one
 abbrev pub ends_alike : List RunFrame → List RunFrame → Bool
 ends_alike run frames =
     nat_le (length frames) (length run)
     && are_frames_alike (drop (length run - length frames) run) frames
 
--- the frames that an input shares with the one before it, where the heads of both count
+-- the frames that an input shares with the one before it, if the heads of both have counts
 abbrev pub overlap_of : ClassFields → Brought → Brought → Option Overlap
 overlap_of class before input =
     option_and_then
@@ -53,11 +53,12 @@ overlap_of class before input =
     input.played)
     before.played
 
--- of the frames that it shares, those that are to be alike
+-- of the shared frames, those that must be alike
 abbrev pub compared_frames : Overlap → Brought → List RunFrame
 compared_frames overlap input = slice_range input.frames overlap.first_alike overlap.frames
 
--- these are alike the last frames of the run, and the frames after them can join it
+-- the overlap's frames that must be alike are like the last
+-- frames of the run, and the frames after the overlap can join it
 abbrev pub overlap_joint : ClassFields → List RunFrame → Brought → Overlap → Option JointFrames
 overlap_joint class run input overlap =
     if ends_alike run (compared_frames overlap input)
@@ -73,7 +74,7 @@ following_joint class run before input =
 
 -- ---- an input whose lead-in is left out
 
--- it has a lead-in in front, which is wanted, and its other frames can join the run
+-- the input begins with a lead-in, which the frames after it want, and these can join the run
 unfoldable pub joint_without_lead_in : ClassFields → List RunFrame → Brought → Option JointFrames
 joint_without_lead_in class run input =
     if has_lead_in (window_of class.version) input
@@ -84,19 +85,19 @@ joint_without_lead_in class run input =
 
 -- ---- all inputs
 
--- all its frames, in their own slots
+-- all frames of the input, in their own slots
 abbrev pub whole_joint : Brought → JointFrames
 whole_joint input = joint_with Whole input.frames
 
--- what becomes of an input after a run that ends with what the input before it
--- added: it follows that one, or else its lead-in is left out, or else it is whole
+-- what becomes of an input after a run that ends with what the input before it added:
+-- it follows that input, or otherwise its lead-in is left out, or otherwise it is whole
 abbrev pub joint_of : ClassFields → List RunFrame → Brought → Brought → JointFrames
 joint_of class run before input =
     unwrap_or (option_or (following_joint class run before input)
     (joint_without_lead_in class run input))
     (whole_joint input)
 
--- what becomes of inputs, one after the other
+-- what becomes of inputs, in order
 unfoldable pub joints_from : ClassFields → List RunFrame → Brought → List Brought → List JointFrames
 joints_from class run before [] = []
 joints_from class run before (input ∷ inputs) =
@@ -111,8 +112,8 @@ joints_of class first inputs = joints_from class first.frames first inputs
 abbrev pub run_with : Brought → List JointFrames → List RunFrame
 run_with first joints = first.frames ++ flat_map (λ (j : JointFrames). j.frames) joints
 
--- The lead-in of the first input leaves the run at last if the run without
--- it wants one: then it gets one again, with the area that all of them want.
+-- At last the lead-in of the first input leaves the run, if the run without it
+-- wants one: then the run gets one again, with the area that all its frames want.
 unfoldable pub front_left_out_count : ClassFields → Brought → List RunFrame → ℕ
 front_left_out_count class first run =
     let window = window_of class.version in

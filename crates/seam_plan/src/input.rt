@@ -4,8 +4,8 @@ ghost use Rattle.std.specs.Prelude.{◌≡◌, ◌≤◌, length, drop};
 use exact_span::Played;
 use slot_plan::Need;
 
-/// What each frame of an input needs, of which there is one, whether all bytes of the side information of
-/// its first frame are 0, and its played positions where its head counts.
+/// What each frame of an input needs, at least one; whether all bytes of the side information of
+/// its first frame are 0; and its played positions, if its head has counts.
 #[derive(Clone, Copy)]
 pub struct Input<'a> {
     pub needs: &'a [Need],
@@ -13,7 +13,7 @@ pub struct Input<'a> {
     pub played: Option<Played>,
 }
 
-/// What all frames need but so many at the front.
+/// The needs of the frames after the first `count`.
 pub(crate) fn needs_after(needs: &[Need], count: usize) -> &[Need]
     requires { count ≤ length needs.now }
     ensures { result.now ≡ drop count needs.now }

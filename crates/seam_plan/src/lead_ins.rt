@@ -1,4 +1,4 @@
-//! The lead-in in front of an input.
+//! The lead-in at the front of an input.
 ghost use Rattle.std.specs.Prelude.{◌≡◌, ◌<◌, List, length, drop};
 ghost use Rattle.frame_header.specs.Tables.{window_of};
 ghost use Rattle.frame_header.specs.Fields.{ClassFields};
@@ -13,14 +13,14 @@ use crate::input::{Input, needs_after};
 use frame_header::Header;
 use slot_plan::{Need, lead_in, wants};
 
-/// Whether two headers are the same 32 bits.
+/// Whether two headers have the same 32 bits.
 fn are_same(first: &Header, second: &Header) -> bool
     ensures { result ≡ is_same_header first.now second.now }
 {
     first.bytes() == second.bytes()
 }
 
-/// Whether the first frame has the header of the lead-in of all frames after it, of which there is one.
+/// Whether there are frames after the first, and the first has the header of their lead-in.
 fn leads_others(needs: &[Need]) -> bool
     requires { FitBehindWindow needs.now }
     ensures { (class : ClassFields) → AreNeedsOfClass class needs.now
@@ -33,7 +33,7 @@ fn leads_others(needs: &[Need]) -> bool
     are_same(&needs[0].header, &header)
 }
 
-/// Whether the frames fit behind no bytes.
+/// Whether the frames fit after no bytes.
 pub(crate) fn fit_alone(needs: &[Need]) -> bool
     requires { FitBehindWindow needs.now }
     ensures { (class : ClassFields) → AreNeedsOfClass class needs.now
@@ -42,8 +42,8 @@ pub(crate) fn fit_alone(needs: &[Need]) -> bool
     wants(needs) == 0
 }
 
-/// Whether the input has a lead-in in front: all bytes of the side information of its first frame are 0, and
-/// it has the header of the lead-in of the frames after it.
+/// Whether the input begins with a lead-in: all bytes of the side information of its first frame
+/// are 0, and this frame has the header of the lead-in of the frames after it.
 pub(crate) fn has_lead_in(input: &Input<'_>) -> bool
     requires { FitBehindWindow input.now.needs.now }
     ensures { (class : ClassFields) (brought : Brought) → AreNeedsOfClass class input.now.needs.now
@@ -52,8 +52,9 @@ pub(crate) fn has_lead_in(input: &Input<'_>) -> bool
     input.blank && leads_others(input.needs)
 }
 
-/// How many frames leave the whole run at its front, 1 or 0: the lead-in of the first input, if it has one
-/// and the others want one. The run has at least one frame, and fits behind a whole window.
+/// How many frames are left out at the front of the whole run, 1 or 0: the lead-in of the first
+/// input, if it has one and the other frames want one. The run has at least one frame, and the
+/// frames after its first fit after a whole window.
 pub fn front_left_out(first: &Input<'_>, run: &[Need]) -> u32
     requires input { FitBehindWindow first.now.needs.now }
     requires some { 0 < length run.now }

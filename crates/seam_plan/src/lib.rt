@@ -1,5 +1,6 @@
-//! Which frames are left out where files are joined without seams. An input that follows the one before
-//! it shares frames with it, and a lead-in is of no use where main data are before its frames.
+//! Which frames are left out when files are joined without seams. An input that follows the one
+//! before it shares frames with it, and a lead-in is of no use if there are main data before its
+//! frames.
 #![tactic(auto)]
 
 mod input;

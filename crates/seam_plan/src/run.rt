@@ -17,23 +17,24 @@ use exact_span::{Overlap, shared};
 use frame_header::{Class, Slot};
 use slot_plan::{Need, free_behind, joins, leaves};
 
-/// A frame of an input: the numbers of both, counted from 0.
+/// A frame of an input: the number of the input and the number of the frame in it, counted from 0.
 #[derive(Clone, Copy, Debug, Default, PartialEq, Eq)]
 pub struct FramePlace {
     pub input: u32,
     pub frame: u32,
 }
 
-/// What becomes of an input after the first: how many frames are left out at its front, and the slot in
-/// which the first of the others joins the run, if there is one.
+/// What becomes of an input after the first: how many frames are left out at its front, and the
+/// slot in which the first of the other frames joins the run, if there is one.
 #[derive(Clone, Copy, Debug, PartialEq, Eq)]
 pub struct Joint {
     pub seam: Seam,
     pub slot: Option<Slot>,
 }
 
-/// The frames that are written so far: how many bytes they leave behind a whole window, which are the last,
-/// and how many positions of the last input are after its last played one, where its head counts.
+/// The frames that are written so far: how many bytes they leave after a whole window, which frames
+/// are the last, and how many positions of the last input are after its last played one, if its
+/// head has counts.
 #[derive(Clone, Debug, Drop)]
 pub struct Run {
     class: Class,
@@ -42,7 +43,7 @@ pub struct Run {
     rest: Option<u64>,
 }
 
-/// How many positions of the input are after its last played one, where its head counts.
+/// How many positions of the input are after its last played one, if its head has counts.
 fn rest_of(class: Class, input: &Input<'_>) -> Option<u64>
     requires { IsJoinableInput class input.now }
     ensures most { IfSome result (λ rest. rest ≤ longest_rest) }
@@ -53,7 +54,7 @@ fn rest_of(class: Class, input: &Input<'_>) -> Option<u64>
     Some(played.rest(class, input.needs.len() as u32))
 }
 
-/// A frame that is the first of others in another slot.
+/// The first of some frames, in another slot.
 fn in_slot(need: &Need, slot: Slot) -> Need
     ensures { result ≡ need_in_slot slot need.now }
 {
@@ -62,7 +63,7 @@ fn in_slot(need: &Need, slot: Slot) -> Need
     moved
 }
 
-/// Adds a place to the last seven, of which the first goes where there are seven.
+/// Adds a place to the last seven; if there are seven, the first of them is dropped.
 fn slide(last: &mut ArrayVec<FramePlace, 7>, place: FramePlace)
     ensures { IsSlid last.old.items place last.new.items }
 {
@@ -92,7 +93,8 @@ impl Run {
         run
     }
 
-    /// The frames that the next input shares with the one before it, where the heads of both count.
+    /// The frames that the next input shares with the one before it, if the heads of both have
+    /// counts.
     pub fn overlap(&self, input: &Input<'_>) -> Option<Overlap>
         requires input { IsJoinableInput self.now.class input.now }
         requires sound { IsSoundRun self.now }
@@ -106,7 +108,8 @@ impl Run {
         shared(self.class, rest, played.start, input.needs.len() as u32)
     }
 
-    /// The last frames of the run, so many. `None` exactly where it has fewer.
+    /// The places of the last `count` frames of the run, at most 7. `None` exactly if the run has
+    /// fewer.
     pub fn last(&self, count: usize) -> Option<&[FramePlace]>
         ensures { (class : ClassFields) (frames : List RunFrame) (places : List FramePlace)
             (before : Brought) → IsRun class frames places before self.now → count ≤ 7
@@ -119,7 +122,8 @@ impl Run {
         Some(&last[last.len() - count..])
     }
 
-    /// The run has these frames of an input behind its own, the first of them in this slot, if there is one.
+    /// Adds these frames of an input after the run's own, the first of them in this slot, if there
+    /// is one.
     fn add(&mut self, needs: &[Need], slot: Option<Slot>)
         requires within { IsRunInWindow self.old }
         requires same { AreNeedsOfClass self.old.class needs.now }
@@ -142,7 +146,7 @@ impl Run {
         self.left = leaves(needs_after(needs, 1), free);
     }
 
-    /// The run has the frames of an input from one to before another behind its own.
+    /// Adds the places of an input's frames from `from` to before `to` after the run's own.
     fn note(&mut self, input: u32, from: u32, to: u32)
         requires { from ≤ to }
         ensures class { self.new.class ≡ self.old.class }
@@ -157,8 +161,8 @@ impl Run {
         }
     }
 
-    /// How the frames of an input that are left with this seam join the run: the slot of the first, if there is
-    /// one. `None` where they can't.
+    /// How the frames of an input that are left with this seam join the run: in which slot the
+    /// first joins, if there is one. `None` if they can't.
     fn joining(&self, seam: Seam, needs: &[Need]) -> Option<Joint>
         requires within { IsRunInWindow self.now }
         requires same { AreNeedsOfClass self.now.class needs.now }
@@ -180,7 +184,7 @@ impl Run {
         })
     }
 
-    /// The next input follows the one before it, if the frames that have to be alike are.
+    /// The next input follows the one before it, if the frames that must be alike are.
     fn following(&self, input: &Input<'_>, alike: Option<Overlap>) -> Option<Joint>
         requires input { IsJoinableInput self.now.class input.now }
         requires within { IsRunInWindow self.now }
@@ -198,7 +202,7 @@ impl Run {
         self.joining(Seam::Follows(overlap.frames), needs)
     }
 
-    /// The lead-in of the next input is left out, if it has one that is wanted.
+    /// The lead-in of the next input is left out, if it has one that the frames after it want.
     fn without_lead_in(&self, input: &Input<'_>) -> Option<Joint>
         requires input { IsJoinableInput self.now.class input.now }
         requires within { IsRunInWindow self.now }
@@ -242,18 +246,19 @@ impl Run {
         }
     }
 
-    /// What becomes of the next input, which has the number `number`, after which the run has its frames
-    /// but for those that are left out. `alike` is what `overlap` answers, if the frames that have to be
-    /// alike are, one by one, the last of the run. The first of these holds that can:
+    /// What becomes of the next input, which has the number `number`; the run then has its frames
+    /// too, except those that are left out. `alike` is what `overlap` returns, if the frames that
+    /// must be alike are, one by one, the last frames of the run. The first of these cases that is
+    /// possible is taken:
     ///
-    /// - the input follows the one before it: these frames are alike, and those after the shared ones can
+    /// - the input follows the one before it: these frames are alike, and the frames after the
+    ///   shared ones can join the run;
+    /// - its lead-in is left out: it begins with one, which the frames after it want, and these can
     ///   join the run;
-    /// - its lead-in is left out: it has one in front, which the frames after it want, and these can join
-    ///   the run;
     /// - it is whole.
     ///
-    /// Frames can join where all fit behind a whole window with the first of them in its own slot or in a
-    /// greater one; they join in the least such slot. It takes no memory.
+    /// Frames can join if all fit after a whole window with the first of them in its own slot or in
+    /// a larger one; they join in the least such slot. It takes no memory.
     pub fn join(&mut self, number: u32, input: &Input<'_>, alike: Option<Overlap>) -> Joint
         requires input { IsJoinableInput self.old.class input.now }
         requires sound { IsSoundRun self.old }
@@ -262,7 +267,7 @@ impl Run {
             (before brought : Brought) → IsRun class frames places before self.old
             → IsBroughtInput input.now brought → alike ≡ alike_overlap class frames before brought
             → JoinsRun class number frames places before brought result self.new }
-        // Whatever is alike.
+        // Whether or not frames are alike.
         ensures fits { AddedInputFits self.old.class self.old.left input.now result }
         ensures goes_on { RunGoesOn number input.now result self.old self.new }
         ensures sound { IsSoundRun self.new }

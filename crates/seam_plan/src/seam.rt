@@ -5,12 +5,12 @@ ghost use Rattle.seam_plan.specs.Seams.{left_out_count};
 /// Which frames are left out at the front of an input.
 #[derive(Clone, Copy, Debug, PartialEq, Eq)]
 pub enum Seam {
-    /// So many, since it follows the input before it: they are the last frames of the run, or are before
-    /// the first that is played.
+    /// This many frames, because the input follows the one before it: they are the last frames of
+    /// the run, or before the first frame that is played.
     Follows(u32),
-    /// One, a lead-in, since the frames after it have room behind the run.
+    /// One frame, a lead-in, because the frames after it have room after the run.
     LeadIn,
-    /// None.
+    /// No frames.
     Whole,
 }
 

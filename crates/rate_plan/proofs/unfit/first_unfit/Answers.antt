@@ -1,4 +1,4 @@
--- One frame more, and the first that doesn't fit.
+-- One more frame, and the first that doesn't fit.
 use Rattle.std.proofs.Common.{ap, arith, false, subst, true, ◌∙◌, ◌≡◌}
 use Rattle.rate_plan.proofs.FitLemmas.{area-at, most_area, to-all, to-begun, to-more, to-unfit}
 use Rattle.rate_plan.specs.LargestAreas.{menu_largest_area}

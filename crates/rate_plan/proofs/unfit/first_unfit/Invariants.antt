@@ -1,4 +1,4 @@
--- The frames before fit.
+-- The frames so far fit.
 use Rattle.std.proofs.Common.{◌≤◌}
 use Rattle.rate_plan.proofs.FitLemmas.{FitTo}
 use Rattle.rate_plan.proofs.unfit.first_unfit.Given as goal

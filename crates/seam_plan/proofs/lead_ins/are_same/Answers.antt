@@ -1,4 +1,4 @@
--- The bytes of a header say it.
+-- The bytes of headers decide whether they are the same.
 use Rattle.std.{proofs.Common.{rules, ◌≡◌}, specs.Prelude.bytes_eq}
 use Rattle.seam_plan.proofs.LeadInLemmas.{header-same}
 use Rattle.seam_plan.proofs.lead_ins.are_same.Goals as goal

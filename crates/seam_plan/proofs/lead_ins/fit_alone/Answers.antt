@@ -1,4 +1,4 @@
--- Frames that want nothing fit behind nothing.
+-- Frames that want nothing fit after no bytes.
 use Rattle.frame_header.specs.Tables.{window_of}
 use Rattle.seam_plan.proofs.LeadInLemmas.{alone-is}
 use Rattle.seam_plan.proofs.lead_ins.fit_alone.Goals as goal

@@ -1,4 +1,4 @@
--- Its side information, and the header of the first frame.
+-- The side information of the first frame, and its header.
 use Rattle.frame_header.specs.Tables.{window_of}
 use Rattle.seam_plan.proofs.LeadInLemmas.{has-else, has-then}
 use Rattle.seam_plan.proofs.lead_ins.has_lead_in.Goals as goal

@@ -1,4 +1,4 @@
--- The header of the first frame beside that of the lead-in of the others.
+-- The header of the first frame, and of the lead-in of the others.
 use Rattle.std.proofs.Common.{ap, arith, rules, subst, sym, ◌∙◌}
 use Rattle.frame_header.specs.{Fields.IsHeader, Tables.window_of}
 use Rattle.seam_plan.proofs.{LeadInLemmas.{leads-is, leads-none}, RunLemmas.drop-fits}

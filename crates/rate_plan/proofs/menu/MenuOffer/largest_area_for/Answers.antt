@@ -1,4 +1,4 @@
--- The table has what no bytes want, and the largest area is one of the menu's.
+-- The table has an entry for 0 bytes, and the largest area is one of the menu's.
 use Rattle.std.proofs.Common.{ap, arith, length, subst, sym, ◌<◌}
 use Rattle.frame_header.specs.Tables.{class_of, overhead_of}
 use Rattle.rate_plan.proofs.FitLemmas.{has-greatest}

@@ -1,4 +1,4 @@
--- The table has what the largest slot has.
+-- The table has an entry for whatever the largest slot has.
 use Rattle.std.proofs.Common.{ap, length, subst, sym, ◌+◌, ◌<◌, ◌≤◌}
 use Rattle.frame_header.specs.Tables.{overhead_of}
 use Rattle.slot_plan.{proofs.TableLemmas.table-within, specs.Parts.slot_areas}

@@ -1,4 +1,4 @@
--- What is decided, and the run that goes on with it.
+-- What is decided, and the run that continues with it.
 use Rattle.std.proofs.Common.{ap, drop, length, subst, sym, ◌++◌, ◌-◌, ◌∙◌}
 use Rattle.std.specs.Prelude.{option_map}
 use Rattle.exact_span.specs.PlayedPositions.{rest_of}

@@ -1,4 +1,4 @@
--- The slot in which the first frame joins, as `joins` answers it.
+-- The slot in which the first frame joins, as `joins` returns it.
 use Rattle.std.proofs.Common.{length, rules, subst, ◌≡◌}
 use Rattle.frame_header.specs.{Fields.IsClass, Tables.window_of}
 use Rattle.seam_plan.proofs.JoinLemmas.{join-fit, joining-empty, joins-none, joins-some}

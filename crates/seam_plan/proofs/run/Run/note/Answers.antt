@@ -1,4 +1,4 @@
--- One place more, and that the last seven are enough.
+-- One more place, and that the last seven are enough.
 use Rattle.std.proofs.Common.{arith, subst, ◌≡◌}
 use Rattle.seam_plan.proofs.PlaceLemmas.{note-all, note-from, note-slid, Notes}
 use Rattle.seam_plan.proofs.run.Run.note.Goals as goal

@@ -1,4 +1,4 @@
--- The places so far, behind those that were there.
+-- The places so far, after those that were there.
 use Rattle.std.proofs.Common.{◌≡◌}
 use Rattle.seam_plan.proofs.PlaceLemmas.{Notes}
 use Rattle.seam_plan.proofs.run.Run.note.Given as goal

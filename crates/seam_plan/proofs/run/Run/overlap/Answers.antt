@@ -1,4 +1,4 @@
--- The frames that are shared are of the input, and few of them are to be alike.
+-- The shared frames are in the input, and few of them must be alike.
 use Rattle.std.{proofs.Common.{length, rules, Some, subst, ◌≡◌, ◌≤◌}, specs.Prelude.IfSome}
 use Rattle.exact_span.specs.PlayedPositions.{AreCounted, longest_rest}
 use Rattle.seam_plan.proofs.RunLemmas.{can-follow}
