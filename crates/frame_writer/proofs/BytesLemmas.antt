@@ -4,7 +4,7 @@ use Rattle.std.proofs.Common.{◌+◌, ◌-◌, ◌∙◌, ◌≡◌, ◌≤◌}
 use Rattle.std.proofs.Math.Seq.{take-append-add, take-append_seam}
 use Rattle.std.proofs.lemmas.List.{drop-append-le, drop-drop, drop-take, length-take-le}
 
--- bytes that are put after those that are held
+-- bytes put after the bytes of a queue
 pub put-behind : (n h l : ℕ) (room rest part bytes held : List ℕ) → n + h ≤ length room
     → take h (drop n room) ≡ held → part ≡ bytes → length bytes ≡ l
     → take (n + h + l - n) (drop n (take (n + h) room ++ (part ++ rest))) ≡ held ++ bytes
@@ -19,7 +19,7 @@ put-behind n h l room rest part bytes held within holds is long =
     ∙ take-append-add held (bytes ++ rest) (length bytes)
     ∙ ap (λ (xs : List ℕ). held ++ xs) (take-append_seam bytes rest)
 
--- bytes of which the first are dropped
+-- bytes without the first that are dropped
 pub dropped : (from to count : ℕ) (room held : List ℕ) → take (to - from) (drop from room) ≡ held
     → from + count ≤ to → take (to - (from + count)) (drop (from + count) room) ≡ drop count held
 dropped from to count room held is within =

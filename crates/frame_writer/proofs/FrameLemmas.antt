@@ -23,9 +23,9 @@ use Rattle.frame_writer.specs.Laid.{AreAreasLaid, BeginsWithin, FrameData, laid_
 use Rattle.frame_writer.specs.{Laws.{FewFramesWait, HasFrameRoom, LaidSteps}, Writing.IsNewQueue}
 use Rattle.side_info.specs.{Frame.frame_front_bytes, FrameFields.FrameFields, Side.SideFits}
 
--- ---- areas cut off one after another
+-- ---- areas cut in order
 
--- frames and others are framed one after the other
+-- frames and then others are framed in order
 pub framed-more : (ks js : List FrameFields) (xs ys : List ℕ) → length xs ≡ areas_length ks
     → framed_bytes (ks ++ js) (xs ++ ys) ≡ framed_bytes ks xs ++ framed_bytes js ys
 framed-more [] js [] ys long = refl
@@ -55,7 +55,7 @@ laid-steps taken held fs are =
     ∙ sym (framed-more are.done held.kept are.given held.waiting.bytes are.long)
     ∙ ap₂ framed_bytes are.all are.laid.same
 
--- no frame was given
+-- if no frame was given, none was taken
 pub none-written : (c : ClassFields) → AreAreasLaid [] (record { bytes = []; free = 0 }) []
     → AreFramesWritten []
     (record { class = c; kept = []; waiting = record { bytes = []; free = 0 } }) []
@@ -74,7 +74,7 @@ none-new c are = record {
       λ next. omega (arith, next.some);
 }
 
--- a frame that is given is one more of those taken and waiting
+-- a frame that is given is one more of the frames taken and waiting
 pub more-written : (taken : List ℕ) (c : ClassFields) (kept : List FrameFields)
     (waiting more : WaitingAreas) (fs : List Frame) (f : Frame) →
     ((given : List ℕ) (ps : List FrameData) → AreAreasLaid given waiting ps
@@ -94,7 +94,7 @@ more-written taken c kept waiting more fs f step are = record {
   bytes = are.bytes;
 }
 
--- when the first frame is taken the bytes of all frames stay the same
+-- when the first frame is taken, the bytes of all frames stay the same
 pub first-written : (taken area_bytes : List ℕ) (c : ClassFields) (k : FrameFields)
     (ks : List FrameFields) (waiting less : WaitingAreas) (fs : List Frame) →
     length area_bytes ≡ frame_area k →
@@ -119,7 +119,7 @@ first-written taken area_bytes c k ks waiting less fs long step are =
           ∙ sym (framed-more are.done (k ∷ []) are.given area_bytes are.long);
     }
 
--- whatever frames follow, what was taken stays, where the first of them begins within what is free
+-- what was taken stays whatever frames follow, if the first of them begins within what is free
 pub later-frames : (taken : List ℕ) (held : WaitingFrames) (fs more : List Frame)
     → AreFramesWritten taken held fs → BeginsWithin held.waiting.free (all_frame_data more)
     → (rest : List ℕ) × (bytes_of_frames (fs ++ more) ≡ taken ++ rest)
@@ -147,7 +147,7 @@ AreOf-more c [] k are is same fits = (is, same, fits, tt)
 AreOf-more c (j ∷ ks) k are is same fits =
     (are.0, are.1, are.2, AreOf-more c ks k are.3 is same fits)
 
--- areas that are as long as bytes are so with one more and its bytes
+-- if areas are as long as bytes, they still are with one more area and its bytes
 pub areas_in-pushed : (ks : List FrameFields) (k : FrameFields) (bytes more : List ℕ)
     → areas_length ks ≡ length bytes → length more ≡ length bytes + frame_area k →
     areas_length (ks ++ k ∷ []) ≡ length more
@@ -166,7 +166,7 @@ pushed-kept old new k (Ok x) many few when is = (
 pushed-kept old new k (Err e) many few when is =
     absurd (false≢true (when.1 (omega (arith, many, few))))
 
--- a queue with frames has a first one, and the others behind it
+-- a queue with frames has a first one, and the others after it
 pub first-kept : (ks : List FrameFields) (k : FrameFields) → 0 < length ks → slice_get ks 0 ≡ Some k
     → ks ≡ k ∷ drop 1 ks
 first-kept [] k some is = absurd (omega (arith, some))
@@ -182,7 +182,7 @@ area-range k is =
       omega (arith, area-most (class_of k.header) k.header.slot k.header.protected class is.slot),
     )
 
--- framed bytes are those of the first frame, and those of the frames after it
+-- framed bytes are the bytes of the first frame and then of the frames after it
 pub first-framed : (k : FrameFields) (ks : List FrameFields) (bytes : List ℕ)
     → first_bytes k bytes ++ framed_bytes ks (drop (frame_area k) bytes)
     ≡ framed_bytes (k ∷ ks) bytes
@@ -192,13 +192,13 @@ first-framed k ks bytes =
 
 -- ---- how many can wait
 
--- a bound below the areas of all frames of a version, in bytes
+-- a lower bound of the areas of all frames of a version, in bytes
 abbrev pub least_of : Version → ℕ
 least_of One = 3
 least_of Two = 1
 least_of TwoFive = 1
 
--- the shortest frames have such areas, also with a check word
+-- the shortest frames have at least such areas, also with a check word
 least_room : (version : Version) (channels : ℕ)
     → least_of version + 6 + side_bytes_of version channels ≤ least_length version
 least_room One channels =
@@ -229,7 +229,7 @@ many c m (k ∷ ks) class are is =
     omega
     (arith, mul-suc m (length ks), many c m ks class are.3 is, kept-least c k class are.0 are.1, is)
 
--- if so few bytes of areas are after the first frame, so few frames are
+-- if less than a window of areas is after the first frame, fewer than 255 frames are
 few_behind : (version : Version) (n bytes : ℕ) → least_of version * n ≤ bytes
     → bytes < window_of version → n + 1 < 256
 few_behind One n bytes all behind = omega (arith, all, behind)

@@ -15,14 +15,14 @@ use Rattle.reservoir.proofs.WindowLemmas.{take_two}
 
 -- ---- lists of zeros
 
--- so many zeros are as long
+-- n zeros have n bytes
 pub length-zeros : (n : ℕ) → length (zeros n) ≡ n
 length-zeros n = length-replicate n 0
 
 zeros_split : (n m : ℕ) → m ≤ n → zeros n ≡ zeros (n - m) ++ zeros m
 zeros_split n m le = ap zeros (omega (arith, le)) ∙ sym (replicate-append-replicate (n - m) m 0)
 
--- ---- main data up to the last, and one frame more
+-- ---- main data up to the last, and one more frame
 
 abbrev pub up_to : ℕ → ℕ → List FrameData → List ℕ
 up_to end area_start [] = []
@@ -43,7 +43,7 @@ laid_up_to end area_start (p ∷ ps) =
     ∙ ap (λ (xs : List ℕ). gap ++ xs) (sym (append_assoc p.payload more rest))
     ∙ sym (append_assoc gap (p.payload ++ more) rest)
 
--- one frame more
+-- one more frame adds zeros and its main data
 up_to-more : (end area_start : ℕ) (ps : List FrameData) (p : FrameData) →
     up_to end area_start (ps ++ p ∷ []) ≡ up_to end area_start ps
     ++ (zeros (frame_data_start (areas_end area_start ps) p - data_end end area_start ps)
@@ -85,7 +85,7 @@ fit-more end area_start (q ∷ ps) p fits from to = (
 
 -- ---- a queue of the bytes up to the end of the last main data, with zeros after it
 
--- where the bytes that were handed on and those in the queue end
+-- where the forwarded bytes and those in the queue end
 stored : (given items : List ℕ) (free : ℕ) (ps : List FrameData)
     → given ++ (items ++ zeros free) ≡ laid_data ps → free + data_end 0 0 ps ≤ areas_end 0 ps →
     given ++ items ≡ up_to 0 0 ps ++ zeros (areas_end 0 ps - data_end 0 0 ps - free)
@@ -110,7 +110,7 @@ abbrev pub waits : List ℕ → ℕ → WaitingAreas
 waits items free = record { bytes = items ++ zeros free; free = free }
 
 module _ (given items payload : List ℕ) (begin free gap rest area : ℕ) (ps : List FrameData) where
-  -- the main data of one frame more
+  -- the main data of one more frame
   more_same : given ++ (items ++ zeros free) ≡ laid_data ps → free + data_end 0 0 ps
       ≤ areas_end 0 ps → begin ≤ free → gap ≡ free - begin → length payload ≤ begin + area → rest
       ≡ begin + area - length payload → given ++ ((items ++ (zeros gap ++ payload)) ++ zeros rest)
@@ -209,14 +209,14 @@ first_cases n free items within (inr many) =
           (n - length items) ∙ drop-replicate (n - length items) free 0),
     )
 
--- to drop bytes of what waits, and the others of the zeros behind it, is to drop them of both
--- together
+-- dropping bytes from what is stored, and the others
+-- from the zeros after it, drops them from both together
 pub first-left : (n free : ℕ) (items : List ℕ) → n ≤ length items + free →
     drop (min n (length items)) items ++ zeros (free - (n - min n (length items)))
     ≡ drop n (items ++ zeros free)
 first-left n free items within = (first_cases n free items within (cases_lt n (length items))).1
 
--- what was handed on and what waits stay the same together
+-- what was forwarded and what waits stay the same together
 pub taken-laid : (given bytes taken left : List ℕ) (n free less : ℕ) (ps : List FrameData)
     → taken ≡ take n bytes → left ≡ drop n bytes → less ≤ free → less ≤ length left →
     AreAreasLaid given (record { bytes = bytes; free = free }) ps
@@ -249,7 +249,7 @@ laid_from-append end area_start (p ∷ ps) qs =
     ∙ ap (λ (xs : List ℕ). gap ++ xs) (sym (append_assoc p.payload more rest))
     ∙ sym (append_assoc gap (p.payload ++ more) rest)
 
--- zeros are before the main data of the first of them
+-- zeros are before the main data of the first of these frames
 zeros_first : (end area_start free : ℕ) (qs : List FrameData) → BeginsWithin free qs
     → (begin : ℕ) × (begin ≤ free) ×
     (rest : List ℕ) × (laid_data_from end area_start qs ≡ zeros (area_start - begin - end) ++ rest)
@@ -262,7 +262,7 @@ zeros_first end area_start free (q ∷ qs) within = (
   refl,
 )
 
--- a prefix of a list with zeros after it is one of the list with fewer zeros
+-- a prefix of a list with zeros after it is a prefix of the list with fewer zeros
 front_of_zeros : (given bytes front rest : List ℕ) (n m : ℕ) → given ++ bytes ≡ front ++ zeros n
     → m ≤ n → n - m ≤ length bytes → (more : List ℕ) × (front ++ (zeros m ++ rest) ≡ given ++ more)
 front_of_zeros given bytes front rest n m same few many =
@@ -291,7 +291,7 @@ front_of_zeros given bytes front rest n m same few many =
           ∙ append_assoc given (drop (length given) (front ++ zeros m)) rest,
     )
 
--- what was handed on stays, whatever is laid after it within what is free
+-- what was forwarded stays, whatever is laid after it within what is free
 pub laid-later : (given : List ℕ) (waiting : WaitingAreas) (ps qs : List FrameData)
     → AreAreasLaid given waiting ps → BeginsWithin waiting.free qs
     → (rest : List ℕ) × (laid_data (ps ++ qs) ≡ given ++ rest)
@@ -310,7 +310,7 @@ laid-later given waiting ps qs are within =
 
 -- ---- the first bytes of what waits
 
--- those that are stored, and zeros
+-- the first bytes of what waits are those that are stored, and zeros
 pub first-parts : (n free stored : ℕ) (items now : List ℕ) → items ++ zeros free ≡ now
     → n ≤ length now → stored ≡ min n (length items)
     → take stored items ++ zeros (n - stored) ≡ take n now
@@ -322,7 +322,7 @@ first-parts n free stored items now views within stores =
     ∙ sym (take_two n items (zeros free))
     ∙ ap (take n) views
 
--- what is left after them
+-- what is left after the first bytes of what waits
 pub left-is : (n free stored : ℕ) (items left now : List ℕ) → stored ≡ min n (length items)
     → left ≡ drop stored items → items ++ zeros free ≡ now → n ≤ length now
     → left ++ zeros (free - (n - stored)) ≡ drop n now

@@ -18,26 +18,26 @@ use Rattle.outside.specs.BufferOutput.{AppendedPrefix, AppendsWaiting}
 use Rattle.outside.specs.Files.{Files, with_appended_bytes}
 use Rattle.side_info.specs.FrameFields.{FrameFields}
 
--- ---- facts of an answer
+-- ---- facts about a result
 
--- what follows from a fact of an answer without error holds of it
+-- what follows from a fact about a result without error holds of it
 pub ok-map : {T E P Q : Type 0} (r : Result T E) → (P → Q) → OnOk r P → OnOk r Q
 ok-map (Ok x) f p = f p
 ok-map (Err e) f p = tt
 
--- what follows from a fact of an error holds of it
+-- what follows from a fact about an error holds of it
 pub err-map : {T E P Q : Type 0} (r : Result T E) → (P → Q) → OnErr r P → OnErr r Q
 err-map (Ok x) f p = tt
 err-map (Err e) f p = f p
 
--- what follows from two facts of an answer holds of it
+-- what follows from two facts about a result holds of it
 pub ok-both : {T E P Q R : Type 0} (r : Result T E) → (P → Q → R) → OnOk r P → OnOk r Q → OnOk r R
 ok-both (Ok x) f p q = f p q
 ok-both (Err e) f p q = tt
 
--- ---- one frame handed on
+-- ---- one frame forwarded
 
--- a prefix of what waits and some bytes is one of what waits and more of them
+-- a prefix of what waits and some bytes is a prefix of what waits and more of them
 pub prefix-piece : (name unsent piece before after : List ℕ) (f g : Files) → piece ++ after ≡ before
     →
     AppendedPrefix name (unsent ++ piece) f g → AppendedPrefix name (unsent ++ before) f g
@@ -52,7 +52,7 @@ prefix-piece name unsent piece before after f g is p =
           (omega (arith, p.short))) ∙ ap (take p.count) all);
     }
 
--- nothing was handed on yet
+-- nothing was forwarded yet
 pub handed-none : (held : WaitingFrames) → ForwardsFrames held held
 handed-none held = record {
   moved = [];
@@ -63,7 +63,7 @@ handed-none held = record {
       (sym (append-nil taken)) are;
 }
 
--- what was handed on in two steps was handed on
+-- what was forwarded in two steps was forwarded
 pub handed-then : {old mid new : WaitingFrames} → ForwardsFrames old mid → ForwardsFrames mid new
     → ForwardsFrames old new
 handed-then {old} {mid} {new} p q = record {
@@ -125,7 +125,7 @@ first-part name unsent old c k ks left waiting less f g view is rest drops step 
       prefix = prefix;
     }
 
--- what was there before, and after it what is taken
+-- what was there before, and then what is taken
 pub behind-more : {base bytes : List ℕ} {old new : WaitingFrames} {fs : List Frame}
     → (h : ForwardsFrames old new) → AreBytesBehind base bytes old fs
     → AreBytesBehind base (bytes ++ h.moved) new fs
@@ -135,8 +135,8 @@ behind-more {base} {bytes} {old} {new} {fs} h are = record {
   written = h.written are.taken fs are.written;
 }
 
--- what was passed on, and what waits in the buffer, are
--- the bytes before and those of the frames that were taken
+-- what was forwarded, and what waits in the buffer, are the
+-- bytes before and the bytes of the frames that were taken
 passed-same : (name unsent : List ℕ) (mid : WaitingFrames) (new : Writing) (f g : Files)
     (p : AppendsWaiting name (unsent ++ held_bytes mid) (waiting_bytes new) f g)
     (h : ForwardsFrames mid new.held) → unsent ++ h.moved ≡ p.passed ++ new.unsent
@@ -158,7 +158,7 @@ module _ (name : List ℕ) (f : Frame) (old : Writing) (mid : WaitingFrames) whe
   behind-frame {base} {bytes} {fs} waits are =
       record { taken = are.taken; is = are.is; written = waits are.taken fs are.written }
 
-  -- the writer goes on
+  -- the writer continues
   pub writes-on : (new : Writing) (before after : Files) → Waits
       → ForwardsBytes name (writing_of mid old.unsent) new before after
       → ForwardsFrames mid new.held → AcceptsFrame name f old new before after
@@ -187,7 +187,7 @@ module _ (name : List ℕ) (f : Frame) (old : Writing) (mid : WaitingFrames) whe
         (append_assoc out old.unsent part.on.moved) (behind-more part.on (behind-frame waits are));
   }
 
--- after frames that were handed on
+-- a part forwarded after frames that were
 pub part-then : (name : List ℕ) (old mid : Writing) (held : WaitingFrames) (f g h : Files)
     → ForwardsBytes name old mid f g → ForwardsFrames old.held mid.held
     → ForwardsPart name mid held g h → ForwardsPart name old held f h
@@ -211,7 +211,7 @@ none-left held unsent none =
     ap (λ (ks : List FrameFields). unsent ++ framed_bytes ks held.waiting.bytes)
     (nil_from_length held.kept none) ∙ append-nil unsent
 
--- first some bytes were passed on, and then others
+-- some bytes were forwarded, and then others
 pub passed-two : {name mid after : List ℕ} {f g h : Files} (before a b c : List ℕ) → a ++ b ≡ c
     → AppendsWaiting name (before ++ a) mid f g → AppendsWaiting name (mid ++ b) after g h
     → AppendsWaiting name (before ++ c) after f h
@@ -219,7 +219,7 @@ passed-two {name} {mid} {after} {f} {g} {h} before a b c is p q =
     subst (λ (xs : List ℕ). AppendsWaiting name xs after f h)
     (append_assoc before a b ∙ ap (λ (xs : List ℕ). before ++ xs) is) (passed_more b p q)
 
--- a piece that went on, and then a prefix of the next, are a prefix of both
+-- a piece that was forwarded, and then a prefix of the next, are a prefix of both
 pub prefix-two : {name mid : List ℕ} {f g h : Files} (before a b c : List ℕ) → a ++ b ≡ c
     → AppendsWaiting name (before ++ a) mid f g → AppendedPrefix name (mid ++ b) g h
     → AppendedPrefix name (before ++ c) f h
@@ -231,7 +231,7 @@ prefix-two {name} {mid} {f} {g} {h} before a b c is p q =
 
 module _ {name bytes : List ℕ} {f g h : Files} (new : Writing)
     (p : AppendsWaiting name bytes (waiting_bytes new) f g) where
-  -- the bytes that were passed on into the buffer, and then all of it
+  -- the bytes that were forwarded into the buffer, and then all of it
   pub passed-sent : h ≡ with_appended_bytes g name new.unsent
       → AppendsWaiting name bytes (held_bytes new.held) f h
   passed-sent all = record {
@@ -241,7 +241,7 @@ module _ {name bytes : List ℕ} {f g h : Files} (new : Writing)
         ∙ appended_twice f name p.passed new.unsent;
   }
 
-  -- a prefix of what waits in the buffer is one of all that waits
+  -- a prefix of what waits in the buffer is a prefix of all that waits
   pub unsent-prefix : AppendedPrefix name new.unsent g h → AppendedPrefix name bytes f h
   unsent-prefix part =
       passed_then_prefix p

@@ -1,4 +1,4 @@
--- What calls of a writer answer and leave.
+-- What calls of a writer return and leave.
 use Rattle.std.specs.Prelude.{drop, length, List, min, OnErr, OnOk, Result, ℕ, [], ◌≡◌, ◌≤◌}
 use Rattle.frame_header.specs.Tables.{class_of}
 use Rattle.frame_writer.specs.Frames.{EndsInArea, first_area, Frame, held_bytes, IsNextSettled}
@@ -12,7 +12,7 @@ use Rattle.outside.specs.{Files.with_appended_bytes, Seen.Seen}
 use Rattle.outside.specs.declared.folder.Failed.{Failed as FailedCall}
 use Rattle.reservoir.specs.Window.{window_size}
 
--- All that waits was handed on to the buffer before the file, or a write failed.
+-- All that waits was forwarded to the buffer before the file, or a write failed.
 pub record QueueFinish (name : List ℕ) (was now : Writing) (old new : Seen)
     (result : Result (Unit {0}) FailedCall) : Type 0 where
   pub passed : OnOk result (AppendsWaiting name (waiting_bytes was) now.unsent old.files new.files)
@@ -22,7 +22,7 @@ pub record QueueFinish (name : List ℕ) (was now : Writing) (old new : Seen)
   pub done : OnOk result (new.counts ≡ old.counts)
   pub counts : OnlyWrites old.counts new.counts
 
--- What no later main data can reach was handed on to the buffer before the file, or a write failed.
+-- What no later main data can reach was forwarded to the buffer before the file, or a write failed.
 pub record HandOnAnswer (name : List ℕ) (was now : Writing) (old new : Seen)
     (result : Result (Unit {0}) FailedCall) : Type 0 where
   pub passed : OnOk result (ForwardsBytes name was now old.files new.files)
@@ -52,7 +52,7 @@ pub record TakeFirstAnswer (name : List ℕ) (was now : Writing) (old new : Seen
   pub done : OnOk result (new.counts ≡ old.counts)
   pub counts : OnlyWrites old.counts new.counts
 
--- A frame was added, and what no later main data can reach was handed on, or a write failed.
+-- A frame was added, and what no later main data can reach was forwarded, or a write failed.
 pub record FrameAnswer (name : List ℕ) (f : Frame) (was now : Writing) (old new : Seen)
     (result : Result (Unit {0}) FailedCall) : Type 0 where
   pub written : OnOk result (AcceptsFrame name f was now old.files new.files)
@@ -78,8 +78,8 @@ pub record WriterFinish (name : List ℕ) (was now : WaitingFrames) (state : Sta
   pub done : OnOk result (new.counts ≡ old.counts)
   pub counts : OnlyWrites old.counts new.counts
 
--- A writer takes this frame: it is of the class, its main data begin in
--- what is free and end in its own area, and are as many as a window lends.
+-- A writer takes this frame: it is of the class, and its main data begin in
+-- what is free, end in the frame's own area, and have at most 2,048 bytes.
 pub record CanTakeFrame (held : WaitingFrames) (f : Frame) : Type 0 where
   pub class : class_of f.kept.header ≡ held.class
   pub start : f.kept.side.main_data_begin ≤ held.waiting.free

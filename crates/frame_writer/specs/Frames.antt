@@ -13,7 +13,7 @@ use Rattle.side_info.specs.declared.side.Side.{Side}
 abbrev pub frame_area : FrameFields → ℕ
 frame_area k = area_of (class_of k.header) k.header.slot k.header.protected
 
--- that of the areas of frames together
+-- the length in bytes of the areas of all these frames
 abbrev pub areas_length : List FrameFields → ℕ
 areas_length [] = 0
 areas_length (k ∷ ks) = frame_area k + areas_length ks
@@ -23,7 +23,7 @@ abbrev pub first_area : List FrameFields → ℕ
 first_area [] = 0
 first_area (k ∷ ks) = frame_area k
 
--- frames with these bytes as their areas, cut off one after another
+-- frames with these bytes as their areas, cut in order
 abbrev pub framed_bytes : List FrameFields → List ℕ → List ℕ
 framed_bytes [] area_bytes = []
 framed_bytes (k ∷ ks) area_bytes = frame_front_bytes k.header k.side
@@ -71,7 +71,7 @@ pub record WaitingFrames : Type 0 where
 abbrev pub held_bytes : WaitingFrames → List ℕ
 held_bytes held = framed_bytes held.kept held.waiting.bytes
 
--- what waits of the areas with that of one frame more
+-- what waits of the areas, with the area of one more frame
 abbrev pub areas_with_frame : WaitingAreas → Frame → List ℕ
 areas_with_frame w f =
     areas_after_laying w f.payload f.kept.side.main_data_begin (frame_area f.kept)
@@ -90,7 +90,7 @@ AreFieldsOfClass c (k ∷ ks) =
 abbrev pub reach_of : WaitingFrames → ℕ
 reach_of held = min (window_of held.class.version) held.waiting.free
 
--- a frame waits, and no later main data can reach the area of the first
+-- a frame waits, and no later main data can reach the area of the first that does
 pub record IsNextSettled (held : WaitingFrames) : Type 0 where
   pub some : 0 < length held.kept
   pub behind : first_area held.kept + min (window_of held.class.version) held.waiting.free

@@ -1,6 +1,6 @@
--- Main data laid into the areas of frames (main_data_begin, ISO/IEC 11172-3 and 13818-3, 2.4.2.7);
--- the zeros between and after them are this project's. Places are counted in bytes, over all areas,
--- one after the other.
+-- Main data laid into the areas of frames (main_data_begin, ISO/IEC
+-- 11172-3 and 13818-3, 2.4.2.7); the zeros between and after them are this
+-- project's. Places are counted in bytes, over all areas, joined in order.
 use Rattle.std.specs.Prelude.{drop, length, List, replicate, take, ℕ, [], ◌++◌, ◌+◌, ◌-◌, ◌∷◌, ◌≡◌}
 use Rattle.std.specs.Prelude.{◌≤◌}
 
@@ -14,29 +14,29 @@ pub record FrameData : Type 0 where
   pub begin : ℕ
   pub area : ℕ
 
--- so many zeros
+-- n zeros
 abbrev pub zeros : ℕ → List ℕ
 zeros n = replicate n 0
 
--- where the main data of a frame begin whose area starts at a place
+-- where the main data of a frame begin, if its area starts at `area_start`
 abbrev pub frame_data_start : ℕ → FrameData → ℕ
 frame_data_start area_start p = area_start - p.begin
 
--- where they end
+-- where the main data of a frame end, if its area starts at `area_start`
 abbrev pub frame_data_end : ℕ → FrameData → ℕ
 frame_data_end area_start p = frame_data_start area_start p + length p.payload
 
--- where the areas of these frames end, if the first of them starts at a place
+-- where the areas of these frames end, if the first of them starts at `area_start`
 abbrev pub areas_end : ℕ → List FrameData → ℕ
 areas_end area_start [] = area_start
 areas_end area_start (p ∷ ps) = areas_end (area_start + p.area) ps
 
--- where the main data of the last of these frames end; those before them end at a place
+-- where the main data of the last of these frames end, if those before the first end at `end`
 abbrev pub data_end : ℕ → ℕ → List FrameData → ℕ
 data_end end area_start [] = end
 data_end end area_start (p ∷ ps) = data_end (frame_data_end area_start p) (area_start + p.area) ps
 
--- no main data begin before those before them end, and none end after their frame's own area
+-- no main data begin before the end of those before them, and none end after their frame's own area
 abbrev pub CanDataBeLaidFrom : ℕ → ℕ → List FrameData → Type 0
 CanDataBeLaidFrom end area_start [] = Unit {0}
 CanDataBeLaidFrom end area_start (p ∷ ps) =
@@ -67,18 +67,18 @@ pub record WaitingAreas : Type 0 where
   pub bytes : List ℕ
   pub free : ℕ
 
--- the bytes with these at a place, over as many that were there
+-- these bytes at a place, written over as many that were there
 abbrev pub overwritten_bytes : ℕ → List ℕ → List ℕ → List ℕ
 overwritten_bytes place more bytes = take place bytes ++ (more ++ drop (place + length more) bytes)
 
--- what waits after an area of this length was added and
--- main data were laid, from so many bytes before it on
+-- what waits after an area of `area` bytes was added and
+-- main data were laid that begin `begin` bytes before it
 abbrev pub areas_after_laying : WaitingAreas → List ℕ → ℕ → ℕ → List ℕ
 areas_after_laying w payload begin area =
     overwritten_bytes (length w.bytes - begin) payload (w.bytes ++ zeros area)
 
--- what was handed on and what waits are the bytes of the areas of these
--- frames, and the bytes that are free are after all their main data
+-- what was forwarded and what waits are the bytes of the areas of
+-- these frames, and the free bytes are after all their main data
 pub record AreAreasLaid (given : List ℕ) (waiting : WaitingAreas)
     (ps : List FrameData) : Type 0 where
   pub fit : CanDataBeLaid ps
@@ -86,7 +86,7 @@ pub record AreAreasLaid (given : List ℕ) (waiting : WaitingAreas)
   pub free : waiting.free + data_end 0 0 ps ≤ areas_end 0 ps
   pub room : waiting.free ≤ length waiting.bytes
 
--- the main data of the first of these begin at most so many bytes before its own area
+-- the main data of the first of these frames begin at most `free` bytes before its own area
 abbrev pub BeginsWithin : ℕ → List FrameData → Type 0
 BeginsWithin free [] = Unit {0}
 BeginsWithin free (p ∷ ps) = p.begin ≤ free

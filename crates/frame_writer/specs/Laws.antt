@@ -10,7 +10,7 @@ abbrev pub LaidSteps : Type 0
 LaidSteps = (taken : List ℕ) (held : WaitingFrames) (fs : List Frame)
     → AreFramesWritten taken held fs → taken ++ held_bytes held ≡ bytes_of_frames fs
 
--- there is room for one frame more
+-- there is room for one more frame
 pub record HasFrameRoom (held : WaitingFrames) : Type 0 where
   pub few : length held.kept < 256
   pub room : length held.waiting.bytes + most_frame_length ≤ most_waiting

@@ -19,7 +19,7 @@ writing_of held unsent = record { held = held; unsent = unsent }
 abbrev pub waiting_bytes : Writing → List ℕ
 waiting_bytes w = w.unsent ++ held_bytes w.held
 
--- all bytes that wait, with those of one frame more
+-- all bytes that wait, with the bytes of one more frame
 abbrev pub bytes_with_frame : Writing → Frame → List ℕ
 bytes_with_frame w f =
     w.unsent ++ framed_bytes (w.held.kept ++ f.kept ∷ []) (areas_with_frame w.held.waiting f)
@@ -32,11 +32,11 @@ pub record IsNewQueue (class : ClassFields) (held : WaitingFrames) : Type 0 wher
   pub written : AreFramesWritten [] held []
   pub unsettled : IsNextSettled held → ⊥
 
--- a call failed that writes to the file of this name
+-- a call failed that writes to the file with this name
 abbrev pub WriteFailed : List ℕ → Counts → Counts → Type 0
 WriteFailed name before after = HappenedTo name before.write_faults after.write_faults
 
--- frames that waited were handed on
+-- frames that waited were forwarded
 pub record ForwardsFrames (old new : WaitingFrames) : Type 0 where
   pub moved : List ℕ
   pub bytes : moved ++ held_bytes new ≡ held_bytes old
@@ -44,7 +44,7 @@ pub record ForwardsFrames (old new : WaitingFrames) : Type 0 where
   pub written : (taken : List ℕ) (fs : List Frame) → AreFramesWritten taken old fs
       → AreFramesWritten (taken ++ moved) new fs
 
--- these are bytes that were there before, and after them those that were taken of these frames
+-- these are bytes that were there before, and then the bytes that were taken of these frames
 pub record AreBytesBehind (base bytes : List ℕ) (held : WaitingFrames)
     (fs : List Frame) : Type 0 where
   pub taken : List ℕ
@@ -52,12 +52,12 @@ pub record AreBytesBehind (base bytes : List ℕ) (held : WaitingFrames)
   pub written : AreFramesWritten taken held fs
 
 -- what was appended and what waits in the buffer are bytes that were
--- there before, and after them those that were taken of these frames
+-- there before, and then the bytes that were taken of these frames
 abbrev pub IsWriterOf : List ℕ → List ℕ → Writing → List Frame → Type 0
 IsWriterOf base out w fs = AreBytesBehind base (out ++ w.unsent) w.held fs
 
--- A frame was given: more was appended, and the writer is
--- then one of the frames that were given before and this one.
+-- A frame was given: more was appended, and the writer is then
+-- a writer of the frames that were given before and this one.
 pub record AcceptsFrame (name : List ℕ) (f : Frame) (old new : Writing)
     (before after : Files) : Type 0 where
   pub passed : List ℕ
@@ -65,8 +65,8 @@ pub record AcceptsFrame (name : List ℕ) (f : Frame) (old new : Writing)
   pub writer : (base out : List ℕ) (fs : List Frame) → IsWriterOf base out old fs
       → IsWriterOf base (out ++ passed) new (fs ++ f ∷ [])
 
--- A write failed: of the bytes that waited before the file and those of
--- frames that were handed on, a prefix was appended; the other frames wait.
+-- A write failed: of the bytes that waited before the file and the bytes of
+-- frames that were forwarded, a prefix was appended; the other frames wait.
 pub record ForwardsPart (name : List ℕ) (old : Writing) (held : WaitingFrames)
     (before after : Files) : Type 0 where
   pub on : ForwardsFrames old.held held
@@ -81,7 +81,7 @@ pub record WritesPart (name : List ℕ) (f : Frame) (old : Writing) (held : Wait
   pub writer : (base out : List ℕ) (fs : List Frame) → IsWriterOf base out old fs
       → AreBytesBehind base (out ++ settled) held (fs ++ f ∷ [])
 
--- frames went on into the buffer, and out of it what didn't fit
+-- frames were forwarded into the buffer, and what didn't fit was forwarded out of it
 abbrev pub ForwardsBytes : List ℕ → Writing → Writing → Files → Files → Type 0
 ForwardsBytes name old new before after =
     AppendsWaiting name (waiting_bytes old) (waiting_bytes new) before after

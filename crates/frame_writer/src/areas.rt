@@ -1,4 +1,4 @@
-//! The areas that wait, over a queue of bytes.
+//! The areas that wait, in a queue of bytes.
 ghost use Rattle.std.specs.Prelude.{◌≡◌, ℕ, ◌+◌, ◌-◌, ◌≤◌, min, List, [], ◌∷◌, ◌++◌, length, take, drop, IfOk, OnOk, OnErr};
 ghost use Rattle.outside.specs.Files.{IsFileThere};
 ghost use Rattle.outside.specs.BufferOutput.{AppendsWaiting, AppendedPrefix};
@@ -20,12 +20,12 @@ const CAPACITY: usize = 8192;
 /// The zeros between the end of one frame's main data and the start of the next one's.
 static ZEROS: [u8; CAPACITY] = [0; CAPACITY];
 
-/// The areas of frames whose main data were laid, without the bytes that were taken. Contracts see the
-/// bytes that wait, 0 where no main data are, and how many of them, at their end, are after the main data
-/// that were laid last.
+/// The areas of frames whose main data were laid, without the bytes that were taken. Contracts see
+/// the bytes that wait, 0 where there are no main data, and how many of them, at their end, are
+/// after the main data that were laid last.
 #[derive(Drop)]
 pub struct Areas {
-    // The bytes up to the end of the main data laid last. After them only zeros wait.
+    // The bytes up to the end of the main data laid last. Only zeros wait after them.
     queue: ByteQueue,
     free: u32,
 }
@@ -42,10 +42,10 @@ impl Model for Areas {
 }
 
 impl Areas {
-    /// No area waits. It takes all its memory here.
+    /// No areas. It takes all its memory here.
     ///
     /// # Errors
-    /// Where there is no memory.
+    /// If memory runs out.
     pub fn new(alloc: Global) -> Result<Areas, AllocError>
         ensures none { IfOk result (λ areas. areas ≡ record { bytes = []; free = 0 }) }
         ensures laid { IfOk result (λ areas. AreAreasLaid [] areas []) }
@@ -64,17 +64,18 @@ impl Areas {
         self.queue.len() + self.free as usize
     }
 
-    /// How many bytes at the end of what waits are after the main data that were laid last: the next main data may
-    /// begin in them.
+    /// How many bytes at the end of what waits are after the main data that were laid last: the
+    /// next main data may begin in them.
     pub fn free(&self) -> u32
         ensures { result ≡ self.now.free }
     {
         self.free
     }
 
-    /// How many of the bytes that wait no later main data can reach. These begin at most `window` bytes
-    /// before their frame's own area: 511 in MPEG-1, 255 in MPEG-2 and MPEG-2.5 (main_data_begin, ISO/IEC
-    /// 11172-3 and 13818-3, 2.4.2.7), and not before the end of the last main data.
+    /// How many of the bytes that wait no later main data can reach. Later main data begin at most
+    /// `window` bytes before their frame's own area: 511 in MPEG-1, 255 in MPEG-2 and MPEG-2.5
+    /// (main_data_begin, ISO/IEC 11172-3 and 13818-3, 2.4.2.7), and not before the end of the last
+    /// main data.
     #[inline]
     pub fn settled(&self, window: u32) -> usize
         ensures { result ≡ length self.now.bytes - min window self.now.free }
@@ -82,8 +83,9 @@ impl Areas {
         self.waiting() - self.free.min(window) as usize
     }
 
-    /// Adds the area of a frame, which has `area` bytes, and lays the frame's main data: they begin `begin`
-    /// bytes before that area, the frame's main_data_begin. All else in the area is 0.
+    /// Adds the area of a frame, which has `area` bytes, and lays the frame's main data: they begin
+    /// `begin` bytes before that area, as the frame's main_data_begin says. All other bytes of the
+    /// area are 0.
     #[inline]
     pub fn push(&mut self, begin: u32, area: u32, payload: &Payload<'_>)
         requires start { begin ≤ self.old.free }
@@ -106,7 +108,7 @@ impl Areas {
     /// Adds the first `count` bytes of what waits to what waits for the file.
     ///
     /// # Errors
-    /// Where a write failed. Then a prefix of both was appended.
+    /// If a write failed. Then a prefix of both was appended.
     #[inline]
     pub(crate) fn add_first<D: Folder>(
         &self,
@@ -126,8 +128,8 @@ impl Areas {
         add_zeros(count - stored, folder, name, unsent)
     }
 
-    /// Drops the first `count` bytes of what waits. If these are no more than are settled, all main data
-    /// that could be laid before can be laid afterwards.
+    /// Drops the first `count` bytes of what waits. If at most the settled bytes are dropped, all
+    /// main data that could be laid before can still be laid.
     #[inline]
     pub(crate) fn drop_first(&mut self, count: usize)
         requires { count ≤ length self.old.bytes }
@@ -175,7 +177,7 @@ fn push_payload(queue: &mut ByteQueue, payload: &Payload<'_>)
     }
 }
 
-/// Adds bytes to a queue, of which there are often none.
+/// Adds bytes to a queue. Often there are none.
 #[inline]
 fn push_some(queue: &mut ByteQueue, bytes: &[u8])
     requires { length queue.old + length bytes.now ≤ most_waiting }
@@ -200,7 +202,7 @@ fn push_zeros(queue: &mut ByteQueue, count: usize)
 /// Adds `count` zeros to what waits for the file.
 ///
 /// # Errors
-/// Where a write failed. Then a prefix of both was appended.
+/// If a write failed. Then a prefix of both was appended.
 #[inline]
 fn add_zeros<D: Folder>(
     count: usize,

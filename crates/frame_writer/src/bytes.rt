@@ -1,12 +1,12 @@
-//! A queue of bytes that are next to each other in memory.
+//! A queue of bytes that are contiguous in memory.
 ghost use Rattle.std.specs.Prelude.{◌≡◌, ◌+◌, ◌-◌, ◌≤◌, [], ◌++◌, length, take, drop, IfOk};
 ghost use Rattle.frame_writer.specs.Laid.{most_waiting};
 
 use std::alloc::{AllocError, Global};
 use std::marker::Model;
 
-/// The bytes of memory of a queue. They are twice as many as may wait, so that what waits is moved at most
-/// once while 8,192 bytes are pushed.
+/// The size of a queue's memory in bytes. It is twice as many as may wait, so that what waits is
+/// moved at most once while 8,192 bytes are pushed.
 const SIZE: usize = 16_384;
 
 /// A queue of at most 8,192 bytes. Contracts see it as the list of these bytes, the oldest first.
@@ -29,10 +29,10 @@ impl Model for ByteQueue {
 }
 
 impl ByteQueue {
-    /// A queue of no bytes. It takes all its memory here.
+    /// An empty queue. It takes all its memory here.
     ///
     /// # Errors
-    /// Where there is no memory.
+    /// If memory runs out.
     pub fn new(alloc: Global) -> Result<ByteQueue, AllocError>
         ensures { IfOk result (λ queue. queue ≡ []) }
     {
@@ -51,7 +51,7 @@ impl ByteQueue {
         &self.room[self.from..self.to]
     }
 
-    /// How many bytes these are, at most 8,192.
+    /// How many bytes there are, at most 8,192.
     #[inline]
     pub fn len(&self) -> usize
         ensures count { result ≡ length self.now }
@@ -93,8 +93,8 @@ impl ByteQueue {
     }
 }
 
-/// Moves the bytes between two places to the beginning of `room`, if there isn't room for `more` bytes after
-/// them, and answers where they begin then.
+/// Moves the bytes between two places to the beginning of `room`, if there isn't room for `more`
+/// bytes after them, and returns where they begin then.
 #[inline]
 fn make_room(room: &mut [u8], from: usize, to: usize, more: usize) -> usize
     requires ordered { from ≤ to }

@@ -19,8 +19,8 @@ use reservoir::Payload;
 use side_info::FrameFront;
 use std::marker::Model;
 
-/// Header and side information of a frame, and how many bytes its area has, so that this isn't computed again while it
-/// waits. Contracts see the fields of header and side information.
+/// Header and side information of a frame, and how many bytes its area has, so that this isn't
+/// computed again while it waits. Contracts see the fields of header and side information.
 #[derive(Clone, Copy)]
 pub(crate) struct SizedFront {
     front: FrameFront,
@@ -43,13 +43,14 @@ impl Model for SizedFront {
 }
 
 impl SizedFront {
-    /// Of a frame whose area has `area` bytes.
+    /// The front of a frame whose area has `area` bytes.
     #[inline(always)]
     fn new(front: &FrameFront, area: u32) -> SizedFront
         requires { area ≡ frame_area front.now }
         ensures { result ≡ front.now }
     {
-        // The class says that the header is one of the standard's, by which the area is short.
+        // The class gives the proof that the header is one of the standard's, so the area fits in
+        // 16 bits.
         let _ = front.class();
         SizedFront {
             front: *front,
@@ -68,7 +69,7 @@ impl SizedFront {
         u32::from(self.area)
     }
 
-    /// main_data_begin, where the class of the header is known.
+    /// main_data_begin, if the class of the header is known.
     #[inline(always)]
     pub fn begin_in(&self, class: Class) -> u16
         requires { class ≡ class_of self.now.header }
@@ -78,8 +79,9 @@ impl SizedFront {
         self.front.begin_in(class)
     }
 
-    /// Writes header, check word and side information into the first of at least 38 bytes, where the class of the
-    /// header is known, and answers how many bytes these are. What is after them may change.
+    /// Writes header, check word and side information into the first bytes of at least 38, if the
+    /// class of the header is known, and returns how many bytes these are. What is after them may
+    /// change.
     #[inline(always)]
     fn put_in(&self, class: Class, room: &mut [u8]) -> usize
         requires class { class ≡ class_of self.now.header }
@@ -91,7 +93,7 @@ impl SizedFront {
     }
 }
 
-/// A frame that is to be written: header and side information, how many bytes its area has, and its main data.
+/// A frame to write: header and side information, how many bytes its area has, and its main data.
 #[derive(Drop)]
 pub struct Frame<'f, 'a> {
     front: &'f FrameFront,
@@ -119,7 +121,8 @@ impl<'f, 'a> Frame<'f, 'a> {
         Frame::with_area(front, front.header().area(), payload)
     }
 
-    /// The same, where it is known how many bytes the area of the frame has.
+    /// A frame with this header and side information, and these main data, if it is known how many
+    /// bytes its area has.
     #[inline(always)]
     pub fn with_area(front: &'f FrameFront, area: u32, payload: Payload<'a>) -> Frame<'f, 'a>
         requires { area ≡ frame_area front.now }
@@ -132,7 +135,7 @@ impl<'f, 'a> Frame<'f, 'a> {
         }
     }
 
-    /// What is before its area.
+    /// The front of the frame: what is before its area.
     #[inline(always)]
     pub(crate) fn front(&self) -> SizedFront
         ensures { result ≡ self.now.kept }
@@ -141,10 +144,11 @@ impl<'f, 'a> Frame<'f, 'a> {
     }
 }
 
-/// Adds the bytes of a frame of this class, whose area is the first of those that wait, to what waits for the file.
+/// Adds the bytes of a frame of this class, whose area is the first of those that wait, to what
+/// waits for the file.
 ///
 /// # Errors
-/// Where a write failed. Then a prefix of both was appended.
+/// If a write failed. Then a prefix of both was appended.
 #[inline(always)]
 pub(crate) fn add_frame<D: Folder>(
     class: Class,

@@ -1,9 +1,9 @@
 //! Laws of frames that are written. Each function does nothing: a proof that needs its law calls it.
 ghost use Rattle.frame_writer.specs.Laws.{LaidSteps, FewFramesWait};
 
-/// What was taken of the frames that were given, and then what waits, are the bytes of all of them: each
-/// one's header, check word and side information, and then its area, with all main data laid into the
-/// areas.
+/// What was taken of the frames that were given, and then what waits, are the bytes of all of them:
+/// each frame's header, check word and side information, and then its area, with all main data laid
+/// into the areas.
 pub fn laid_steps()
     ensures { LaidSteps }
 {}

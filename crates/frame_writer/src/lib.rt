@@ -1,7 +1,7 @@
-//! Lays main data into the areas of frames, and writes the frames to a file: each frame's main data go
-//! where its main_data_begin says, into its own area and those before it. Memory is taken by the `new`
-//! functions alone. `Writer` writes to the file; `FrameQueue`, over which it is, hands frames on to a buffer
-//! before the file, in which they may be between other bytes.
+//! Lays main data into the areas of frames, and writes the frames to a file: each frame's main data
+//! go where its main_data_begin says, into its own area and the areas before it. Only the `new`
+//! functions take memory. `Writer` writes to the file. It is built on `FrameQueue`, which forwards
+//! frames to a buffer before the file, where they may be between other bytes.
 //!
 //! ```text
 //! let mut writer = Writer::new(alloc, header.class())?;

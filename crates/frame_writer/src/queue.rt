@@ -20,9 +20,10 @@ use std::marker::Model;
 /// How many frames may wait.
 const MOST: usize = 256;
 
-/// Frames of one class on their way to a file: those whose main data were laid, and whose areas later main
-/// data may reach. Contracts see the class, the frames that wait and what waits of their areas. The frames
-/// go through a buffer before the file, which is the caller's: what waits in it comes before them.
+/// Frames of one class on their way to a file: those whose main data were laid, and whose areas
+/// later main data may reach. Contracts see the class, the frames that wait, and what waits of
+/// their areas. The frames go through a buffer before the file, which is the caller's: what waits
+/// in it comes before them.
 #[derive(Drop)]
 pub struct FrameQueue {
     class: Class,
@@ -46,7 +47,7 @@ impl FrameQueue {
     /// No frames of this class. It takes all its memory here.
     ///
     /// # Errors
-    /// Where there is no memory.
+    /// If memory runs out.
     pub fn new(alloc: Global, class: Class) -> Result<FrameQueue, AllocError>
         ensures { IfOk result (IsNewQueue class) }
     {
@@ -57,7 +58,7 @@ impl FrameQueue {
         })
     }
 
-    /// Begins again, with frames of this class. What waits is forgotten.
+    /// Starts again, with frames of this class. What waits is forgotten.
     pub fn restart(&mut self, class: Class)
         ensures { IsNewQueue class self.new }
     {
@@ -73,7 +74,7 @@ impl FrameQueue {
         self.class
     }
 
-    /// Whether it takes a frame. It does, except after a write that failed, where it may not.
+    /// Whether it takes a frame. It does, except that it may not after a write that failed.
     pub fn is_ready(&self) -> bool
         ensures { IsTrue result ↔ (IsNextSettled self.now → ⊥) }
     {
@@ -95,10 +96,10 @@ impl FrameQueue {
         self.kept.len()
     }
 
-    /// Adds a frame, lays its main data, and hands on what no later main data can reach.
+    /// Adds a frame, lays its main data, and forwards what no later main data can reach.
     ///
     /// # Errors
-    /// Where a write failed. Then of the bytes that waited, and of the frame after them, a prefix was
+    /// If a write failed. Then of the bytes that waited, and of the frame after them, a prefix was
     /// appended that no later main data can reach.
     #[inline]
     pub fn frame<D: Folder>(
@@ -122,10 +123,10 @@ impl FrameQueue {
         self.hand_on(folder, name, unsent)
     }
 
-    /// Hands on all that waits, to the buffer before the file.
+    /// Forwards all that waits to the buffer before the file.
     ///
     /// # Errors
-    /// Where a write failed. Then a prefix of what waited was appended.
+    /// If a write failed. Then a prefix of what waited was appended.
     pub fn finish<D: Folder>(
         &mut self,
         folder: &mut D,
@@ -142,7 +143,7 @@ impl FrameQueue {
         Ok(())
     }
 
-    /// Hands on frames for as long as the first is settled.
+    /// Forwards frames as long as the first is settled.
     #[inline]
     fn hand_on<D: Folder>(
         &mut self,
@@ -160,9 +161,10 @@ impl FrameQueue {
         Ok(())
     }
 
-    /// Adds a frame, and lays its main data into the areas that wait and its own: they begin main_data_begin bytes
-    /// before its own area (ISO/IEC 11172-3 and 13818-3, 2.4.2.7). There is always room for it where the first frame
-    /// that waits isn't settled: at most 255 frames wait then (`few_frames_wait`).
+    /// Adds a frame, and lays its main data into the areas that wait and its own: they begin
+    /// main_data_begin bytes before its own area (ISO/IEC 11172-3 and 13818-3, 2.4.2.7). There is
+    /// always room for it if the first frame that waits isn't settled: at most 255 frames wait then
+    /// (`few_frames_wait`).
     #[inline]
     fn push(&mut self, frame: &Frame<'_, '_>)
         requires class { class_of frame.now.kept.header ≡ self.old.class }
@@ -185,12 +187,12 @@ impl FrameQueue {
         self.areas.push(u32::from(begin), area, &frame.payload);
     }
 
-    /// Takes the first frame that waits, and adds its bytes to what waits for the file: its header, its check word where
-    /// it is protected, its side information and its area. Where it was settled, main data can begin afterwards wherever
-    /// they could before.
+    /// Takes the first frame that waits, and adds its bytes to what waits for the file: its header,
+    /// its check word if it is protected, its side information and its area. If it was settled,
+    /// main data can begin afterwards wherever they could before.
     ///
     /// # Errors
-    /// Where a write failed. Then a prefix was appended of what waited and the frame.
+    /// If a write failed. Then a prefix of what waited and of the frame was appended.
     #[inline(always)]
     fn take_first<D: Folder>(
         &mut self,
@@ -211,9 +213,9 @@ impl FrameQueue {
         added
     }
 
-    /// Whether a frame waits whose area no later main data can reach. These begin at most 511 bytes before
-    /// their frame's own area in MPEG-1, 255 in MPEG-2 and MPEG-2.5, and not before the end of the last
-    /// main data.
+    /// Whether a frame waits whose area no later main data can reach. Later main data begin at most
+    /// 511 bytes before their frame's own area in MPEG-1, 255 in MPEG-2 and MPEG-2.5, and not
+    /// before the end of the last main data.
     #[inline]
     fn is_next_settled(&self) -> bool
         ensures { IsTrue result ↔ IsNextSettled self.now }

@@ -19,7 +19,7 @@ use side_info::{FrameFront, Side};
 use std::alloc::{AllocError, Global};
 use std::marker::Model;
 
-/// How far a writer is.
+/// The state of a writer.
 #[derive(Clone, Copy, Debug, PartialEq, Eq)]
 pub enum State {
     /// It takes frames.
@@ -30,13 +30,13 @@ pub enum State {
     Finished,
 }
 
-/// Frames of one class, written to one file of a folder: each frame once no later main data can reach its
-/// area. Contracts see the frames that wait, with what waits of their areas, and how far the writer is. At
-/// most 256 frames wait, and at most 8,192 bytes of their areas.
+/// Frames of one class, written to one file of a folder: each frame once no later main data can
+/// reach its area. Contracts see the frames that wait, with what waits of their areas, and the
+/// writer's state. At most 256 frames wait, and at most 8,192 bytes of their areas.
 #[derive(Drop)]
 pub struct Writer {
     queue: FrameQueue,
-    // Between two calls nothing waits in it.
+    // Nothing waits in it between two calls.
     unsent: WriteBuffer,
     state: State,
 }
@@ -54,10 +54,10 @@ impl Model for Writer {
 impl Writer {
     ghost use Rattle.frame_writer.specs.declared.writer.State.{State};
 
-    /// A writer of frames of this class, to which none was given yet. It takes all its memory here.
+    /// A writer of frames of this class, which has no frame yet. It takes all its memory here.
     ///
     /// # Errors
-    /// Where there is no memory.
+    /// If memory runs out.
     pub fn new(alloc: Global, class: Class) -> Result<Writer, AllocError>
         ensures new { IfOk result (λ writer. IsNewQueue class writer.held) }
         ensures ready { IfOk result (λ writer. writer.state ≡ State.Open) }
@@ -76,7 +76,7 @@ impl Writer {
         self.queue.class()
     }
 
-    /// How far it is.
+    /// The state of the writer.
     pub fn state(&self) -> State
         ensures { result ≡ self.now.state }
     {
@@ -103,7 +103,7 @@ impl Writer {
     /// it, and appends to the file what no later main data can reach.
     ///
     /// # Errors
-    /// Where a write failed. Then of the bytes that waited, and of the frame after them, a prefix was
+    /// If a write failed. Then of the bytes that waited, and of the frame after them, a prefix was
     /// appended that no later main data can reach, and the writer has failed.
     pub fn frame<D: Folder>(
         &mut self,
@@ -132,10 +132,10 @@ impl Writer {
         Ok(())
     }
 
-    /// Appends to the file all that waits.
+    /// Appends all that waits to the file.
     ///
     /// # Errors
-    /// Where a write failed. Then a prefix of what waited was appended, and the writer has failed.
+    /// If a write failed. Then a prefix of what waited was appended, and the writer has failed.
     pub fn finish<D: Folder>(&mut self, folder: &mut D, name: &str) -> Result<(), Failed>
         requires there { IsFileThere (D.seen folder.old).files name.now }
         requires ready { self.old.state ≡ State.Open }

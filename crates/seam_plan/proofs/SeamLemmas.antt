@@ -1,4 +1,4 @@
--- What becomes of an input, by what its code asks of the run.
+-- What becomes of an input, by the queries that decide it.
 use Rattle.std.proofs.Common.{ap, ap₂, arith, Bool, drop, false, length, List, None, Option, refl}
 use Rattle.std.proofs.Common.{Some, subst, sym, true, ℕ, [], ◌-◌, ◌<◌, ◌∙◌, ◌∷◌, ◌≡◌}
 use Rattle.std.proofs.lemmas.Bool.{and_from, and_left, and_right, not_from_false, not_from_true}

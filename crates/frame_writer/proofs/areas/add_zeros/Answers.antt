@@ -1,4 +1,4 @@
--- Of no zeros nothing goes on.
+-- If there are no zeros, nothing is forwarded.
 use Rattle.std.proofs.Common.{ap, append-nil, List, rules, subst, sym, ℕ, ◌++◌, ◌∙◌}
 use Rattle.frame_writer.specs.Laid.{zeros}
 use Rattle.outside.{proofs.BufferOutputLemmas.passed_nothing, specs.BufferOutput.AppendsWaiting}

@@ -23,7 +23,7 @@ returns-in_err-push_first g c = record {
 pub add_first-requires-clause-there : goal.add_first-requires-clause-there
 add_first-requires-clause-there g c = passed_there c.in_ok-push_first.ensures.passed
 
--- that and the area are the bytes of the frame
+-- what is before the area, and the area, are the bytes of the frame
 both_are : (g : given.Over) (c : In_ok-push_first g) (n : ℕ) → n ≡ frame_area c.args.first.now
     → take c.put_in-size.result c.put_in-size.new.room ++ take n c.args.areas.now.bytes
     ≡ frame_front_bytes c.args.first.now.header c.args.first.now.side

@@ -1,4 +1,4 @@
--- The least area of each version, as often as the window spans it.
+-- As many of the least areas of each version as a window spans.
 use Rattle.frame_writer.proofs.FrameLemmas.{few-wait}
 use Rattle.frame_writer.proofs.laws.few_frames_wait.Goals as goal
 

@@ -1,4 +1,4 @@
--- What is stored of them, and zeros where it ends.
+-- What is stored of the first bytes, and zeros where it ends.
 use Rattle.std.proofs.Common.{ap, List, rules, take, ℕ, ◌++◌, ◌-◌, ◌∙◌, ◌≡◌}
 use Rattle.frame_writer.proofs.LaidLemmas.{first-parts}
 use Rattle.frame_writer.proofs.WritingLemmas.{err-map, ok-map, passed-two, prefix-piece, prefix-two}

@@ -1,4 +1,4 @@
--- The area is short.
+-- The area fits in 16 bits.
 use Rattle.std.proofs.Common.{arith}
 use Rattle.frame_writer.proofs.FrameLemmas.{area-range}
 use Rattle.frame_writer.proofs.frames.SizedFront.new.Goals as goal

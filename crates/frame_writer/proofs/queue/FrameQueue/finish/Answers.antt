@@ -1,4 +1,4 @@
--- One frame after another.
+-- The frames in order.
 use Rattle.std.proofs.Common.{arith, length, List, refl, rules, subst, ℕ, ◌∙◌, ◌≡◌}
 use Rattle.std.proofs.lemmas.Grind.{common_steps}
 use Rattle.frame_writer.{proofs.WritingLemmas.none-left, specs.Writing.{waiting_bytes, writing_of}}

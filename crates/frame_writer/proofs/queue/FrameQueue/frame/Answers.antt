@@ -1,5 +1,5 @@
 use Rattle.std.proofs.Common.{rules}
--- The frame waits, and then what is settled is handed on.
+-- The frame waits, and then what is settled is forwarded.
 use Rattle.frame_writer.proofs.WritingLemmas.{err-map, ok-both, writes-on, writes-part}
 use Rattle.frame_writer.specs.Writing.{writing_of}
 use Rattle.frame_writer.proofs.queue.FrameQueue.frame.Goals as goal

@@ -1,4 +1,4 @@
--- One frame after another.
+-- The frames in order.
 use Rattle.std.proofs.Common.{refl, rules, ◌∙◌}
 use Rattle.frame_writer.proofs.WritingLemmas.{handed-none, handed-then, part-then}
 use Rattle.frame_writer.specs.Writing.{waiting_bytes, writing_of}

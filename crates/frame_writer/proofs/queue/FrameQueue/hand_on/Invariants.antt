@@ -1,4 +1,4 @@
--- What waited when the call began was passed on, or waits.
+-- What waited when the call began was forwarded, or waits.
 use Rattle.std.proofs.Common.{length, ◌≡◌}
 use Rattle.frame_writer.specs.{Frames.reach_of, Writing.{ForwardsBytes, ForwardsFrames, writing_of}}
 use Rattle.outside.specs.Files.{IsFileThere}

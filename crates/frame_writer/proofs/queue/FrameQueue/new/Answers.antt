@@ -1,4 +1,4 @@
--- Of no frames nothing was taken.
+-- If there are no frames, nothing was taken.
 use Rattle.std.proofs.Common.{ap, List, subst, sym, []}
 use Rattle.circular_buffer.specs.Buffer.{Buffer}
 use Rattle.frame_writer.{proofs.FrameLemmas.none-new, specs.Laid.{AreAreasLaid, WaitingAreas}}

@@ -1,4 +1,4 @@
--- There is room, and what is pushed keeps what the queues hold together.
+-- There is room, and pushing keeps what the queues hold together.
 use Rattle.std.proofs.Common.{ap, arith, length, length-append, List, OnOk, subst, sym, [], ◌++◌}
 use Rattle.std.proofs.Common.{◌+◌, ◌∙◌, ◌∷◌, ◌≡◌}
 use Rattle.circular_buffer.specs.Buffer.{buffer}

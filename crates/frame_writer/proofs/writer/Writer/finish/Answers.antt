@@ -7,7 +7,7 @@ use Rattle.outside.{proofs.BufferOutputLemmas.passed_there, specs.BufferOutput.A
 use Rattle.outside.specs.Files.{with_appended_bytes}
 use Rattle.frame_writer.proofs.writer.Writer.finish.Goals as goal
 
--- all that waits of an open writer are the frames
+-- all that waits in an open writer is the frames' bytes
 all : (held : WaitingFrames) (unsent : List ℕ) (state : State) (now : Writer)
     → IsWriterSettled state held unsent →
     record { held = held; state = state } ≡ now → now.state ≡ State.Open
