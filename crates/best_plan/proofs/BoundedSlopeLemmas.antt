@@ -10,7 +10,7 @@ use Rattle.best_plan.specs.Rows.{AppendsRow, area_sum, AreSums, HasSlopeAtMostOn
 use Rattle.best_plan.specs.Rows.{IsEndAt, IsSum, nothing}
 use Rattle.slot_plan.{proofs.AreaLemmas.Ascend, specs.Reserve.free_bytes_behind}
 
--- `more` more free bytes save at most that many
+-- `more` further free bytes save at most `more` bytes of areas
 near-more : (sums : List ℕ) (least free more : ℕ) → HasSlopeAtMostOne sums least → least ≤ free
     → free + more < length sums → get_or sums free 0 ≤ get_or sums (free + more) 0 + more
 near-more sums least free zero near from within =
@@ -55,7 +55,7 @@ module _ (window free bytes least place cost at : ℕ) (areas later : List ℕ)
     abbrev left : ℕ
     left = free_bytes_behind window free bytes (get_or areas place 0)
 
-    -- a later area saves at most what it has more
+    -- a later area saves at most as many bytes as it is larger
     from-place : (k : ℕ) → place ≤ k → k < length areas
         → cost ≤ area_sum window free bytes later (get_or areas k 0)
     from-place k from less =
@@ -100,7 +100,7 @@ module _ (window free bytes least place cost at : ℕ) (areas later : List ℕ)
     near-at here =
         subst (λ n. IsAreaChoice window free bytes areas later cost n) (sym here) near-choice
 
--- the place is that of the first area that leaves enough, or there is none
+-- `place` is where the first area is that leaves enough, if there is one
 module _ (window free bytes least wanted place cost at : ℕ) (areas later : List ℕ) where
   -- the first area that leaves enough has the least sum
   pub near-one : window ≤ 511 → free ≤ window → length later ≡ window + 1

@@ -5,7 +5,7 @@ use Rattle.std.proofs.lemmas.{Bool.cases_lt, List.{get_or_append_left, get_or_pu
 use Rattle.best_plan.specs.Rows.{area_sum, IsAreaChoice, nothing}
 use Rattle.slot_plan.proofs.AreaLemmas.{Ascend}
 
--- this one of the first areas has the least sum
+-- of the first `to` areas the one at `place` has the least sum
 pub record IsChoiceTo (window free bytes : ℕ) (areas later : List ℕ)
     (to cost place : ℕ) : Type 0 where
   pub least : (k : ℕ) → k < to → bytes ≤ free + get_or areas k 0

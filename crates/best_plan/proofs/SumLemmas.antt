@@ -46,7 +46,7 @@ pub record IsLeastSum (window free : ℕ) (opens : List OpenFrame) (cost : ℕ) 
   pub some : cost < nothing → (areas : List ℕ) × AreChosenAreas opens areas
       × AllFit window free (frames_with_areas opens areas) × (sum areas ≡ cost)
 
--- no frames add up to 0
+-- the least sum for no frames is 0
 pub no-sum : (window free : ℕ) → IsLeastSum window free [] 0
 unfolding AreChosenAreas AllFit frames_with_areas
 no-sum window free = record {

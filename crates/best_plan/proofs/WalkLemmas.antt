@@ -17,7 +17,7 @@ use Rattle.slot_plan.specs.{Reserve.free_bytes_behind, declared.needs.{Need.Need
 
 -- ---- filling
 
--- after the last frame the table is that of no frames
+-- after the last frame the table is the one for no frames
 pub table-none : (window : ℕ) (choices : HeaderFields → List SlotFields) (needs : List Need)
     (sums places : List ℕ) → IsTableEnd window sums [] → places ≡ []
     → IsTable window choices (drop (length needs) needs) sums places
@@ -65,7 +65,7 @@ pub record IsWalked (window free : ℕ) (items : List PlanItem) (placed : List P
   pub begins : map (λ p. p.begin) placed
       ≡ frees_of window free (frames_with_areas (map open_frame items) (item_areas items placed))
 
--- no frames have no places
+-- an empty list of frames was walked
 pub walked-none : (window free : ℕ) → IsWalked window free [] []
 unfolding AreItemSlots item_areas frames_with_areas frees_of
 walked-none window free = record { slots = tt; list = first-none window free; begins = refl }
@@ -234,7 +234,7 @@ goes-more window choices free now after needs i need p places old new within is 
           (p ∷ placed)) (sym (next_need needs i need within is)) here));
     }
 
--- after the last frame the placed frames are those of the walk
+-- after the last frame all frames were placed by the walk
 pub goes-all : (window : ℕ) (choices : HeaderFields → List SlotFields) (free after : ℕ)
     (needs : List Need) (i : ℕ) (old new : List Placed) → free ≤ window → length needs ≤ i
     → GoesOn window choices free after needs (drop i needs) old new

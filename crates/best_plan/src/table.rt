@@ -1,4 +1,5 @@
-//! The least sums, and the places of the areas that have them, from the last frame back to the first.
+//! The least sums, and the places of the areas that have them, from the last frame back to the
+//! first.
 ghost use Rattle.std.specs.Prelude.{◌≡◌, ◌≤◌, [], length, IfOk};
 ghost use Rattle.frame_header.specs.Tables.{class_of};
 ghost use Rattle.slot_plan.specs.Parts.{AreNeedsOfClass};

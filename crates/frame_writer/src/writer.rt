@@ -83,8 +83,8 @@ impl Writer {
         self.state
     }
 
-    /// How many bytes before its own area the main data of the next frame may begin: at most 511 in MPEG-1,
-    /// 255 in MPEG-2 and MPEG-2.5 (main_data_begin, ISO/IEC 11172-3 and 13818-3, 2.4.2.7).
+    /// How many bytes before its own area the main data of the next frame may begin: at most 511 in
+    /// MPEG-1, 255 in MPEG-2 and MPEG-2.5 (main_data_begin, ISO/IEC 11172-3 and 13818-3, 2.4.2.7).
     pub fn reach(&self) -> u32
         ensures { result ≡ reach_of self.now.held }
     {
@@ -99,8 +99,8 @@ impl Writer {
         self.queue.count()
     }
 
-    /// Adds a frame with these main data, which begin main_data_begin bytes before its own area and end in
-    /// it, and appends to the file what no later main data can reach.
+    /// Adds a frame with these main data, which begin main_data_begin bytes before its own area and
+    /// end in it, and appends to the file what no later main data can reach.
     ///
     /// # Errors
     /// If a write failed. Then of the bytes that waited, and of the frame after them, a prefix was

@@ -232,7 +232,7 @@ module _ (class : ClassFields) (run : List RunFrame) (before input : Brought) wh
       by_test true = by_joined (joining_frames (window_of class.version) run (drop 1 input.frames))
       by_test false = tt
 
-  -- an input that follows joins as the following input
+  -- what becomes of an input that follows is the joint with which it can follow
   joint-follows : (out : ℕ) → (joint_of class run before input).seam ≡ Follows out
       → following_joint class run before input ≡ Some (joint_of class run before input)
   joint-follows out is =

@@ -131,7 +131,7 @@ joining-none window left seam run first frames is known none =
 
 -- ---- what `joins` returns
 
--- no frames join any run, without a slot
+-- an empty list of frames joins any run, without a slot
 pub joining-empty : (window : ℕ) (seam : Seam) (run rest : List RunFrame) (needs : List Need)
     → needs ≡ needs_of rest → length needs ≡ 0 → IsJointOfFrames seam
     (joining_frames window run rest) (Some (record { seam = seam; slot = None }))

@@ -64,7 +64,7 @@ lead-in-is window first needs header known is =
     ap (option_map (λ slot. record first.header { protected = false; slot = slot })) found
     ∙ ap Some (sym is.1)
 
--- the first frame leads the others exactly if its header is that of their lead-in
+-- the first frame leads the others exactly if it has the header of their lead-in
 pub leads-is : (window : ℕ) (needs : List Need) (first : Need) (header : HeaderFields)
     → first ≡ slice_index_or needs 0 first → 2 ≤ length needs → IsHeader header
     → IsLeadInHeader window (drop 1 needs) header

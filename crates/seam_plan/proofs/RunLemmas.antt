@@ -43,7 +43,7 @@ pub all-window : (class : ClassFields) (input : Input) → IsJoinableInput class
 all-window class input can =
     record { class = class; same = can.same; fits = fits-window class input can }
 
--- all frames of an input fit after the window of the class, too
+-- all frames of an input fit after as many bytes as the window of the class
 pub all-free : (class : ClassFields) (input : Input) → IsJoinableInput class input
     → FitBehindFree (window_of class.version) input.needs.now
 all-free class input can = record {

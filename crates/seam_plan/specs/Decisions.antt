@@ -67,7 +67,7 @@ pub record CanFollow (input : Input) (overlap : Overlap) : Type 0 where
   pub within : overlap.frames ≤ length input.needs.now
   pub few : overlap.frames ≤ overlap.first_alike + 7
 
--- the overlap, if those of its frames that must be alike are
+-- the overlap, if its frames that must be alike are
 abbrev pub overlap_if_alike : List RunFrame → Brought → Overlap → Option Overlap
 overlap_if_alike run brought overlap =
     if ends_alike run (compared_frames overlap brought) then Some overlap else None

@@ -68,7 +68,7 @@ join_slot window run first needs =
 abbrev pub frame_in_slot : SlotFields → RunFrame → RunFrame
 frame_in_slot slot f = record f { need = need_in_slot slot f.need }
 
--- The frames as they join a run, the first in its slot, if they can. No frames always can.
+-- The frames as they join a run, the first in its slot, if they can. An empty list always can.
 unfoldable pub joining_frames : ℕ → List RunFrame → List RunFrame → Option (List RunFrame)
 joining_frames window run [] = Some []
 joining_frames window run (first ∷ frames) =

@@ -149,7 +149,7 @@ own-wanted window free needs fits =
           (chosen-own needs);
     }
 
--- no frames want nothing
+-- an empty list of frames fits after any number of bytes
 pub nothing-fits : (window free : ℕ) → FitsBehind window free []
 unfolding HasLayout IsDataLayout
 nothing-fits window free = ([], tt)
@@ -176,7 +176,8 @@ left-within window free [] within = within
 left-within window free (frame ∷ frames) within =
     left-within window (free_bytes_behind window free frame.bytes frame.area) frames (omega arith)
 
--- what is free after frames and then others is what is free after the others, from the first on
+-- what is free after frames and then others is what is free after
+-- the others, beginning with what is free after the first
 pub left-append : (window free : ℕ) (xs ys : List FrameLengths)
     → left_after window free (xs ++ ys) ≡ left_after window (left_after window free xs) ys
 unfolding left_after
@@ -305,7 +306,7 @@ module _ (window free mid : ℕ) (first others : List Need) (within : free ≤ w
       (subst (AllFit window free) (sym (map-append own_frame first others))
       (append-fit window free (map own_frame first) (map own_frame others) before behind))
 
-  -- what is free after all is what is free after the others, from the first on
+  -- what is free after all is what is free after the others, beginning with what the first leave
   left-both : left_after window free (map own_frame (first ++ others))
       ≡ left_after window mid (map own_frame others)
   left-both =
@@ -340,7 +341,8 @@ fits-drop window free k needs fits =
     within-fit window window (map own_frame (drop k needs)) (omega arith) (subst (AllFit window
     window) (drop-map own_frame k needs) (fit-after window free k (map own_frame needs) fits))
 
--- frames that fit in the window of one class that they have fit in the window of another
+-- frames that are of two classes fit with the window of
+-- the second if they fit with the window of the first
 pub fits-in : (c d : ClassFields) (needs : List Need) (free : ℕ → ℕ) → AreNeedsOfClass c needs
     → AreNeedsOfClass d needs → FitsBehind (window_of c.version) (free (window_of c.version)) needs
     → FitsBehind (window_of d.version) (free (window_of d.version)) needs

@@ -117,7 +117,7 @@ module _ (window free wanted area : ℕ) (first : Need) (needs : List Need) (wit
       (Contains-area class first.header.protected all_slots slot joins.chosen) in
       omega (arith, less, most_area, joins-area slot joins)
 
--- ---- what the calls ask for
+-- ---- what the calls require
 
 -- the areas of all slots ascend
 pub rising-all : (class : ClassFields) (protected : Bool) (slots : List SlotFields)
@@ -156,7 +156,7 @@ greatest-in c d p q xs ys same_class same_protected same_slots =
     ∙ ap (λ k. greatest_number (slot_areas d k xs)) same_protected
     ∙ ap (λ k. greatest_number (slot_areas d q k)) same_slots
 
--- the frames but the first, as a slice
+-- all frames but the first, as a slice
 abbrev pub others_of : List Need → List Need
 others_of needs = take (length needs - 1) (drop 1 needs)
 
@@ -216,7 +216,7 @@ first-of class free wanted first needs can same is gives =
     }
 
 module _ (window free wanted area : ℕ) (first : Need) (needs : List Need) where
-  -- in its own area and two windows the first frame has room together with what the others want
+  -- the first frame and what the others want have room in its own area and two windows
   pub first-room : FirstOf window free wanted first needs → area ≡ own_slot_area first
       → first.bytes + wanted ≤ 2 * window + area
   first-room of own =

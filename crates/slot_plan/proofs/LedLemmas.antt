@@ -1,4 +1,4 @@
--- A part that needs a lead-in has the plan that it has with one in any case.
+-- The plan of a part that needs a lead-in is its led plan.
 use Rattle.std.proofs.Common.{arith, Contains, false, List, map, None, Option, refl, Some, subst}
 use Rattle.std.proofs.{Common.{zero, ℕ, [], ◌∷◌}, lemmas.List.append-nil}
 use Rattle.frame_header.specs.{Fields.{ClassFields, HeaderFields, SlotFields}, Slots.all_slots}

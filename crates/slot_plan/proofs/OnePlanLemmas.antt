@@ -55,7 +55,7 @@ placed_same p q lead slot begin =
     ∙ ap (λ s. record { lead_in = q.lead_in; slot = s; begin = p.begin }) slot
     ∙ ap (λ n. record { lead_in = q.lead_in; slot = q.slot; begin = n }) begin
 
--- places with the same areas and main_data_begin are the same
+-- placed frames with the same areas and main_data_begin are the same
 pub one_placed : (items : List PlanItem) (a b : List Placed) → AreOrdered items
     → AreItemSlots items a → AreItemSlots items b → item_areas items a ≡ item_areas items b
     → map (λ p. p.begin) a ≡ map (λ p. p.begin) b → a ≡ b

@@ -68,7 +68,7 @@ needed-first window before choices area part feasible chosen =
     (omega arith) chosen (subst (AllFit window free) (sym (frames-by choices area part)) fit)).0 in
     omega (arith, enough)
 
--- ---- one frame more
+-- ---- one more frame
 -- one more frame at the front adds what is needed after it
 pub behind-cons : (choices : HeaderFields → List SlotFields) (need : Need) (part : List Need)
     → reserves_behind (open_frames choices (need ∷ part))
@@ -101,25 +101,25 @@ pub chosen-cons : (choices : HeaderFields → List SlotFields) (area : HeaderFie
 unfolding AreChosenAreas
 chosen-cons choices area need part here behind = (here, behind)
 
--- no frames need nothing after any
+-- an empty part needs nothing after any frame
 pub nothing_behind : (choices : HeaderFields → List SlotFields)
     → reserves_behind (open_frames choices []) ≡ []
 unfolding reserves_behind
 nothing_behind choices = refl
 
--- no frames need nothing
+-- an empty part needs nothing
 pub nothing_needed : (choices : HeaderFields → List SlotFields)
     → reserve_before (open_frames choices []) ≡ 0
 unfolding reserve_before
 nothing_needed choices = refl
 
--- no frames need at most a window
+-- an empty part needs at most a window
 pub nothing_within : (window : ℕ) (choices : HeaderFields → List SlotFields)
     → AreReservesInWindow window (open_frames choices [])
 unfolding AreReservesInWindow
 nothing_within window choices = tt
 
--- no areas are a choice of no frames
+-- the empty list is a choice of areas for an empty part
 pub nothing_chosen : (choices : HeaderFields → List SlotFields) (area : HeaderFields → ℕ)
     → AreChosenAreas (open_frames choices []) (map (area_by_header area) [])
 unfolding AreChosenAreas

@@ -131,7 +131,7 @@ lead_in-can window choices part None is = is
 lead_in-can window choices [] (Some slot) is = absurd is
 lead_in-can window choices (first ∷ part) (Some slot) is = is.1
 
--- no frames have a layout
+-- an empty list of frames has a layout
 pub nothing-can : (window : ℕ) → CanBeLaid window []
 unfolding CanBeLaid AreChosenAreas frames_with_areas HasLayout IsDataLayout
 nothing-can window = ([], tt, ([], tt))

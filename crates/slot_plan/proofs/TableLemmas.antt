@@ -159,7 +159,7 @@ not_longer c slots i j before within rise =
           omega (arith, ap (long c slots) same)
     ]
 
--- the slot at a place where the list contains it is that slot
+-- where the list contains a slot, it has a frame of that slot's length
 found-at : (c : ClassFields) (slots : List SlotFields) (slot : SlotFields)
     (has : Contains slots slot) → long c slots has.0 ≡ length_of c slot
 found-at c slots slot has =
@@ -206,7 +206,7 @@ table-all slots to table some all rise whole =
           };
     }
 
--- the shortest frame with `wanted` bytes after what is before its area has the least area
+-- the shortest frame whose area has at least `wanted` bytes has the least such area
 pub least-looked : (table : SlotTable) (slots : List SlotFields) (p : Bool) (wanted : ℕ)
     (slot : SlotFields) → IsSlotTable slots table
     → IsShortestSlot table.lengths slots (wanted + overhead_of table.lengths p) slot
@@ -257,7 +257,7 @@ last-looked table slots p is =
       longest.enough,
     )
 
--- the length of a frame whose area is at most the largest is in the table
+-- the table has an entry for the length of a frame whose area is at most the largest
 pub table-within : (table : SlotTable) (slots : List SlotFields) (p : Bool) (wanted : ℕ)
     → IsSlotTable slots table → wanted ≤ greatest_number (slot_areas table.lengths p slots)
     → wanted + overhead_of table.lengths p < length table.by_length.items

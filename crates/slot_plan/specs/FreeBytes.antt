@@ -10,7 +10,7 @@ use Rattle.slot_plan.specs.Parts.{AreNeedsOfClass, own_frame, own_slot_area}
 use Rattle.slot_plan.specs.declared.needs.Need.{Need}
 
 -- frames, each in its own slot, have a layout after `free`
--- bytes of areas that hold nothing; no frames always have one
+-- bytes of areas that hold nothing; an empty list always has one
 abbrev pub FitsBehind : ℕ → ℕ → List Need → Type 0
 FitsBehind window free needs = HasLayout window free (map own_frame needs)
 

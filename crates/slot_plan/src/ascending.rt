@@ -1,4 +1,5 @@
-//! Slots of one class whose areas ascend: the largest area, and the smallest slot that is large enough.
+//! Slots of one class whose areas ascend: the largest area, and the smallest slot that is large
+//! enough.
 ghost use Rattle.std.specs.Prelude.{◌≡◌, ◌≤◌};
 ghost use Rattle.slot_plan.specs.Parts.{slot_areas, AreRisingSlots};
 ghost use Rattle.slot_plan.specs.Reserve.{greatest_number, IsLeastSlot};

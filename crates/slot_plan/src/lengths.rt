@@ -6,7 +6,8 @@ ghost use Rattle.frame_header.specs.Limits.{most_frame_length, most_front};
 use frame_header::{Class, Slot};
 use std::marker::Model;
 
-/// The lengths of a class's frames, and how many bytes are before their areas. Contracts see it as the class.
+/// The lengths of a class's frames, and how many bytes are before their areas. Contracts see it as
+/// the class.
 #[derive(Drop)]
 pub struct Lengths {
     class: Class,

@@ -11,8 +11,8 @@ pub struct Need {
     pub bytes: u32,
 }
 
-/// A frame of a plan: whether it is a lead-in, its slot, and its main_data_begin in bytes (ISO/IEC 11172-3,
-/// 2.4.2.7).
+/// A frame of a plan: whether it is a lead-in, its slot, and its main_data_begin in bytes (ISO/IEC
+/// 11172-3, 2.4.2.7).
 #[derive(Clone, Copy, Debug, PartialEq, Eq)]
 pub struct Placed {
     pub lead_in: bool,
