@@ -39,8 +39,7 @@ abbrev pub brought_rest : ClassFields → Brought → Option ℕ
 brought_rest class brought =
     option_map (λ p. rest_of class (length brought.frames) p) brought.played
 
--- The run has these frames, which are at these places; the last
--- of them are what this input brings, or inputs before it.
+-- The run has these frames, which are at these places; the last input so far is `before`.
 pub record IsRun (class : ClassFields) (frames : List RunFrame) (places : List FramePlace)
     (before : Brought) (run : Run) : Type 0 where
   pub of_class : run.class ≡ class

@@ -184,7 +184,8 @@ impl Run {
         })
     }
 
-    /// The next input follows the one before it, if the frames that must be alike are.
+    /// The joint with which the next input follows the one before it, if the frames that must be
+    /// alike are and the frames after the shared ones can join the run.
     fn following(&self, input: &Input<'_>, alike: Option<Overlap>) -> Option<Joint>
         requires input { IsJoinableInput self.now.class input.now }
         requires within { IsRunInWindow self.now }
@@ -202,7 +203,8 @@ impl Run {
         self.joining(Seam::Follows(overlap.frames), needs)
     }
 
-    /// The lead-in of the next input is left out, if it has one that the frames after it want.
+    /// The joint of the next input without its lead-in, if it has one that the frames after it want
+    /// and these can join the run.
     fn without_lead_in(&self, input: &Input<'_>) -> Option<Joint>
         requires input { IsJoinableInput self.now.class input.now }
         requires within { IsRunInWindow self.now }
