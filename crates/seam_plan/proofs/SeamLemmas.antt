@@ -27,98 +27,81 @@ follows_with class run brought overlap =
     option_map (joint_with (Follows overlap.frames))
     (joining_frames (window_of class.version) run (drop overlap.frames brought.frames))
 
--- an input follows if the frames that must be alike are
-pub follow-is : (class : ClassFields) (run : List RunFrame) (before brought : Brought)
-    → following_joint class run before brought
-    ≡ option_and_then (follows_with class run brought) (alike_overlap class run before brought)
-unfolding following_joint
-follow-is class run before brought = at (overlap_of class before brought)
-  where
-    by_test : (overlap : Overlap) (b : Bool)
-        → (if b then follows_with class run brought overlap else None)
-        ≡ option_and_then (follows_with class run brought) (if b then Some overlap else None)
-    by_test overlap true = refl
-    by_test overlap false = refl
+module _ (class : ClassFields) (run : List RunFrame) (before brought : Brought) where
+  -- an input follows if the frames that must be alike are
+  pub follow-is : following_joint class run before brought
+      ≡ option_and_then (follows_with class run brought) (alike_overlap class run before brought)
+  unfolding following_joint
+  follow-is = at (overlap_of class before brought)
+    where
+      by_test : (overlap : Overlap) (b : Bool)
+          → (if b then follows_with class run brought overlap else None)
+          ≡ option_and_then (follows_with class run brought) (if b then Some overlap else None)
+      by_test overlap true = refl
+      by_test overlap false = refl
 
-    at : (shared : Option Overlap)
-        → option_and_then (overlap_joint class run brought) shared ≡ option_and_then
-        (follows_with class run brought) (option_and_then (overlap_if_alike run brought) shared)
-    at None = refl
-    at (Some overlap) = by_test overlap (ends_alike run (compared_frames overlap brought))
+      at : (shared : Option Overlap)
+          → option_and_then (overlap_joint class run brought) shared ≡ option_and_then
+          (follows_with class run brought) (option_and_then (overlap_if_alike run brought) shared)
+      at None = refl
+      at (Some overlap) = by_test overlap (ends_alike run (compared_frames overlap brought))
 
--- without an overlap that is alike an input doesn't follow
-pub follow-none : (class : ClassFields) (run : List RunFrame) (before brought : Brought)
-    (alike : Option Overlap) → alike ≡ alike_overlap class run before brought → alike ≡ None
-    → AreJoint (following_joint class run before brought) None
-follow-none class run before brought alike is none =
-    subst (λ o. AreJoint o None) (sym (follow-is class run before brought
-    ∙ ap (option_and_then (follows_with class run brought)) (sym is ∙ none))) tt
-
--- with an overlap that is alike an input follows as the frames after the overlap join
-pub follow-some : (class : ClassFields) (run : List RunFrame) (before brought : Brought)
-    (alike : Option Overlap) (overlap : Overlap) (result : Option CodeJoint)
-    → alike ≡ alike_overlap class run before brought → alike ≡ Some overlap
-    → AreJoint (follows_with class run brought overlap) result
-    → AreJoint (following_joint class run before brought) result
-follow-some class run before brought alike overlap result is some joins =
-    subst (λ o. AreJoint o result) (sym (follow-is class run before brought
-    ∙ ap (option_and_then (follows_with class run brought)) (sym is ∙ some))) joins
+  -- an input follows as the frames after the overlap that is alike join, if there is one
+  pub follow-by : (alike overlap : Option Overlap) (result : Option CodeJoint)
+      → alike ≡ alike_overlap class run before brought → alike ≡ overlap
+      → AreJoint (option_and_then (follows_with class run brought) overlap) result
+      → AreJoint (following_joint class run before brought) result
+  follow-by alike overlap result is same joins =
+      subst (λ o. AreJoint o result)
+      (sym (follow-is ∙ ap (option_and_then (follows_with class run brought)) (sym is ∙ same)))
+      joins
 
 -- ---- an input without its lead-in
 
--- an input joins without its lead-in if it has one that the others need, and the others can join
-pub without-is : (class : ClassFields) (run : List RunFrame) (input : Input) (brought : Brought)
-    (has alone : Bool) → IsBroughtInput input brought
-    → has ≡ has_lead_in (window_of class.version) brought
-    → alone ≡ fits_behind (window_of class.version) 0 (drop 1 input.needs.now)
-    → joint_without_lead_in class run brought
-    ≡ (if has && not alone then option_map (joint_with LeadIn)
-    (joining_frames (window_of class.version) run (drop 1 brought.frames)) else None)
-unfolding joint_without_lead_in
-without-is class run input brought has alone is leads fits =
-    let same : fits_behind (window_of class.version) 0 (needs_of (drop 1 brought.frames)) ≡ alone =
-    sym (fits ∙ ap (fits_behind (window_of class.version) 0)
-    (ap (drop 1) is.needs ∙ drop-map (λ (f : RunFrame). f.need) 1 brought.frames)) in
-    ap₂ (λ (h a : Bool). if h && not a then option_map (joint_with LeadIn)
-    (joining_frames (window_of class.version) run (drop 1 brought.frames))
-    else None) (sym leads) same
-
-abbrev WithoutIf : ClassFields → List RunFrame → Brought → Bool → Option JointFrames
-WithoutIf class run brought b = if b then option_map (joint_with LeadIn)
+-- the frames after the first, as they join if the first is left out
+abbrev pub without_if : ClassFields → List RunFrame → Brought → Bool → Option JointFrames
+without_if class run brought b =
+    if b then option_map (joint_with LeadIn)
     (joining_frames (window_of class.version) run (drop 1 brought.frames)) else None
 
--- no lead-in is left out of an input that has none
-pub without-lead : (class : ClassFields) (run : List RunFrame) (input : Input) (brought : Brought)
-    (has : Bool) → IsBroughtInput input brought
-    → has ≡ has_lead_in (window_of class.version) brought → has ≡ false
-    → AreJoint (joint_without_lead_in class run brought) None
-without-lead class run input brought has is leads none =
-    let alone : Bool = fits_behind (window_of class.version) 0 (drop 1 input.needs.now) in
-    subst (λ o. AreJoint o None) (sym (without-is class run input brought has alone is leads refl
-    ∙ ap (WithoutIf class run brought) (and_left has (not alone) none))) tt
+module _ (class : ClassFields) (run : List RunFrame) (input : Input) (brought : Brought)
+    (has : Bool) (is : IsBroughtInput input brought)
+    (leads : has ≡ has_lead_in (window_of class.version) brought) where
+  -- an input joins without its lead-in if it has one that the others want, and the others can join
+  without-by : (alone b : Bool) (result : Option CodeJoint)
+      → alone ≡ fits_behind (window_of class.version) 0 (drop 1 input.needs.now)
+      → (has && not alone) ≡ b → AreJoint (without_if class run brought b) result
+      → AreJoint (joint_without_lead_in class run brought) result
+  unfolding joint_without_lead_in
+  without-by alone b result fits left joins =
+      let same : alone
+      ≡ fits_behind (window_of class.version) 0 (needs_of (drop 1 brought.frames)) =
+      fits ∙ ap (fits_behind (window_of class.version) 0)
+      (ap (drop 1) is.needs ∙ drop-map (λ (f : RunFrame). f.need) 1 brought.frames) in
+      subst (λ o. AreJoint o result) (sym (ap₂ (λ h a. without_if class run brought (h && not a))
+      (sym leads) (sym same) ∙ ap (without_if class run brought) left)) joins
 
--- an input whose lead-in isn't wanted doesn't join without it
-pub without-want : (class : ClassFields) (run : List RunFrame) (input : Input) (brought : Brought)
-    (has alone : Bool) → IsBroughtInput input brought
-    → has ≡ has_lead_in (window_of class.version) brought
-    → alone ≡ fits_behind (window_of class.version) 0 (drop 1 input.needs.now) → alone ≡ true
-    → AreJoint (joint_without_lead_in class run brought) None
-without-want class run input brought has alone is leads fits true_is =
-    subst (λ o. AreJoint o None) (sym (without-is class run input brought has alone is leads fits
-    ∙ ap (WithoutIf class run brought) (and_right has (not alone) (not_from_true alone true_is))))
-    tt
+  -- no lead-in is left out of an input that has none
+  pub without-lead : has ≡ false → AreJoint (joint_without_lead_in class run brought) None
+  without-lead none =
+      let alone : Bool = fits_behind (window_of class.version) 0 (drop 1 input.needs.now) in
+      without-by alone false None refl (and_left has (not alone) none) tt
 
--- a lead-in that the others want is left out if the others can join
-pub without-some : (class : ClassFields) (run : List RunFrame) (input : Input) (brought : Brought)
-    (has alone : Bool) (result : Option CodeJoint) → IsBroughtInput input brought
-    → has ≡ has_lead_in (window_of class.version) brought → alone
-    ≡ fits_behind (window_of class.version) 0 (drop 1 input.needs.now) → has ≡ true → alone ≡ false
-    → AreJoint (option_map (joint_with LeadIn) (joining_frames (window_of class.version)
-    run (drop 1 brought.frames))) result → AreJoint (joint_without_lead_in class run brought) result
-without-some class run input brought has alone result is leads fits has_is alone_is joins =
-    subst (λ o. AreJoint o result)
-    (sym (without-is class run input brought has alone is leads fits ∙ ap (WithoutIf class run
-    brought) (and_from has (not alone) has_is (not_from_false alone alone_is)))) joins
+  -- an input whose lead-in isn't wanted doesn't join without it
+  pub without-want : (alone : Bool)
+      → alone ≡ fits_behind (window_of class.version) 0 (drop 1 input.needs.now) → alone ≡ true
+      → AreJoint (joint_without_lead_in class run brought) None
+  without-want alone fits true_is =
+      without-by alone false None fits (and_right has (not alone) (not_from_true alone true_is)) tt
+
+  -- a lead-in that the others want is left out if the others can join
+  pub without-some : (alone : Bool) (result : Option CodeJoint)
+      → alone ≡ fits_behind (window_of class.version) 0 (drop 1 input.needs.now)
+      → has ≡ true → alone ≡ false → AreJoint (without_if class run brought true) result
+      → AreJoint (joint_without_lead_in class run brought) result
+  without-some alone result fits has_is alone_is joins =
+      without-by alone true result fits
+      (and_from has (not alone) has_is (not_from_false alone alone_is)) joins
 
 -- the frames of an input except the first k need what is left of its needs
 pub needs-drop : (k : ℕ) (input : Input) (brought : Brought) → IsBroughtInput input brought

@@ -1,7 +1,7 @@
 -- The frames after the shared ones join, or can't.
-use Rattle.std.proofs.Common.{drop, subst, sym, ◌∙◌}
+use Rattle.std.proofs.Common.{drop, None, Some, subst, sym, ◌∙◌}
 use Rattle.frame_header.specs.Tables.{window_of}
-use Rattle.seam_plan.proofs.SeamLemmas.{follow-none, follow-some, needs-drop}
+use Rattle.seam_plan.proofs.SeamLemmas.{follow-by, needs-drop}
 use Rattle.slot_plan.proofs.{FreeByteLemmas.fits-drop, PartLemmas.class-drop}
 use Rattle.slot_plan.specs.{FreeBytes.FitsBehind, Parts.AreNeedsOfClass}
 use Rattle.seam_plan.proofs.run.Run.following.Goals as goal
@@ -19,12 +19,12 @@ joining-requires-clause-fits c =
 
 pub returns-in_default-clause-joint : goal.returns-in_default-clause-joint
 returns-in_default-clause-joint c = λ class frames places before brought is brings same.
-    follow-none class frames before brought c.args.alike same c.in_default.is
+    follow-by class frames before brought c.args.alike None None same c.in_default.is tt
 
 pub returns-clause-joint : goal.returns-clause-joint
 returns-clause-joint c = λ class frames places before brought is brings same.
     let k = c.in-Some.overlap.frames in
-    follow-some class frames before brought c.args.alike c.in-Some.overlap c.joining.result same
-    c.in-Some.is
+    follow-by class frames before brought c.args.alike (Some c.in-Some.overlap) c.joining.result
+    same c.in-Some.is
     (c.joining.ensures.joining class frames (drop k brought.frames) places before is
     (c.needs_after-needs.ensures ∙ needs-drop k c.args.input.now brought brings))

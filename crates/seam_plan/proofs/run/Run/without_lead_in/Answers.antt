@@ -39,8 +39,8 @@ returns-then-fit_alone-clause-joint c = λ class frames places before brought is
     subst (λ k. AreNeedsOfClass k c.args.input.now.needs.now) is.of_class c.requires.input.same in
     let others = subst (AreNeedsOfClass class) (sym c.needs_after-others.ensures)
     (class-drop class c.args.input.now.needs.now 1 same) in
-    without-want class frames c.args.input.now brought
-    c.has_lead_in.result c.fit_alone.result brings (c.has_lead_in.ensures class brought same brings)
+    without-want class frames c.args.input.now brought c.has_lead_in.result brings
+    (c.has_lead_in.ensures class brought same brings) c.fit_alone.result
     (c.fit_alone.ensures class others
     ∙ ap (fits_behind (window_of class.version) 0) c.needs_after-others.ensures) c.if-fit_alone.true
 
@@ -50,8 +50,8 @@ returns-clause-joint c = λ class frames places before brought is brings.
     subst (λ k. AreNeedsOfClass k c.args.input.now.needs.now) is.of_class c.requires.input.same in
     let others = subst (AreNeedsOfClass class) (sym c.needs_after-others.ensures)
     (class-drop class c.args.input.now.needs.now 1 same) in
-    without-some class frames c.args.input.now brought c.has_lead_in.result c.fit_alone.result
-    c.joining.result brings (c.has_lead_in.ensures class brought same brings)
+    without-some class frames c.args.input.now brought c.has_lead_in.result brings
+    (c.has_lead_in.ensures class brought same brings) c.fit_alone.result c.joining.result
     (c.fit_alone.ensures class others ∙ ap (fits_behind (window_of class.version) 0)
     c.needs_after-others.ensures) c.if-not-has_lead_in.false c.if-fit_alone.false
     (c.joining.ensures.joining class frames (drop 1 brought.frames) places before is
