@@ -13,9 +13,10 @@ use Rattle.std.specs.Prelude.{slice_get, unwrap_or, ◌&&◌}
 use Rattle.exact_span.specs.{Overlaps.shared_overlap, PlayedPositions.{rest_of, samples_in}}
 use Rattle.exact_span.specs.declared.{overlap.Overlap.Overlap, played.Played.Played}
 use Rattle.frame_header.specs.{Fields.{ClassFields, SlotFields}, Tables.window_of}
+use Rattle.seam_plan.proofs.SeamLemmas.{IfWithout, without-led}
 use Rattle.seam_plan.specs.Frames.{Brought, needs_of, RunFrame}
-use Rattle.seam_plan.specs.Joins.{frame_in_slot, has_lead_in, is_lead_in_wanted, join_slot}
-use Rattle.seam_plan.specs.{Joins.joining_frames, Laws.{FollowersGoOn, InputGoesOn, run_after}}
+use Rattle.seam_plan.specs.Joins.{frame_in_slot, join_slot, joining_frames}
+use Rattle.seam_plan.specs.Laws.{FollowersGoOn, InputGoesOn, run_after}
 use Rattle.seam_plan.specs.Seams.{are_frames_alike, compared_frames, ends_alike, following_joint}
 use Rattle.seam_plan.specs.Seams.{joint_of, joint_with, joint_without_lead_in, JointFrames}
 use Rattle.seam_plan.specs.Seams.{joints_from, joints_of, overlap_joint, whole_joint}
@@ -209,42 +210,19 @@ module _ (class : ClassFields) (run : List RunFrame) (before input : Brought) wh
     unfolding following_joint
     is-following is = by_ended before.played refl is
 
-  -- an input that joins without its lead-in doesn't follow
-  abbrev IsWithout : Option JointFrames → Type 0
-  IsWithout None = Unit {0}
-  IsWithout (Some joint) = joint.seam ≡ LeadIn
-
-  without-seam : IsWithout (joint_without_lead_in class run input)
-  unfolding joint_without_lead_in
-  without-seam =
-      by_test (has_lead_in (window_of class.version) input
-      && is_lead_in_wanted (window_of class.version)
-      input)
-    where
-      by_joined : (o : Option (List RunFrame)) → IsWithout (option_map (joint_with LeadIn) o)
-      by_joined None = tt
-      by_joined (Some frames) = refl
-
-      by_test : (b : Bool)
-          → IsWithout
-          (if b then option_map (joint_with LeadIn)
-          (joining_frames (window_of class.version) run (drop 1 input.frames)) else None)
-      by_test true = by_joined (joining_frames (window_of class.version) run (drop 1 input.frames))
-      by_test false = tt
-
   -- what becomes of an input that follows is the joint with which it can follow
   joint-follows : (out : ℕ) → (joint_of class run before input).seam ≡ Follows out
       → following_joint class run before input ≡ Some (joint_of class run before input)
   joint-follows out is =
       at (following_joint class run before input)
-      (joint_without_lead_in class run input) without-seam is
+      (joint_without_lead_in class run input) (without-led class run input) is
     where
-      at : (x y : Option JointFrames) → IsWithout y
+      at : (x y : Option JointFrames) → IfWithout (window_of class.version) input y
           → (unwrap_or (option_or x y) (whole_joint input)).seam ≡ Follows out
           → x ≡ Some (unwrap_or (option_or x y) (whole_joint input))
       at (Some joint) y without seam = refl
       at None (Some joint) without seam = let never : LeadIn ≡ Follows out =
-          sym without ∙ seam in absurd cc
+          sym without.0 ∙ seam in absurd cc
       at None None without seam = absurd cc
 
   -- ---- the frames of the run

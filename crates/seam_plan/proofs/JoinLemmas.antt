@@ -100,32 +100,24 @@ module _ (window left : ℕ) (run : List Need) (is : IsMostLeft window window ru
     join-none none = find-none joins_in all_slots
         (λ other has passes. none other (passes-joins other has passes))
 
--- what `joins` returns is how the frames join
-pub joining-some : (window left : ℕ) (seam : Seam) (run : List RunFrame) (first : RunFrame)
-    (frames : List RunFrame) (slot : SlotFields) (result : CodeJoint)
-    → IsMostLeft window window (needs_of run) left → IsClass (class_of first.need.header)
-    → IsJoinSlot window left (needs_of (first ∷ frames)) (Some slot)
-    → result ≡ record { seam = seam; slot = Some slot }
-    → IsJointOfFrames seam (joining_frames window run (first ∷ frames)) (Some result)
-unfolding joining_frames
-joining-some window left seam run first frames slot result is known joins gives =
-    let found =
-    join-found window left (needs_of run) is first.need (needs_of frames) known slot joins in
-    subst (λ o. IsJointOfFrames seam (option_map (λ s. frame_in_slot s first ∷ frames) o)
-    (Some result))
-    (sym found)
-    (record {
-      seam = ap (λ (j : CodeJoint). j.seam) gives;
-      slot = ap (λ (j : CodeJoint). j.slot) gives;
-    })
+-- the joint with this seam and this slot
+abbrev pub joint_in : Seam → SlotFields → CodeJoint
+joint_in seam slot = record { seam = seam; slot = Some slot }
 
--- if the frames don't join after what the run leaves, there is no seam
-pub joining-none : (window left : ℕ) (seam : Seam) (run : List RunFrame) (first : RunFrame)
-    (frames : List RunFrame) → IsMostLeft window window (needs_of run) left
-    → IsClass (class_of first.need.header) → IsJoinSlot window left (needs_of (first ∷ frames)) None
-    → IsJointOfFrames seam (joining_frames window run (first ∷ frames)) None
+-- frames join as `joins` says: in a slot, or in none
+joining-as : (window left : ℕ) (seam : Seam) (run : List RunFrame) (first : RunFrame)
+    (frames : List RunFrame) (slot : Option SlotFields)
+    → IsMostLeft window window (needs_of run) left → IsClass (class_of first.need.header)
+    → IsJoinSlot window left (needs_of (first ∷ frames)) slot
+    → IsJointOfFrames seam (joining_frames window run (first ∷ frames))
+    (option_map (joint_in seam) slot)
 unfolding joining_frames
-joining-none window left seam run first frames is known none =
+joining-as window left seam run first frames (Some slot) is known joins =
+    subst (λ o. IsJointOfFrames seam (option_map (λ s. frame_in_slot s first ∷ frames) o)
+    (Some (joint_in seam slot)))
+    (sym (join-found window left (needs_of run) is first.need (needs_of frames) known slot joins))
+    (record { seam = refl; slot = refl })
+joining-as window left seam run first frames None is known none =
     subst (λ o. IsJointOfFrames seam (option_map (λ s. frame_in_slot s first ∷ frames) o) None)
     (sym (join-none window left (needs_of run) is first.need (needs_of frames) known none)) tt
 
@@ -146,34 +138,20 @@ unfolding AreNeedsOfClass
 first-known class first frames needs is same known =
     subst IsClass (sym (subst (AreNeedsOfClass class) is same).0) known
 
-module _ (class : ClassFields) (seam : Seam) (run : List RunFrame) (left : ℕ) (needs : List Need)
-    (same : AreNeedsOfClass class needs) (known : IsClass class)
-    (before : IsMostLeft (window_of class.version) (window_of class.version)
-    (needs_of run) left) where
-  no-join : (joined : Option SlotFields) → needs ≡ needs_of []
-      → IsJoinSlot (window_of class.version) left needs joined → ⊥
-  unfolding IsJoinSlot
-  no-join joined is joins = subst (λ l. IsJoinSlot (window_of class.version) left l joined) is joins
-
-  -- if the frames join in a slot, they join the run in it
-  pub joins-some : (rest : List RunFrame) (slot : SlotFields) → needs ≡ needs_of rest
-      → IsJoinSlot (window_of class.version) left needs (Some slot) → IsJointOfFrames seam
-      (joining_frames (window_of class.version) run rest)
-      (Some (record { seam = seam; slot = Some slot }))
-  joins-some [] slot is joins = absurd (no-join (Some slot) is joins)
-  joins-some (f ∷ fs) slot is joins =
-      joining-some (window_of class.version) left seam run f fs slot
-      (record { seam = seam; slot = Some slot }) before (first-known class f fs needs is same known)
-      (subst (λ l. IsJoinSlot (window_of class.version) left l (Some slot)) is joins) refl
-
-  -- if the frames don't join, there is no seam
-  pub joins-none : (rest : List RunFrame) → needs ≡ needs_of rest
-      → IsJoinSlot (window_of class.version) left needs None
-      → IsJointOfFrames seam (joining_frames (window_of class.version) run rest) None
-  joins-none [] is joins = absurd (no-join None is joins)
-  joins-none (f ∷ fs) is joins =
-      joining-none (window_of class.version) left seam run f fs before (first-known class f fs needs
-      is same known) (subst (λ l. IsJoinSlot (window_of class.version) left l None) is joins)
+-- if the frames join in a slot, they join the run in it; if they don't join, there is no seam
+pub joins-as : (class : ClassFields) (seam : Seam) (run rest : List RunFrame) (left : ℕ)
+    (needs : List Need) (slot : Option SlotFields) → AreNeedsOfClass class needs → IsClass class
+    → IsMostLeft (window_of class.version) (window_of class.version) (needs_of run) left
+    → needs ≡ needs_of rest → IsJoinSlot (window_of class.version) left needs slot
+    → IsJointOfFrames seam (joining_frames (window_of class.version) run rest)
+    (option_map (joint_in seam) slot)
+unfolding IsJoinSlot
+joins-as class seam run [] left needs slot same known before is joins =
+    absurd (subst (λ l. IsJoinSlot (window_of class.version) left l slot) is joins)
+joins-as class seam run (f ∷ fs) left needs slot same known before is joins =
+    joining-as (window_of class.version) left seam run f fs slot before
+    (first-known class f fs needs is same known)
+    (subst (λ l. IsJoinSlot (window_of class.version) left l slot) is joins)
 
 -- frames that join in a slot fit there
 pub join-fit : (class : ClassFields) (left : ℕ) (needs : List Need) (slot : SlotFields)

@@ -11,8 +11,8 @@ use Rattle.frame_header.proofs.HeaderLemmas.{IsClass-class_of}
 use Rattle.frame_header.proofs.SlotLemmas.{areas-ascend, Contains-all_slots}
 use Rattle.frame_header.specs.{Fields.{ClassFields, IsHeader, SlotFields}, Slots.all_slots}
 use Rattle.frame_header.specs.Tables.{class_of, window_of}
-use Rattle.seam_plan.proofs.{FitLemmas.fits-tested, SlotLemmas.find-least}
-use Rattle.seam_plan.specs.Frames.{Brought, needs_of, RunFrame}
+use Rattle.seam_plan.proofs.{FitLemmas.fits-tested, SeamLemmas.{IfWithout, without-led, without_if}}
+use Rattle.seam_plan.{proofs.SlotLemmas.find-least, specs.Frames.{Brought, needs_of, RunFrame}}
 use Rattle.seam_plan.specs.Joins.{fits_behind, frame_in_slot, has_lead_in, is_area_no_less}
 use Rattle.seam_plan.specs.Joins.{is_lead_in_wanted, join_slot, joining_frames}
 use Rattle.seam_plan.specs.Laws.{AreHeadersKnown, AreOneRun, ArePiecesOf, concat_frames, IsLedPiece}
@@ -136,11 +136,6 @@ module _ (class : ClassFields) where
             shared_overlap class (rest_of class (length before.frames) p) q.start
             (length input.frames))) none
 
-    abbrev WithoutIf : Bool → Option JointFrames
-    WithoutIf b =
-        if b then option_map (joint_with LeadIn) (joining_frames window run (drop 1 input.frames))
-        else None
-
     led-without : (frames : List RunFrame) → IsLedPiece window frames input
         → fits_behind window 0 (needs_of frames) ≡ false
         → joining_frames window run frames ≡ Some frames
@@ -150,7 +145,7 @@ module _ (class : ClassFields) where
         let behind : drop 1 input.frames ≡ frames = ap (drop 1) led.frames_are in
         let wanted : is_lead_in_wanted window input ≡ true =
         ap (λ (l : List RunFrame). not (fits_behind window 0 (needs_of l))) behind ∙ ap not lacks in
-        ap WithoutIf
+        ap (without_if class run input)
         (and_from (has_lead_in window input) (is_lead_in_wanted window input) led.has wanted)
         ∙ ap (λ (l : List RunFrame). option_map (joint_with LeadIn) (joining_frames window run l))
         behind
@@ -159,7 +154,8 @@ module _ (class : ClassFields) where
     unled-without : has_lead_in window input ≡ false → joint_without_lead_in class run input ≡ None
     unfolding joint_without_lead_in
     unled-without none =
-        ap WithoutIf (and_left (has_lead_in window input) (is_lead_in_wanted window input) none)
+        ap (without_if class run input)
+        (and_left (has_lead_in window input) (is_lead_in_wanted window input) none)
 
     piece-joint : (frames : List RunFrame) → IsPieceOf window frames input → AreHeadersKnown frames
         → fits_behind window window (needs_of (run ++ frames)) ≡ true
@@ -311,41 +307,14 @@ IsWithoutLeadIn window input joint =
     (joint.seam ≡ Whole) ⊎ ((joint.seam ≡ LeadIn) × (has_lead_in window input ≡ true))
 
 module _ (class : ClassFields) (run : List RunFrame) (before input : Brought) where
-  abbrev IfWithout : Option JointFrames → Type 0
-  IfWithout None = Unit {0}
-  IfWithout (Some joint) =
-      (joint.seam ≡ LeadIn) × (has_lead_in (window_of class.version) input ≡ true)
-
-  without-led : IfWithout (joint_without_lead_in class run input)
-  unfolding joint_without_lead_in
-  without-led =
-      by_test (has_lead_in (window_of class.version) input
-      && is_lead_in_wanted (window_of class.version)
-      input)
-      (λ both. (and_parts (has_lead_in (window_of class.version) input)
-      (is_lead_in_wanted (window_of class.version) input) both).0)
-    where
-      by_joined : (o : Option (List RunFrame)) → has_lead_in (window_of class.version) input ≡ true
-          → IfWithout (option_map (joint_with LeadIn) o)
-      by_joined None has = tt
-      by_joined (Some frames) has = (refl, has)
-
-      by_test : (b : Bool) → (b ≡ true → has_lead_in (window_of class.version) input ≡ true)
-          → IfWithout
-          (if b then option_map (joint_with LeadIn)
-          (joining_frames (window_of class.version) run (drop 1 input.frames)) else None)
-      by_test true has =
-          by_joined (joining_frames (window_of class.version) run (drop 1 input.frames)) (has refl)
-      by_test false has = tt
-
   -- an input whose head has no counts is whole, or its lead-in is left out
   pub uncounted-joint : input.played ≡ None
       → IsWithoutLeadIn (window_of class.version) input (joint_of class run before input)
   uncounted-joint none =
       at (following_joint class run before input) (joint_without_lead_in class run input)
-      (none-follows class run before input none) without-led
+      (none-follows class run before input none) (without-led class run input)
     where
-      at : (x y : Option JointFrames) → x ≡ None → IfWithout y
+      at : (x y : Option JointFrames) → x ≡ None → IfWithout (window_of class.version) input y
           → IsWithoutLeadIn (window_of class.version) input
           (unwrap_or (option_or x y) (whole_joint input))
       at (Some joint) y follows without = absurd cc

@@ -68,15 +68,6 @@ abbrev pub Notes : List FramePlace → List FramePlace → ℕ → ℕ → ℕ �
 Notes old items input from at = (places : List FramePlace) → old ≡ last_seven places
     → items ≡ last_seven (places ++ frame_places input from (at - from))
 
-note-by : (old items new : List FramePlace) (input from at : ℕ) → from ≤ at
-    → new ≡ last_seven (items ++ frame_place input at ∷ []) → Notes old items input from at
-    → Notes old new input from (at + 1)
-note-by old items new input from at after gives notes places is =
-    gives ∙ ap (λ l. last_seven (l ++ frame_place input at ∷ [])) (notes places is)
-    ∙ last-append (places ++ frame_places input from (at - from)) (frame_place input at ∷ [])
-    ∙ ap last_seven (append_assoc places (frame_places input from (at - from))
-    (frame_place input at ∷ []) ∙ ap (λ l. places ++ l) (sym (places-more input from at after)))
-
 -- what `slide` makes of the last seven
 slid : (items new : List FramePlace) (p : FramePlace) → IsSlid items p new
     → new ≡ last_seven (items ++ p ∷ [])
@@ -91,8 +82,12 @@ slid items new p is =
 pub note-slid : (old items new : List FramePlace) (input from at : ℕ) → from ≤ at
     → IsSlid items (frame_place input at) new → Notes old items input from at
     → Notes old new input from (at + 1)
-note-slid old items new input from at after is notes =
-    note-by old items new input from at after (slid items new (frame_place input at) is) notes
+note-slid old items new input from at after is notes places begins =
+    slid items new (frame_place input at) is
+    ∙ ap (λ l. last_seven (l ++ frame_place input at ∷ [])) (notes places begins)
+    ∙ last-append (places ++ frame_places input from (at - from)) (frame_place input at ∷ [])
+    ∙ ap last_seven (append_assoc places (frame_places input from (at - from))
+    (frame_place input at ∷ []) ∙ ap (λ l. places ++ l) (sym (places-more input from at after)))
 
 -- the noting begins at the first frame, or at the seventh from the end
 pub note-from : (from to first sub : ℕ) → first ≡ max from sub → sub ≡ to - 7 → from ≤ to

@@ -8,10 +8,11 @@ use Rattle.exact_span.specs.Overlaps.{IsOverlap, IsOverlapShort, most_alike}
 use Rattle.exact_span.specs.{PlayedPositions.rest_of, declared.overlap.Overlap.Overlap}
 use Rattle.frame_header.specs.{Fields.{ClassFields, SlotFields}, Tables.window_of}
 use Rattle.frame_header.specs.declared.version.Version.{Version, TheVariants.{One, Two, TwoFive}}
-use Rattle.seam_plan.proofs.SeamLemmas.{joint-adds, length-joint, length-moved}
+use Rattle.seam_plan.proofs.SeamLemmas.{joint-adds, length-moved}
 use Rattle.seam_plan.specs.Decisions.{AddedFramesFit, CanFollow, frame_place, frame_places}
 use Rattle.seam_plan.specs.Decisions.{IsBroughtInput, IsJoinableInput, IsJoint, IsRun, joined_needs}
-use Rattle.seam_plan.specs.{Decisions.{JoinsRun, last_seven}, Frames.{Brought, needs_of, RunFrame}}
+use Rattle.seam_plan.specs.Decisions.{JoinsRun, last_seven, RunGoesOn}
+use Rattle.seam_plan.specs.Frames.{Brought, needs_of, RunFrame}
 use Rattle.seam_plan.specs.Seams.{joint_of, JointFrames, left_out_count}
 use Rattle.seam_plan.specs.declared.{input.Input.Input, run.FramePlace.FramePlace}
 use Rattle.seam_plan.specs.declared.run.{Joint.Joint as CodeJoint, Run.Run}
@@ -54,73 +55,6 @@ all-free class input can = record {
 }
 
 -- ---- a run with more frames
-
-module _ (class : ClassFields) (number : ℕ) (frames : List RunFrame) (places : List FramePlace)
-    (before brought : Brought) (input : Input) (old new : Run) (result : CodeJoint)
-    (is : IsRun class frames places before old) (brings : IsBroughtInput input brought)
-    (decided : IsJoint (joint_of class frames before brought) result) where
-  abbrev joint : JointFrames
-  joint = joint_of class frames before brought
-
-  same-out : left_out_count result.seam ≡ left_out_count joint.seam
-  same-out = ap left_out_count decided.seam
-
-  more-needs : needs_of frames
-      ++ joined_needs result.slot (drop (left_out_count result.seam) input.needs.now)
-      ≡ needs_of (frames ++ joint.frames)
-  more-needs =
-      ap (λ n. needs_of frames ++ joined_needs result.slot (drop n input.needs.now)) same-out
-      ∙ ap (λ l. needs_of frames ++ joined_needs result.slot (drop (left_out_count joint.seam) l))
-      brings.needs
-      ∙ ap (λ l. needs_of frames ++ l) (sym (joint-adds class frames before brought result decided))
-      ∙ sym (map-append (λ (f : RunFrame). f.need) frames joint.frames)
-
-  abbrev more_places : List FramePlace
-  more_places = places ++ frame_places number (left_out_count joint.seam) (length joint.frames)
-
-  many : length input.needs.now - left_out_count result.seam ≡ length joint.frames
-  many =
-      ap (λ n. length input.needs.now - n) same-out
-      ∙ ap (λ n. n - left_out_count joint.seam)
-      (ap length brings.needs ∙ length-map brought.frames (λ (f : RunFrame). f.need))
-      ∙ sym (length-joint class frames before brought result decided)
-
-  same-places : places ++ frame_places number (left_out_count result.seam)
-      (length input.needs.now - left_out_count result.seam) ≡ more_places
-  same-places = ap₂ (λ a n. places ++ frame_places number a n) same-out many
-
-  same-length : length more_places ≡ length (frames ++ joint.frames)
-  same-length =
-      length-append places (frame_places number (left_out_count joint.seam) (length joint.frames))
-      ∙ ap₂ (λ m n. m + n) is.same (length-map-range_with_len (frame_place number)
-      (left_out_count joint.seam) (length joint.frames))
-      ∙ sym (length-append frames joint.frames)
-
-  -- the run with the frames of the input that aren't left out is the run of the definition
-  pub run-joins : new.class ≡ old.class
-      → IsMostLeft (window_of old.class.version) (window_of old.class.version) (needs_of frames
-      ++ joined_needs result.slot (drop (left_out_count result.seam) input.needs.now)) new.left
-      → new.last.items ≡ last_seven (places
-      ++ frame_places number (left_out_count result.seam)
-      (length input.needs.now - left_out_count result.seam))
-      → new.rest ≡ option_map (λ p. rest_of old.class (length input.needs.now) p) input.played
-      → JoinsRun class number frames places before brought result new
-  run-joins same left last rest = record {
-    joint = decided;
-    goes_on = record {
-      of_class = same ∙ is.of_class;
-      left = subst (λ (c : ClassFields). IsMostLeft (window_of c.version) (window_of c.version)
-          (needs_of (frames ++ joint.frames)) new.left) is.of_class
-          (subst (λ l. IsMostLeft (window_of old.class.version)
-          (window_of old.class.version) l new.left) more-needs left);
-      last = last ∙ ap last_seven same-places;
-      same = same-length;
-      rest = rest ∙ ap (λ c. option_map (λ p. rest_of c (length input.needs.now) p) input.played)
-          is.of_class
-          ∙ ap₂ (λ n o. option_map (λ p. rest_of class n p) o) (ap length brings.needs
-          ∙ length-map brought.frames (λ (f : RunFrame). f.need)) brings.played;
-    };
-  }
 
 -- whatever is alike, if these frames are added, the run continues with them
 module _ (class : ClassFields) (number : ℕ) (frames more : List RunFrame) (places : List FramePlace)
@@ -172,6 +106,28 @@ module _ (class : ClassFields) (number : ℕ) (frames more : List RunFrame) (pla
         (ap length brings.needs ∙ length-map brought.frames (λ (f : RunFrame). f.need))
         brings.played;
   }
+
+-- a run that goes on with what is decided is the run of the definition
+pub run-joins : (class : ClassFields) (number : ℕ) (frames : List RunFrame)
+    (places : List FramePlace) (before brought : Brought) (input : Input) (old new : Run)
+    (result : CodeJoint) → IsRun class frames places before old → IsBroughtInput input brought
+    → IsJoint (joint_of class frames before brought) result
+    → RunGoesOn number input result old new
+    → JoinsRun class number frames places before brought result new
+run-joins class number frames places before brought input old new result is brings decided goes =
+    let joint : JointFrames = joint_of class frames before brought in
+    let out : left_out_count result.seam ≡ left_out_count joint.seam =
+    ap left_out_count decided.seam in
+    let adds : needs_of joint.frames
+    ≡ joined_needs result.slot (drop (left_out_count result.seam) input.needs.now) =
+    joint-adds class frames before brought result decided
+    ∙ ap₂ (λ n l. joined_needs result.slot (drop n l)) (sym out) (sym brings.needs) in
+    record {
+      joint = decided;
+      goes_on = subst (λ n. IsRun class (frames ++ joint.frames)
+          (places ++ frame_places number n (length joint.frames)) brought new) out
+          (goes class frames joint.frames places before brought is brings adds);
+    }
 
 -- what a run that begins with an input leaves
 pub run-begins : (class : ClassFields) (input : Input) (first : Brought) (run : Run)

@@ -1,8 +1,9 @@
 -- What becomes of an input, by the queries that decide it.
 use Rattle.std.proofs.Common.{ap, ap₂, arith, Bool, drop, false, length, List, None, Option, refl}
 use Rattle.std.proofs.Common.{Some, subst, sym, true, ℕ, [], ◌-◌, ◌<◌, ◌∙◌, ◌∷◌, ◌≡◌}
-use Rattle.std.proofs.lemmas.Bool.{and_from, and_left, and_right, not_from_false, not_from_true}
-use Rattle.std.{proofs.lemmas.List.{drop-map, length-drop, length-map}, specs.Option.option_or}
+use Rattle.std.proofs.lemmas.Bool.{and_from, and_left, and_parts, and_right, not_from_false}
+use Rattle.std.proofs.lemmas.{Bool.not_from_true, List.{drop-map, length-drop, length-map}}
+use Rattle.std.specs.Option.{option_or}
 use Rattle.std.specs.Prelude.{if◌then◌else◌, not, option_and_then, option_map, slice_get}
 use Rattle.std.specs.Prelude.{slice_index_or, unwrap_or, ◌&&◌}
 use Rattle.exact_span.specs.declared.overlap.Overlap.{Overlap}
@@ -10,8 +11,8 @@ use Rattle.frame_header.specs.{Fields.{ClassFields, SlotFields}, Tables.window_o
 use Rattle.seam_plan.specs.Decisions.{alike_overlap, AreJoint, IsBroughtInput, IsJoint}
 use Rattle.seam_plan.specs.Decisions.{joined_needs, overlap_if_alike}
 use Rattle.seam_plan.specs.Frames.{Brought, needs_of, RunFrame}
-use Rattle.seam_plan.specs.Joins.{fits_behind, frame_in_slot, has_lead_in, join_slot}
-use Rattle.seam_plan.specs.Joins.{joining_frames}
+use Rattle.seam_plan.specs.Joins.{fits_behind, frame_in_slot, has_lead_in, is_lead_in_wanted}
+use Rattle.seam_plan.specs.Joins.{join_slot, joining_frames}
 use Rattle.seam_plan.specs.Seams.{compared_frames, ends_alike, following_joint, joint_of}
 use Rattle.seam_plan.specs.Seams.{joint_with, joint_without_lead_in, JointFrames, left_out_count}
 use Rattle.seam_plan.specs.Seams.{overlap_joint, overlap_of, whole_joint}
@@ -63,6 +64,31 @@ abbrev pub without_if : ClassFields → List RunFrame → Brought → Bool → O
 without_if class run brought b =
     if b then option_map (joint_with LeadIn)
     (joining_frames (window_of class.version) run (drop 1 brought.frames)) else None
+
+-- the joint of an input without its lead-in, if there is one, leaves this out, and the input has it
+abbrev pub IfWithout : ℕ → Brought → Option JointFrames → Type 0
+IfWithout window input None = Unit {0}
+IfWithout window input (Some joint) = (joint.seam ≡ LeadIn) × (has_lead_in window input ≡ true)
+
+-- an input that joins without its lead-in has one, and its seam says that it is left out
+pub without-led : (class : ClassFields) (run : List RunFrame) (input : Brought)
+    → IfWithout (window_of class.version) input (joint_without_lead_in class run input)
+unfolding joint_without_lead_in
+without-led class run input =
+    let has : Bool = has_lead_in (window_of class.version) input in
+    let wanted : Bool = is_lead_in_wanted (window_of class.version) input in
+    by_test (has && wanted) (λ both. (and_parts has wanted both).0)
+  where
+    by_joined : (o : Option (List RunFrame)) → has_lead_in (window_of class.version) input ≡ true
+        → IfWithout (window_of class.version) input (option_map (joint_with LeadIn) o)
+    by_joined None has = tt
+    by_joined (Some frames) has = (refl, has)
+
+    by_test : (b : Bool) → (b ≡ true → has_lead_in (window_of class.version) input ≡ true)
+        → IfWithout (window_of class.version) input (without_if class run input b)
+    by_test true has =
+        by_joined (joining_frames (window_of class.version) run (drop 1 input.frames)) (has refl)
+    by_test false has = tt
 
 module _ (class : ClassFields) (run : List RunFrame) (input : Input) (brought : Brought)
     (has : Bool) (is : IsBroughtInput input brought)
@@ -162,8 +188,7 @@ module _ (class : ClassFields) (run : List RunFrame) (before brought : Brought)
   unfolding joint_without_lead_in
   of-without = at _
     where
-      at : (b : Bool) → HoldsIf (if b then option_map (joint_with LeadIn)
-          (joining_frames (window_of class.version) run (drop 1 brought.frames)) else None)
+      at : (b : Bool) → HoldsIf (without_if class run brought b)
       at true =
           by-joining LeadIn
           (joining_frames (window_of class.version) run (drop 1 brought.frames)) refl

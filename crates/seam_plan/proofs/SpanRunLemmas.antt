@@ -98,25 +98,21 @@ record AreShared (v : Version) (start rest shared frames : ℕ) : Type 0 where
       ≡ true
   whole : (start + rest) / samples_of v ≡ shared
 
-shared-by : (v : Version) (start rest shared frames : ℕ) → shared ≤ frames
-    → (start + rest) % samples_of v ≡ 0 → (start + rest) / samples_of v ≡ shared
-    → AreShared v start rest shared frames
-shared-by v start rest shared frames there none whole_joint = record {
-  test = and_from (eqb ((start + rest) % samples_of v) 0)
-      (nat_le ((start + rest) / samples_of v) frames) (ap (λ n. eqb n 0) none)
-      (le-leb ((start + rest) / samples_of v) frames (omega (arith, whole_joint, there)));
-  whole = whole_joint;
-}
+module _ (start rest shared frames : ℕ) (there : shared ≤ frames) where
+  shared-by : (v : Version) → (start + rest) % samples_of v ≡ 0
+      → (start + rest) / samples_of v ≡ shared → AreShared v start rest shared frames
+  shared-by v none whole_joint = record {
+    test = and_from (eqb ((start + rest) % samples_of v) 0)
+        (nat_le ((start + rest) / samples_of v) frames) (ap (λ n. eqb n 0) none)
+        (le-leb ((start + rest) / samples_of v) frames (omega (arith, whole_joint, there)));
+    whole = whole_joint;
+  }
 
-are-shared : (v : Version) (start rest shared frames : ℕ)
-    → start + rest ≡ shared * samples_of v → shared ≤ frames
-    → AreShared v start rest shared frames
-are-shared One start rest shared frames same there =
-    shared-by One start rest shared frames there (omega (arith, same)) (omega (arith, same))
-are-shared Two start rest shared frames same there =
-    shared-by Two start rest shared frames there (omega (arith, same)) (omega (arith, same))
-are-shared TwoFive start rest shared frames same there =
-    shared-by TwoFive start rest shared frames there (omega (arith, same)) (omega (arith, same))
+  are-shared : (v : Version) → start + rest ≡ shared * samples_of v
+      → AreShared v start rest shared frames
+  are-shared One same = shared-by One (omega (arith, same)) (omega (arith, same))
+  are-shared Two same = shared-by Two (omega (arith, same)) (omega (arith, same))
+  are-shared TwoFive same = shared-by TwoFive (omega (arith, same)) (omega (arith, same))
 
 -- the sum of what is before the first played position of a
 -- span and what is after the last one of the span before it
@@ -212,8 +208,8 @@ module _ (class : ClassFields) (all : List RunFrame) (known : AreHeadersKnown al
       unfolding shared_overlap
       overlap-is =
           let rest : ℕ = rest_of class (length before.frames) one.played in
-          let are = are-shared class.version is.played.start rest shared (length input.frames) sum
-          within in
+          let are = are-shared is.played.start rest shared (length input.frames) within
+          class.version sum in
           ap₂ (λ (o r : Option Played).
           option_and_then (λ (p : Played). option_and_then (λ (q : Played).
           shared_overlap class

@@ -49,6 +49,14 @@ pub record IsRun (class : ClassFields) (frames : List RunFrame) (places : List F
   pub same : length places ≡ length frames
   pub rest : run.rest ≡ brought_rest class before
 
+-- this holds of whatever class, frames, places and inputs these are the run and the input of
+abbrev pub HoldsOfRun : Run → Input
+    → (ClassFields → List RunFrame → List FramePlace → Brought → Brought → Type 0) → Type 0
+HoldsOfRun run input P =
+    (class : ClassFields) (frames : List RunFrame) (places : List FramePlace)
+    (before brought : Brought) → IsRun class frames places before run
+    → IsBroughtInput input brought → P class frames places before brought
+
 -- at most the window of the run's class is left
 pub record IsRunInWindow (run : Run) : Type 0 where
   pub known : IsClass run.class

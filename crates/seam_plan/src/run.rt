@@ -7,7 +7,7 @@ ghost use Rattle.slot_plan.specs.Parts.{AreNeedsOfClass};
 ghost use Rattle.slot_plan.specs.FreeBytes.{FitsBehind, IsMostLeft, need_in_slot};
 ghost use Rattle.seam_plan.specs.Frames.{RunFrame, Brought, needs_of};
 ghost use Rattle.seam_plan.specs.Seams.{joint_of, left_out_count, overlap_of, following_joint, joint_without_lead_in};
-ghost use Rattle.seam_plan.specs.Decisions.{IsJoinableInput, IsBroughtInput, IsRun, IsRunInWindow, IsJoint, AreJoint, AddedFramesFit, AddedInputFits, IsSlid, IsSoundRun, CanFollow, JoinRun, JoinsRun, RunGoesOn, alike_overlap, last_places, last_seven, joined_needs, frame_places};
+ghost use Rattle.seam_plan.specs.Decisions.{HoldsOfRun, IsJoinableInput, IsBroughtInput, IsRun, IsRunInWindow, IsJoint, AreJoint, AddedFramesFit, AddedInputFits, IsSlid, IsSoundRun, CanFollow, JoinRun, JoinsRun, RunGoesOn, alike_overlap, last_places, last_seven, joined_needs, frame_places};
 
 use crate::input::{Input, needs_after};
 use crate::lead_ins::{fit_alone, has_lead_in};
@@ -98,9 +98,8 @@ impl Run {
     pub fn overlap(&self, input: &Input<'_>) -> Option<Overlap>
         requires input { IsJoinableInput self.now.class input.now }
         requires sound { IsSoundRun self.now }
-        ensures overlap { (class : ClassFields) (frames : List RunFrame) (places : List FramePlace)
-            (before brought : Brought) → IsRun class frames places before self.now
-            → IsBroughtInput input.now brought → result ≡ overlap_of class before brought }
+        ensures overlap { HoldsOfRun self.now input.now (λ class frames places before brought.
+            result ≡ overlap_of class before brought) }
         ensures can { IfSome result (CanFollow input.now) }
     {
         let rest = self.rest?;
@@ -190,10 +189,9 @@ impl Run {
         requires input { IsJoinableInput self.now.class input.now }
         requires within { IsRunInWindow self.now }
         requires alike { IfSome alike (λ o. o.frames ≤ length input.now.needs.now) }
-        ensures joint { (class : ClassFields) (frames : List RunFrame) (places : List FramePlace)
-            (before brought : Brought) → IsRun class frames places before self.now
-            → IsBroughtInput input.now brought → alike ≡ alike_overlap class frames before brought
-            → AreJoint (following_joint class frames before brought) result }
+        ensures joint { HoldsOfRun self.now input.now (λ class frames places before brought.
+            alike ≡ alike_overlap class frames before brought
+            → AreJoint (following_joint class frames before brought) result) }
         ensures fits { IfSome result (AddedInputFits self.now.class self.now.left input.now) }
     {
         let Some(overlap) = alike else {
@@ -208,10 +206,8 @@ impl Run {
     fn without_lead_in(&self, input: &Input<'_>) -> Option<Joint>
         requires input { IsJoinableInput self.now.class input.now }
         requires within { IsRunInWindow self.now }
-        ensures joint { (class : ClassFields) (frames : List RunFrame) (places : List FramePlace)
-            (before brought : Brought) → IsRun class frames places before self.now
-            → IsBroughtInput input.now brought
-            → AreJoint (joint_without_lead_in class frames brought) result }
+        ensures joint { HoldsOfRun self.now input.now (λ class frames places before brought.
+            AreJoint (joint_without_lead_in class frames brought) result) }
         ensures fits { IfSome result (AddedInputFits self.now.class self.now.left input.now) }
     {
         let others = needs_after(input.needs, 1);
@@ -229,10 +225,9 @@ impl Run {
         requires input { IsJoinableInput self.now.class input.now }
         requires within { IsRunInWindow self.now }
         requires alike { IfSome alike (λ o. o.frames ≤ length input.now.needs.now) }
-        ensures joint { (class : ClassFields) (frames : List RunFrame) (places : List FramePlace)
-            (before brought : Brought) → IsRun class frames places before self.now
-            → IsBroughtInput input.now brought → alike ≡ alike_overlap class frames before brought
-            → IsJoint (joint_of class frames before brought) result }
+        ensures joint { HoldsOfRun self.now input.now (λ class frames places before brought.
+            alike ≡ alike_overlap class frames before brought
+            → IsJoint (joint_of class frames before brought) result) }
         ensures fits { AddedInputFits self.now.class self.now.left input.now result }
     {
         if let Some(joint) = self.following(input, alike) {
@@ -265,10 +260,9 @@ impl Run {
         requires input { IsJoinableInput self.old.class input.now }
         requires sound { IsSoundRun self.old }
         requires alike { IfSome alike (λ o. o.frames ≤ length input.now.needs.now) }
-        ensures joint { (class : ClassFields) (frames : List RunFrame) (places : List FramePlace)
-            (before brought : Brought) → IsRun class frames places before self.old
-            → IsBroughtInput input.now brought → alike ≡ alike_overlap class frames before brought
-            → JoinsRun class number frames places before brought result self.new }
+        ensures joint { HoldsOfRun self.old input.now (λ class frames places before brought.
+            alike ≡ alike_overlap class frames before brought
+            → JoinsRun class number frames places before brought result self.new) }
         // Whether or not frames are alike.
         ensures fits { AddedInputFits self.old.class self.old.left input.now result }
         ensures goes_on { RunGoesOn number input.now result self.old self.new }

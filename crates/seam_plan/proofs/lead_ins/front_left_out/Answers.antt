@@ -1,7 +1,9 @@
 -- Whether the first input has a lead-in, and whether the others want one.
 use Rattle.std.proofs.Common.{ap, ap₂, cond, not, subst, sym, ◌&&◌, ◌∙◌}
-use Rattle.frame_header.specs.Tables.{window_of}
-use Rattle.seam_plan.{proofs.LeadInLemmas.{front-is, front-none}, specs.Joins.fits_behind}
+use Rattle.frame_header.specs.{Fields.ClassFields, Tables.window_of}
+use Rattle.seam_plan.proofs.LeadInLemmas.{front-is, front-none}
+use Rattle.seam_plan.proofs.lead_ins.front_left_out.Goals.{After-needs_after}
+use Rattle.seam_plan.specs.Joins.{fits_behind}
 use Rattle.slot_plan.{proofs.PartLemmas.class-drop, specs.FreeBytes.FitBehindWindow}
 use Rattle.slot_plan.specs.Parts.{AreNeedsOfClass}
 use Rattle.seam_plan.proofs.lead_ins.front_left_out.Goals as goal
@@ -14,22 +16,24 @@ returns-then-not-has_lead_in c = λ class brought frames same all is run.
 pub fit_alone-requires : goal.fit_alone-requires
 fit_alone-requires c = subst FitBehindWindow (sym c.needs_after.ensures) c.requires.run
 
+-- the frames of the run after its first are of the class
+others : (c : After-needs_after) (class : ClassFields) → AreNeedsOfClass class c.args.run.now
+    → AreNeedsOfClass class c.needs_after.result.now
+others c class all = subst (AreNeedsOfClass class) (sym c.needs_after.ensures)
+    (class-drop class c.args.run.now 1 all)
+
 pub returns-then-fit_alone : goal.returns-then-fit_alone
 returns-then-fit_alone c = λ class brought frames same all is run.
-    let alone = c.fit_alone.ensures class
-    (subst (AreNeedsOfClass class) (sym c.needs_after.ensures)
-    (class-drop class c.args.run.now 1 all))
-    ∙ ap (fits_behind (window_of class.version) 0) c.needs_after.ensures in
     ap₂ (λ h a. cond (h && not a) 1 0) (sym c.if-not-has_lead_in.false) (sym c.if-fit_alone.true)
     ∙ front-is class brought frames c.args.run.now c.has_lead_in.result c.fit_alone.result run
-    (c.has_lead_in.ensures class brought same is) alone
+    (c.has_lead_in.ensures class brought same is) (c.fit_alone.ensures class
+    (others (goal.at.returns-then-fit_alone c).After-needs_after class all)
+    ∙ ap (fits_behind (window_of class.version) 0) c.needs_after.ensures)
 
 pub returns-else-fit_alone : goal.returns-else-fit_alone
 returns-else-fit_alone c = λ class brought frames same all is run.
-    let alone = c.fit_alone.ensures class
-    (subst (AreNeedsOfClass class) (sym c.needs_after.ensures)
-    (class-drop class c.args.run.now 1 all))
-    ∙ ap (fits_behind (window_of class.version) 0) c.needs_after.ensures in
     ap₂ (λ h a. cond (h && not a) 1 0) (sym c.if-not-has_lead_in.false) (sym c.if-fit_alone.false)
     ∙ front-is class brought frames c.args.run.now c.has_lead_in.result c.fit_alone.result run
-    (c.has_lead_in.ensures class brought same is) alone
+    (c.has_lead_in.ensures class brought same is) (c.fit_alone.ensures class
+    (others (goal.at.returns-else-fit_alone c).After-needs_after class all)
+    ∙ ap (fits_behind (window_of class.version) 0) c.needs_after.ensures)

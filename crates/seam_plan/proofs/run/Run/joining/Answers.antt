@@ -1,7 +1,7 @@
 -- The slot in which the first frame joins, as `joins` returns it.
-use Rattle.std.proofs.Common.{length, rules, subst, ◌≡◌}
+use Rattle.std.proofs.Common.{length, None, rules, Some, subst, ◌≡◌}
 use Rattle.frame_header.specs.{Fields.IsClass, Tables.window_of}
-use Rattle.seam_plan.proofs.JoinLemmas.{join-fit, joining-empty, joins-none, joins-some}
+use Rattle.seam_plan.proofs.JoinLemmas.{join-fit, joining-empty, joins-as}
 use Rattle.slot_plan.specs.{FreeBytes.IsJoinSlot, Parts.AreNeedsOfClass}
 use Rattle.seam_plan.proofs.run.Run.joining.Goals as goal
 
@@ -13,16 +13,16 @@ returns-then-is_empty-clause-joining c = λ class frames rest places before is n
 pub returns-in_default-clause-joining : goal.returns-in_default-clause-joining
 returns-in_default-clause-joining c = λ class frames rest places before is needs.
     let same = subst (λ k. AreNeedsOfClass k c.args.needs.now) is.of_class c.requires.same in
-    joins-none class c.args.seam frames c.args.self.now.left c.args.needs.now same
-    (subst IsClass is.of_class c.requires.within.known) is.left rest needs
+    joins-as class c.args.seam frames rest c.args.self.now.left c.args.needs.now None same
+    (subst IsClass is.of_class c.requires.within.known) is.left needs
     (subst (IsJoinSlot (window_of class.version) c.args.self.now.left c.args.needs.now)
     c.in_default.is (c.joins.ensures class same))
 
 pub returns-clause-joining : goal.returns-clause-joining
 returns-clause-joining c = λ class frames rest places before is needs.
     let same = subst (λ k. AreNeedsOfClass k c.args.needs.now) is.of_class c.requires.same in
-    joins-some class c.args.seam frames c.args.self.now.left c.args.needs.now same
-    (subst IsClass is.of_class c.requires.within.known) is.left rest c.in-Some.slot needs
+    joins-as class c.args.seam frames rest c.args.self.now.left c.args.needs.now
+    (Some c.in-Some.slot) same (subst IsClass is.of_class c.requires.within.known) is.left needs
     (subst (IsJoinSlot (window_of class.version) c.args.self.now.left c.args.needs.now)
     c.in-Some.is (c.joins.ensures class same))
 
