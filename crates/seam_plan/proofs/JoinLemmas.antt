@@ -1,13 +1,13 @@
 -- How frames join a run, by what it leaves.
-use Rattle.std.proofs.Common.{ap, arith, Bool, Contains, drop, length, List, None, Option, refl}
-use Rattle.std.proofs.Common.{Some, subst, sym, true, ℕ, [], ◌++◌, ◌<◌, ◌∙◌, ◌∷◌, ◌≡◌, ◌≤◌}
-use Rattle.std.proofs.lemmas.Bool.{and_from, and_parts, le-leb, leb-true}
-use Rattle.std.{proofs.lemmas.List.{drop-append-le, drop_all}, specs.Bool.Decides}
+use Rattle.std.proofs.Common.{ap, arith, Bool, Contains, length, List, None, Option, refl, Some}
+use Rattle.std.proofs.Common.{subst, sym, true, ℕ, [], ◌++◌, ◌<◌, ◌∷◌, ◌≡◌, ◌≤◌}
+use Rattle.std.{proofs.lemmas.Bool.{and_from, and_parts, le-leb, leb-true}, specs.Bool.Decides}
 use Rattle.std.specs.Prelude.{option_map, slice_index_or, ◌&&◌}
 use Rattle.frame_header.proofs.SlotLemmas.{areas-ascend}
 use Rattle.frame_header.specs.{Fields.{ClassFields, IsClass, SlotFields}, Slots.all_slots}
 use Rattle.frame_header.specs.Tables.{class_of, window_of}
-use Rattle.seam_plan.proofs.{FitLemmas.fits-tested, SlotLemmas.{find-least, find-none}}
+use Rattle.seam_plan.proofs.{FitLemmas.fits-tested, PlaceLemmas.drop-front}
+use Rattle.seam_plan.proofs.SlotLemmas.{find-least, find-none}
 use Rattle.seam_plan.specs.Decisions.{AddedFramesFit, IsJointOfFrames}
 use Rattle.seam_plan.specs.Frames.{needs_of, RunFrame}
 use Rattle.seam_plan.specs.Joins.{fits_behind, frame_in_slot, is_area_no_less, join_slot}
@@ -19,10 +19,6 @@ use Rattle.slot_plan.proofs.FreeByteLemmas.{more-behind, one-left, own-wanted, o
 use Rattle.slot_plan.specs.FreeBytes.{FitsBehind, IsJoinSlot, IsMostLeft, JoinsInSlot, need_in_slot}
 use Rattle.slot_plan.specs.{FreeBytes.needs_with_first_slot, Parts.{AreNeedsOfClass, own_slot_area}}
 use Rattle.slot_plan.specs.declared.needs.Need.{Need}
-
-drop-front : (xs ys : List Need) → drop (length xs) (xs ++ ys) ≡ ys
-drop-front xs ys = drop-append-le (length xs) xs ys (omega arith)
-    ∙ ap (λ l. l ++ ys) (drop_all (length xs) xs (omega arith))
 
 module _ (window left : ℕ) (run : List Need) (is : IsMostLeft window window run left) where
   run-fits : FitsBehind window window run

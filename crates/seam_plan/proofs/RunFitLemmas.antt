@@ -3,7 +3,7 @@
 use Rattle.std.proofs.Common.{ap, append-nil, append_assoc, arith, Bool, cond, Contains, drop}
 use Rattle.std.proofs.Common.{false, inl, inr, length, List, None, Option, refl, Some, subst, suc}
 use Rattle.std.proofs.Common.{sym, true, zero, ℕ, [], ◌++◌, ◌<◌, ◌∙◌, ◌∷◌, ◌≡◌, ◌⊎◌}
-use Rattle.std.proofs.lemmas.{Bool.and_parts, List.{drop-append-le, map-append}}
+use Rattle.std.proofs.lemmas.{Bool.and_parts, List.{drop-append-le, drop-map, map-append}}
 use Rattle.std.specs.Prelude.{find, not, option_map, ◌&&◌}
 use Rattle.frame_header.specs.{Fields.{ClassFields, SlotFields}, Slots.all_slots, Tables.window_of}
 use Rattle.seam_plan.proofs.{FitLemmas.fits-tested, FollowLemmas.{added, sounds}}
@@ -250,12 +250,7 @@ inputs-joined class first inputs some alone all =
       front = within;
       own = all_added.0;
       run = drop-append-le front first.frames (added joints) (omega (arith, within));
-      fits = subst (FitsBehind window window) (needs-drop front (run_with first joints))
+      fits = subst (FitsBehind window window)
+          (drop-map (λ (f : RunFrame). f.need) front (run_with first joints))
           (fits-drop window window front (needs_of (run_with first joints)) all_added.1);
     }
-  where
-    needs-drop : (k : ℕ) (frames : List RunFrame)
-        → drop k (needs_of frames) ≡ needs_of (drop k frames)
-    needs-drop zero frames = refl
-    needs-drop (suc k) [] = refl
-    needs-drop (suc k) (f ∷ frames) = needs-drop k frames
