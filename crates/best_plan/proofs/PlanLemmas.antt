@@ -1,7 +1,7 @@
 -- The best plan with a lead-in, and without one.
 use Rattle.std.proofs.Common.{All, ap, arith, Contains, false, get_or, length, List, map, refl}
 use Rattle.std.proofs.Common.{subst, sym, true, ℕ, [], ◌++◌, ◌<◌, ◌∙◌, ◌∷◌, ◌≡◌, ◌≤◌}
-use Rattle.std.proofs.lemmas.List.{get_or-map, get_or_default, length-map}
+use Rattle.std.proofs.lemmas.{Bool.true≢false, List.{get_or-map, get_or_default, length-map}}
 use Rattle.best_plan.proofs.SumLemmas.{fits-laid, laid-fits, table-bound, table-own, table-sums}
 use Rattle.best_plan.proofs.WalkLemmas.{best-walked, IsWalked, table-width, walked-best}
 use Rattle.best_plan.proofs.WalkLemmas.{walked-more}
@@ -120,9 +120,6 @@ module _ (window : ℕ) (class : ClassFields) (sums : List ℕ) (cost place : �
         begin = begin;
       }
 
-not-false : true ≡ false → ⊥
-not-false e = absurd cc
-
 lead-whole : (window : ℕ) (choices : HeaderFields → List SlotFields) (needs : List Need) (d : Need)
     (class : ClassFields) (sums places : List ℕ) (lead : Placed) (more : List Placed) (free : ℕ)
     → 0 < length needs → class ≡ class_of (get_or needs 0 d).header
@@ -162,7 +159,7 @@ plan-behind window choices needs d class sums places lead free old new placed so
     record {
       lead_in = true;
       without = (
-        (λ e. absurd (not-false e)),
+        (λ e. absurd (true≢false e)),
         (λ can. absurd (cannot-sum window choices needs sums places few table none can)),
       );
       whole = subst (IsBestPlanFor window 0 (items_with_lead_in true choices needs)) all

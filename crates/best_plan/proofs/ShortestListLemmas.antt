@@ -1,7 +1,7 @@
 -- The plan's list is one of the lists with as many lead-ins.
 use Rattle.std.proofs.Common.{arith, Bool, Contains, false, List, map, None, Option, refl, Some}
 use Rattle.std.proofs.Common.{subst, suc, sum, sym, true, zero, ℕ, [], ◌↔◌, ◌∷◌, ◌≡◌, ◌≤◌}
-use Rattle.std.proofs.lemmas.List.{append-nil}
+use Rattle.std.proofs.lemmas.{Bool.true≢false, List.append-nil}
 use Rattle.best_plan.specs.{Best.{IsBestPlanFor, items_with_lead_in}, Laws.BestIsShortest}
 use Rattle.frame_header.specs.{Fields.{ClassFields, HeaderFields, SlotFields}, Slots.all_slots}
 use Rattle.frame_header.specs.Tables.{area_of, class_of}
@@ -11,9 +11,6 @@ use Rattle.slot_plan.specs.Parts.{all_items, AreLeadIns, IsLeadIn, lead_in_item,
 use Rattle.slot_plan.specs.Parts.{open_frame, part_items, PlanItem, slot_areas}
 use Rattle.slot_plan.specs.{Plans.{IsPlanFor, item_areas}, declared.needs.Need.Need}
 use Rattle.slot_plan.specs.declared.needs.Placed.{Placed}
-
-true-false : true ≡ false → ⊥
-true-false e = absurd cc
 
 -- without a lead-in the choices are the same
 without-lead : (window : ℕ) (choices : HeaderFields → List SlotFields) (needs : List Need)
@@ -29,47 +26,42 @@ pub contains-one : (m n : ℕ) → Contains (m ∷ []) n → m ≡ n
 contains-one m n (zero, within, at) = at
 contains-one m n (suc i, within, at) = absurd (omega (arith, within))
 
--- areas with a lead-in of one slot are areas with a lead-in of any slot
-pub widened : (choices : HeaderFields → List SlotFields) (first : Need) (needs : List Need)
-    (slot : SlotFields) (areas : List ℕ) → Contains all_slots slot → AreChosenAreas (map open_frame
-    (lead_in_item (class_of first.header) (slot ∷ [])
-    ∷ map (need_item choices) (first ∷ needs))) areas → AreChosenAreas (map open_frame
-    (lead_in_item (class_of first.header) all_slots ∷ map (need_item choices) (first ∷ needs)))
-    areas
-unfolding AreChosenAreas
-widened choices first needs slot [] has chosen = absurd chosen
-widened choices first needs slot (area ∷ areas) has chosen =
-    let class : ClassFields = class_of first.header in (
-      subst (Contains (slot_areas class false all_slots)) (contains-one (area_of class slot false)
-          area chosen.0) (Contains-area class false all_slots slot has),
-      chosen.1,
-    )
+module _ (choices : HeaderFields → List SlotFields) (first : Need) (needs : List Need)
+    (slot : SlotFields) where
+  abbrev items_behind : List SlotFields → List PlanItem
+  items_behind slots =
+      lead_in_item (class_of first.header) slots ∷ map (need_item choices) (first ∷ needs)
 
--- with a lead-in of one slot and of any slot, the frames are the same
-pub same-frames : (choices : HeaderFields → List SlotFields) (first : Need) (needs : List Need)
-    (slot : SlotFields) (areas : List ℕ)
-    → frames_with_areas (map open_frame (lead_in_item (class_of first.header) (slot ∷ [])
-    ∷ map (need_item choices) (first ∷ needs))) areas ≡ frames_with_areas (map open_frame
-    (lead_in_item (class_of first.header) all_slots ∷ map (need_item choices) (first ∷ needs)))
-    areas
-unfolding frames_with_areas
-same-frames choices first needs slot [] = refl
-same-frames choices first needs slot (area ∷ areas) = refl
+  -- areas with a lead-in of one slot are areas with a lead-in of any slot
+  pub widened : (areas : List ℕ) → Contains all_slots slot
+      → AreChosenAreas (map open_frame (items_behind (slot ∷ []))) areas
+      → AreChosenAreas (map open_frame (items_behind all_slots)) areas
+  unfolding AreChosenAreas
+  widened [] has chosen = absurd chosen
+  widened (area ∷ areas) has chosen =
+      let class : ClassFields = class_of first.header in (
+        subst (Contains (slot_areas class false all_slots)) (contains-one (area_of class slot false)
+            area chosen.0) (Contains-area class false all_slots slot has),
+        chosen.1,
+      )
 
-with-lead : (window : ℕ) (choices : HeaderFields → List SlotFields) (first : Need)
-    (needs : List Need) (slot : SlotFields) (placed best : List Placed) → Contains all_slots slot
-    → IsPlanFor window (lead_in_item (class_of first.header) (slot ∷ [])
-    ∷ map (need_item choices) (first ∷ needs)) placed → IsBestPlanFor window 0
-    (lead_in_item (class_of first.header) all_slots ∷ map (need_item choices) (first ∷ needs)) best
-    → sum (item_areas (lead_in_item (class_of first.header) all_slots
-    ∷ map (need_item choices) (first ∷ needs)) best) ≤ sum (item_areas
-    (lead_in_item (class_of first.header) (slot ∷ []) ∷ map (need_item choices) (first ∷ needs))
-    placed)
-with-lead window choices first needs slot placed best has plan is =
-    let areas : List ℕ = item_areas (lead_in_item (class_of first.header) (slot ∷ [])
-    ∷ map (need_item choices) (first ∷ needs)) placed in
-    is.best.shortest areas (widened choices first needs slot areas has plan.least.chosen)
-    (subst (HasLayout window 0) (same-frames choices first needs slot areas) plan.least.feasible)
+  -- with a lead-in of one slot and of any slot, the frames are the same
+  pub same-frames : (areas : List ℕ)
+      → frames_with_areas (map open_frame (items_behind (slot ∷ []))) areas
+      ≡ frames_with_areas (map open_frame (items_behind all_slots)) areas
+  unfolding frames_with_areas
+  same-frames [] = refl
+  same-frames (area ∷ areas) = refl
+
+  with-lead : (window : ℕ) (placed best : List Placed) → Contains all_slots slot
+      → IsPlanFor window (items_behind (slot ∷ [])) placed
+      → IsBestPlanFor window 0 (items_behind all_slots) best
+      → sum (item_areas (items_behind all_slots) best)
+      ≤ sum (item_areas (items_behind (slot ∷ [])) placed)
+  with-lead window placed best has plan is =
+      let areas : List ℕ = item_areas (items_behind (slot ∷ [])) placed in
+      is.best.shortest areas (widened areas has plan.least.chosen)
+      (subst (HasLayout window 0) (same-frames areas) plan.least.feasible)
 
 -- the frames of one part are its lead-in, if any, and its own
 pub whole-one : (choices : HeaderFields → List SlotFields) (needs : List Need)
@@ -98,13 +90,13 @@ unfolding IsLeadIn part_items items_with_lead_in
 by-lead window choices needs placed best false None without is alone plan =
     (((λ _. refl), (λ _. refl)), without-lead window choices needs placed best plan is)
 by-lead window choices needs placed best true None without is alone plan =
-    absurd (true-false (without.1 alone))
+    absurd (true≢false (without.1 alone))
 by-lead window choices [] placed best lead_in (Some slot) without is alone plan = absurd alone
 by-lead window choices (first ∷ needs) placed best false (Some slot) without is alone plan =
     absurd (alone.0 (without.0 refl))
 by-lead window choices (first ∷ needs) placed best true (Some slot) without is alone plan = (
-  ((λ e. absurd (true-false e)), (λ e. absurd (some-one slot e))),
-  with-lead window choices first needs slot placed best alone.2 plan is,
+  ((λ e. absurd (true≢false e)), (λ e. absurd (some-one slot e))),
+  with-lead choices first needs slot window placed best alone.2 plan is,
 )
 
 by-leads : (window : ℕ) (choices : HeaderFields → List SlotFields) (needs : List Need)

@@ -1,9 +1,11 @@
 -- The list that the table gives, after the lead-in that its sums give.
-use Rattle.std.proofs.Common.{ap, arith, get_or, length, map, subst, sym, [], ◌++◌, ◌∙◌, ◌∷◌}
+use Rattle.std.proofs.Common.{ap, arith, get_or, length, map, subst, sym, [], ◌++◌, ◌∙◌, ◌∷◌, ◌≡◌}
 use Rattle.best_plan.proofs.PlanLemmas.{first-sum, plan-behind, plan-without, whole-sum}
-use Rattle.best_plan.{proofs.WalkLemmas.table-width, specs.{Best.IsBestPlan, Table.IsLeadInOfSums}}
+use Rattle.best_plan.proofs.{WalkLemmas.table-width, shortest.best.Goals.In_ok-table}
+use Rattle.best_plan.specs.{Best.IsBestPlan, Table.IsLeadInOfSums}
 use Rattle.slot_plan.{proofs.PartLemmas.{one-class, window-first}, specs.Layouts.HasLayout}
-use Rattle.slot_plan.specs.{Parts.own_frame, Plans.entries, Reserve.free_bytes_behind}
+use Rattle.slot_plan.specs.{Parts.{own_frame, window_in}, Plans.entries, Reserve.free_bytes_behind}
+use Rattle.best_plan.proofs.shortest.best.Given as given
 use Rattle.best_plan.proofs.shortest.best.Goals as goal
 
 pub table_of-requires-clause-class : goal.table_of-requires-clause-class
@@ -18,6 +20,13 @@ pub walk-requires-2-clause-class : goal.walk-requires-2-clause-class
 walk-requires-2-clause-class g c = one-class c.new-lengths.result c.args.needs.now
     c.index-needs-0.result c.requires.class (c.new-lengths.ensures.class ∙ c.class-class.ensures)
 
+-- the window of the first frame is the window of all
+whole_window : (g : given.Over) (c : In_ok-table g)
+    → c.window-window.result ≡ window_in c.args.needs.now
+whole_window g c =
+    window-first c.args.needs.now c.index-needs-0.result c.class-class.result c.window-window.result
+    c.requires.class c.requires.some c.class-class.ensures c.window-window.ensures.window
+
 pub index-requires : goal.index-requires
 index-requires g c = omega (
   arith,
@@ -30,9 +39,7 @@ returns-then-index-lt-NOTHING g c =
     let needs = c.args.needs.now in
     let choices = g.P.Policy.choices_of c.args.policy.now in
     let sums = c.in_ok-table.table.sums.items in
-    let window =
-    window-first needs c.index-needs-0.result c.class-class.result c.window-window.result
-    c.requires.class c.requires.some c.class-class.ensures c.window-window.ensures.window in
+    let window = whole_window g (goal.at.returns-then-index-lt-NOTHING g c).In_ok-table in
     let first = first-sum c.window-window.result choices needs sums
     c.in_ok-table.table.places.items c.index.result.now c.in_ok-table.ensures c.index.ensures in
     subst (λ n. IsBestPlan n choices needs (entries c.from_placed.result)) window
@@ -50,9 +57,7 @@ lead_in-frame-requires-clause-sums g c =
 pub lead_in-frame-requires-clause-some : goal.lead_in-frame-requires-clause-some
 lead_in-frame-requires-clause-some g c =
     let needs = c.args.needs.now in
-    let window =
-    window-first needs c.index-needs-0.result c.class-class.result c.window-window.result
-    c.requires.class c.requires.some c.class-class.ensures c.window-window.ensures.window in
+    let window = whole_window g (goal.at.lead_in-frame-requires-clause-some g c).In_ok-table in
     let feasible =
     subst (λ n. HasLayout n n (map own_frame needs)) (sym window) c.requires.feasible in
     let whole = whole-sum c.window-window.result (g.P.Policy.choices_of c.args.policy.now) needs
@@ -66,9 +71,7 @@ returns g c =
     let choices = g.P.Policy.choices_of c.args.policy.now in
     let sums = c.in_ok-table.table.sums.items in
     let places = c.in_ok-table.table.places.items in
-    let window =
-    window-first needs c.index-needs-0.result c.class-class.result c.window-window.result
-    c.requires.class c.requires.some c.class-class.ensures c.window-window.ensures.window in
+    let window = whole_window g (goal.at.returns g c).In_ok-table in
     let first = first-sum c.window-window.result choices needs sums places
     c.index.result.now c.in_ok-table.ensures c.index.ensures in
     let by = subst (λ l. IsLeadInOfSums c.window-window.result c.class-class.result l
