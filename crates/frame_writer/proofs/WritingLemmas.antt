@@ -20,15 +20,16 @@ use Rattle.side_info.specs.FrameFields.{FrameFields}
 
 -- ---- facts about a result
 
--- what follows from a fact about a result without error holds of it
-pub ok-map : {T E P Q : Type 0} (r : Result T E) → (P → Q) → OnOk r P → OnOk r Q
-ok-map (Ok x) f p = f p
-ok-map (Err e) f p = tt
+module _ {T E P Q : Type 0} where
+  -- what follows from a fact about a result without error holds of it
+  pub ok-map : (r : Result T E) → (P → Q) → OnOk r P → OnOk r Q
+  ok-map (Ok x) f p = f p
+  ok-map (Err e) f p = tt
 
--- what follows from a fact about an error holds of it
-pub err-map : {T E P Q : Type 0} (r : Result T E) → (P → Q) → OnErr r P → OnErr r Q
-err-map (Ok x) f p = tt
-err-map (Err e) f p = f p
+  -- what follows from a fact about an error holds of it
+  pub err-map : (r : Result T E) → (P → Q) → OnErr r P → OnErr r Q
+  err-map (Ok x) f p = tt
+  err-map (Err e) f p = f p
 
 -- what follows from two facts about a result holds of it
 pub ok-both : {T E P Q R : Type 0} (r : Result T E) → (P → Q → R) → OnOk r P → OnOk r Q → OnOk r R

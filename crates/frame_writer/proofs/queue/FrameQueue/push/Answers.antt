@@ -1,45 +1,52 @@
 -- There is room, and pushing keeps what the queues hold together.
 use Rattle.std.proofs.Common.{ap, arith, length, length-append, List, OnOk, subst, sym, [], ◌++◌}
-use Rattle.std.proofs.Common.{◌+◌, ◌∙◌, ◌∷◌, ◌≡◌}
+use Rattle.std.proofs.Common.{◌+◌, ◌<◌, ◌∙◌, ◌∷◌, ◌≡◌}
 use Rattle.circular_buffer.specs.Buffer.{buffer}
 use Rattle.frame_header.specs.{Fields.{ClassFields, IsHeader}, Tables.class_of}
 use Rattle.frame_writer.proofs.FrameLemmas.{areas_in-pushed, AreOf-more, few-wait, more-written}
 use Rattle.frame_writer.proofs.FrameLemmas.{pushed-kept}
+use Rattle.frame_writer.proofs.queue.FrameQueue.push.Goals.{After-frame, After-push}
 use Rattle.frame_writer.specs.Frames.{areas_length, AreFieldsOfClass, AreFramesWritten, Frame}
 use Rattle.frame_writer.specs.{Frames.{frame_area, IsNextSettled, WaitingFrames}, Laid.AreAreasLaid}
 use Rattle.frame_writer.specs.Laws.{HasFrameRoom}
 use Rattle.side_info.specs.{FrameFields.FrameFields, Side.SideFits}
 use Rattle.frame_writer.proofs.queue.FrameQueue.push.Goals as goal
 
+-- the frames that wait
+abbrev held : After-frame → WaitingFrames
+held c = record {
+  class = c.self.inside.class;
+  kept = c.self.inside.kept.items;
+  waiting = c.self.inside.areas;
+}
+
 -- another frame may wait
-room_of : (held old : WaitingFrames) → held ≡ old → AreFieldsOfClass held.class held.kept
-    → areas_length held.kept ≡ length held.waiting.bytes → (IsNextSettled old → ⊥)
-    → HasFrameRoom held
-room_of held old view are same unsettled =
-    few-wait held are same (subst (λ (h : WaitingFrames). IsNextSettled h → ⊥) (sym view) unsettled)
+room : (c : After-frame) → HasFrameRoom (held c)
+room c =
+    few-wait (held c) c.self.invariant.3 c.self.invariant.2
+    (subst (λ (h : WaitingFrames). IsNextSettled h → ⊥) (sym c.self.view_is) c.requires.unsettled)
 
 pub push-requires-clause-room : goal.push-requires-clause-room
-push-requires-clause-room c =
-    let room = room_of (record {
-      class = c.self.inside.class;
-      kept = c.self.inside.kept.items;
-      waiting = c.self.inside.areas;
-    }) c.args.self.now c.self.view_is c.self.invariant.3 c.self.invariant.2 c.requires.unsettled in
-    omega (arith, room.room, c.area-area.ensures.most)
+push-requires-clause-room c = omega (arith, (room c).room, c.area-area.ensures.most)
+
+-- the frame is the last that waits
+pushed : (c : After-push) → length c.self.inside.kept.items < 256
+    → (c.try_push_back.new.self.capacity ≡ 256)
+    × (c.try_push_back.new.self.items ≡ c.self.inside.kept.items ++ c.args.frame.now.kept ∷ [])
+pushed c few =
+    let queue = c.self.inside.kept in
+    pushed-kept queue c.try_push_back.new.self c.args.frame.now.kept
+    c.try_push_back.result c.self.invariant.0 few c.try_push_back.ensures.variant
+    (subst (λ (k : FrameFields). OnOk c.try_push_back.result (c.try_push_back.new.self ≡ buffer
+    (queue.items ++ k ∷ []) queue.capacity)) c.front-front.ensures c.try_push_back.ensures.ok)
 
 pub invariant_of-self : goal.invariant_of-self
 invariant_of-self c =
-    let room = room_of (record {
-      class = c.self.inside.class;
-      kept = c.self.inside.kept.items;
-      waiting = c.self.inside.areas;
-    }) c.args.self.now c.self.view_is c.self.invariant.3 c.self.invariant.2 c.requires.unsettled in
+    let at = goal.at.invariant_of-self c in
     let k : FrameFields = c.args.frame.now.kept in
     let queue = c.self.inside.kept in
-    let pushed = pushed-kept queue c.try_push_back.new.self k
-    c.try_push_back.result c.self.invariant.0 room.few c.try_push_back.ensures.variant
-    (subst (λ (k : FrameFields). OnOk c.try_push_back.result (c.try_push_back.new.self ≡ buffer
-    (queue.items ++ k ∷ []) queue.capacity)) c.front-front.ensures c.try_push_back.ensures.ok) in
+    let few = (room at.After-frame).few in
+    let pushed = pushed at.After-push few in
     let class : class_of c.args.frame.now.kept.header ≡ c.self.inside.class =
     c.requires.class ∙ sym (ap (λ (h : WaitingFrames). h.class) c.self.view_is) in
     let fits : SideFits c.self.inside.class c.args.frame.now.kept.side =
@@ -53,7 +60,7 @@ invariant_of-self c =
     ∙ ap (λ n. length bytes + n) (c.area-area.ensures.area ∙ ap frame_area c.front-front.ensures)
     in (
       pushed.0,
-      omega (arith, ap length pushed.1, length-append queue.items (k ∷ []), room.few),
+      omega (arith, ap length pushed.1, length-append queue.items (k ∷ []), few),
       ap (λ (ks : List FrameFields). areas_length ks) pushed.1
           ∙ areas_in-pushed queue.items k bytes c.push.new.self.bytes c.self.invariant.2 long,
       subst (AreFieldsOfClass c.self.inside.class) (sym pushed.1)
@@ -61,32 +68,13 @@ invariant_of-self c =
     )
 
 pub returns-clause-kept : goal.returns-clause-kept
-returns-clause-kept c =
-    let room = room_of (record {
-      class = c.self.inside.class;
-      kept = c.self.inside.kept.items;
-      waiting = c.self.inside.areas;
-    }) c.args.self.now c.self.view_is c.self.invariant.3 c.self.invariant.2 c.requires.unsettled in
-    let queue = c.self.inside.kept in
-    (pushed-kept queue c.try_push_back.new.self c.args.frame.now.kept c.try_push_back.result
-    c.self.invariant.0 room.few c.try_push_back.ensures.variant
-    (subst (λ (k : FrameFields). OnOk c.try_push_back.result (c.try_push_back.new.self ≡ buffer
-    (queue.items ++ k ∷ []) queue.capacity)) c.front-front.ensures c.try_push_back.ensures.ok)).1
+returns-clause-kept c = (pushed c (room (goal.at.returns-clause-kept c).After-frame).few).1
     ∙ ap (λ (h : WaitingFrames). h.kept ++ c.args.frame.now.kept ∷ []) c.self.view_is
 
 pub returns-clause-written : goal.returns-clause-written
 returns-clause-written c = λ taken fs are.
-    let room = room_of (record {
-      class = c.self.inside.class;
-      kept = c.self.inside.kept.items;
-      waiting = c.self.inside.areas;
-    }) c.args.self.now c.self.view_is c.self.invariant.3 c.self.invariant.2 c.requires.unsettled in
-    let k : FrameFields = c.args.frame.now.kept in
     let queue = c.self.inside.kept in
-    let pushed = pushed-kept queue c.try_push_back.new.self k
-    c.try_push_back.result c.self.invariant.0 room.few c.try_push_back.ensures.variant
-    (subst (λ (k : FrameFields). OnOk c.try_push_back.result (c.try_push_back.new.self ≡ buffer
-    (queue.items ++ k ∷ []) queue.capacity)) c.front-front.ensures c.try_push_back.ensures.ok) in
+    let pushed = pushed c (room (goal.at.returns-clause-written c).After-frame).few in
     let f : Frame = record { kept = c.front-front.result; payload = c.frame.inside.payload } in
     let is : f ≡ c.args.frame.now = λ i. record {
       kept = c.front-front.ensures i;
