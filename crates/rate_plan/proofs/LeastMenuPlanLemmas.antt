@@ -2,8 +2,9 @@
 use Rattle.std.proofs.Common.{AllPairs, ap, arith, Bool, cond, Err, false, find, get_or, inl, inr}
 use Rattle.std.proofs.Common.{is_none, length, List, map, MatchOption, None, Ok, ok_or, Option}
 use Rattle.std.proofs.Common.{refl, Result, Some, subst, suc, sym, take, true, unwrap_or, zero, ℕ}
-use Rattle.std.proofs.{Common.{[], ◌+◌, ◌-◌, ◌<◌, ◌↔◌, ◌∙◌, ◌∷◌, ◌≡◌, ◌≤◌}, lemmas.Bool.cases_lt}
-use Rattle.std.{proofs.lemmas.List.take_all, specs.{List.range_with_len, Option.option_or}}
+use Rattle.std.proofs.Common.{[], ◌+◌, ◌-◌, ◌<◌, ◌↔◌, ◌∙◌, ◌∷◌, ◌≡◌, ◌≤◌}
+use Rattle.std.proofs.lemmas.{Bool.{cases_lt, true≢false}, List.take_all}
+use Rattle.std.specs.{List.range_with_len, Option.option_or}
 use Rattle.frame_header.specs.{Fields.{ClassFields, SlotFields}, Tables.{class_of, window_of}}
 use Rattle.rate_plan.specs.Laws.{LeastMenuPlanIsThePlan}
 use Rattle.rate_plan.specs.LeastMenuPlan.{first_unfit_frame, is_unfit_frame, least_menu_placement}
@@ -81,9 +82,6 @@ first-of test (suc n) from =
       ],
     )
 
-not-false : true ≡ false → ⊥
-not-false e = absurd cc
-
 module _ (window : ℕ) (class : ClassFields) (menu : List SlotFields) (needs : List Need)
     (same : AreNeedsOfClass class needs) (ascend : HasAscendingAreas class menu) where
   lead-by : (lead_in : Bool) (placed : List Placed)
@@ -96,7 +94,7 @@ module _ (window : ℕ) (class : ClassFields) (menu : List SlotFields) (needs : 
   lead-by true placed without whole =
       ap (λ o. option_or o (least_placement window (menu_items true menu needs)))
       (none-found window (menu_items false menu needs)
-      (ordered-items false class menu needs same ascend) (λ can. not-false (without.1 can)))
+      (ordered-items false class menu needs same ascend) (λ can. true≢false (without.1 can)))
       ∙ plan-found window (menu_items true menu needs)
       (ordered-items true class menu needs same ascend) placed whole
 
@@ -156,7 +154,7 @@ module _ (window : ℕ) (class : ClassFields) (menu : List SlotFields) (needs : 
       }
   least-by placed i None (Some made) first second is = record {
     lead_in = true;
-    without = ((λ e. absurd (not-false e)), (λ can. absurd (none-can false first can)));
+    without = ((λ e. absurd (true≢false e)), (λ can. absurd (none-can false first can)));
     whole = found-for true placed (second ∙ ap (λ (r : Result (List Placed) ℕ).
         elim r as (λ _. Option (List Placed)) [ Ok p ↦ Some p | Err j ↦ Some made ]) is);
   }
@@ -188,13 +186,13 @@ module _ (window : ℕ) (class : ClassFields) (menu : List SlotFields) (needs : 
       at : (found : Option (List SlotFields))
           → first_list window (menu_items true menu (take (k + 1) needs)) ≡ found
           → is_none found ≡ false → CanBeLaidFromMenu window true menu (take (k + 1) needs)
-      at None is fit = absurd (not-false fit)
+      at None is fit = absurd (true≢false fit)
       at (Some slots) is fit =
           list-can window (menu_items true menu (take (k + 1) needs)) (ordered-front k) slots is
 
   front-never : (k : ℕ) → is_unfit_frame window menu needs k ≡ true
       → CanBeLaidFromMenu window true menu (take (k + 1) needs) → ⊥
-  front-never k unfit can = not-false (sym unfit ∙ fit-before k can)
+  front-never k unfit can = true≢false (sym unfit ∙ fit-before k can)
 
   least-unfit : (i : ℕ) → 1 ≤ length needs → least_menu_plan window menu needs ≡ Err i
       → IsFirstUnfitFrame window menu needs i
@@ -222,7 +220,7 @@ module _ (window : ℕ) (class : ClassFields) (menu : List SlotFields) (needs : 
           × ((k : ℕ) → 0 ≤ k → k < j → is_unfit_frame window menu needs k ≡ false))
           → unwrap_or found 0 ≡ i → IsFirstUnfitFrame window menu needs i
       at whole without behind None fits here = absurd
-          (not-false (sym whole ∙ fits (length needs - 1) (omega arith) (omega (arith, some))))
+          (true≢false (sym whole ∙ fits (length needs - 1) (omega arith) (omega (arith, some))))
       at whole without behind (Some j) first here =
           subst (IsFirstUnfitFrame window menu needs) here (record {
             never = λ lead_in. elim lead_in as (λ b. CanBeLaidFromMenu window b menu needs

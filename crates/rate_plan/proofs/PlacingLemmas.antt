@@ -1,7 +1,7 @@
 -- What is placed from a menu is the plan.
 use Rattle.std.proofs.Common.{arith, false, List, lit≤, map, None, Option, refl, Some, subst, sym}
 use Rattle.std.proofs.Common.{true, ℕ, [], ◌++◌, ◌+◌, ◌-◌, ◌∙◌, ◌∷◌, ◌≡◌, ◌≤◌}
-use Rattle.std.proofs.lemmas.List.{append-nil}
+use Rattle.std.proofs.lemmas.{Bool.true≢false, List.append-nil}
 use Rattle.frame_header.specs.{Fields.{ClassFields, SlotFields}, Tables.{class_of, window_of}}
 use Rattle.frame_header.specs.declared.version.Version.{Version, TheVariants.One}
 use Rattle.rate_plan.specs.Menus.{IsMenuPlan, menu_choices, menu_items}
@@ -49,9 +49,6 @@ lead-among window class menu slot items (p ∷ placed) least all =
     (only_one slot p.slot all.2.chosen) least in
     (all.0, all.1, subst (λ n. IsLeastSlot n class false menu p.slot) wanted here, all.3)
 
-not-false : true ≡ false → ⊥
-not-false e = absurd cc
-
 menu-placed : (window : ℕ) (menu : List SlotFields) (needs : List Need)
     (lead_in : Option SlotFields) (placed : List Placed)
     → IsPlacedLeadIn window menu (menu_choices menu) needs lead_in
@@ -69,7 +66,7 @@ menu-placed window menu (first ∷ needs) (Some slot) placed is all =
     record {
       lead_in = true;
       without = (
-        (λ e. absurd (not-false e)),
+        (λ e. absurd (true≢false e)),
         (λ can. absurd (omega (arith, is.0, (needed-can window (map open_frame items) can).0))),
       );
       whole = plan-placed window (menu_items true menu (first ∷ needs)) placed

@@ -1,6 +1,7 @@
 -- The first unfit frame, or the plan.
 use Rattle.std.proofs.Common.{rules}
 use Rattle.rate_plan.proofs.LeastMenuPlanLemmas.{plan-answered, unfit-answered}
+use Rattle.rate_plan.proofs.planning.rate_plan.Goals.{After-class-class}
 use Rattle.slot_plan.{proofs.PartLemmas.one-class, specs.Plans.entries}
 use Rattle.rate_plan.proofs.planning.rate_plan.Goals as goal
 
@@ -13,12 +14,8 @@ first_unfit-requires-clause-needs c = record {
 }
 
 pub fit_plan-requires-clause-needs : goal.fit_plan-requires-clause-needs
-fit_plan-requires-clause-needs c = record {
-  class_is = one-class c.class-class.result c.args.needs.now c.index-needs-0.result c.requires.class
-      c.class-class.ensures;
-  some = c.requires.some;
-  few = c.requires.few;
-}
+fit_plan-requires-clause-needs c =
+    first_unfit-requires-clause-needs (goal.at.fit_plan-requires-clause-needs c).After-class-class
 
 pub returns-in-Some : goal.returns-in-Some
 returns-in-Some c = record {

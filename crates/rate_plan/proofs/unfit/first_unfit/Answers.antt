@@ -1,6 +1,7 @@
 -- One more frame, and the first that doesn't fit.
 use Rattle.std.proofs.Common.{ap, arith, false, subst, true, ◌∙◌, ◌≡◌}
 use Rattle.rate_plan.proofs.FitLemmas.{area-at, most_area, to-all, to-begun, to-more, to-unfit}
+use Rattle.rate_plan.proofs.unfit.first_unfit.Goals.{After-area-area}
 use Rattle.rate_plan.specs.LargestAreas.{menu_largest_area}
 use Rattle.rate_plan.specs.Menus.{CanBeLaidFromMenu, IsFirstUnfitFrame}
 use Rattle.slot_plan.specs.Reserve.{free_bytes_behind}
@@ -15,15 +16,20 @@ loop-i-init c = record {
       (c.area.ensures ∙ c.of_menu-largest.ensures.are false));
 }
 
-pub returns-then-need-free : goal.returns-then-need-free
-returns-then-need-free c =
+-- the frame's area is the largest on the menu
+most : (c : After-area-area) → c.area-area.result ≡ most_area c.args.menu.now c.index-needs-i.result
+most c =
     let need = c.index-needs-i.result in
-    let area : c.area-area.result ≡ most_area c.args.menu.now need =
     c.area-area.ensures
     ∙ ap (λ n. menu_largest_area c.of_menu-largest.result n.header.protected) c.need.view_is
     ∙ c.of_menu-largest.ensures.are need.header.protected
     ∙ area-at c.args.class c.args.menu.now c.args.needs.now c.loop-i.i need
-    c.requires.needs.class_is c.loop-i-test.true c.index-needs-i.is in
+    c.requires.needs.class_is c.loop-i-test.true c.index-needs-i.is
+
+pub returns-then-need-free : goal.returns-then-need-free
+returns-then-need-free c =
+    let need = c.index-needs-i.result in
+    let area = most (goal.at.returns-then-need-free c).After-area-area in
     subst (λ n. IsFirstUnfitFrame n c.args.menu.now c.args.needs.now c.loop-i.i)
     c.window-window.ensures.window
     (to-unfit c.window-window.result c.args.class c.args.menu.now c.args.needs.now c.loop-i.i need
@@ -34,12 +40,7 @@ returns-then-need-free c =
 pub loop-i-preserved : goal.loop-i-preserved
 loop-i-preserved c =
     let need = c.index-needs-i.result in
-    let area : c.area-area.result ≡ most_area c.args.menu.now need =
-    c.area-area.ensures
-    ∙ ap (λ n. menu_largest_area c.of_menu-largest.result n.header.protected) c.need.view_is
-    ∙ c.of_menu-largest.ensures.are need.header.protected
-    ∙ area-at c.args.class c.args.menu.now c.args.needs.now c.loop-i.i need
-    c.requires.needs.class_is c.loop-i-test.true c.index-needs-i.is in
+    let area = most (goal.at.loop-i-preserved c).After-area-area in
     record {
       free = c.free_behind-free-in-loop-i.ensures.within;
       fit = to-more c.window-window.result c.args.class c.args.menu.now c.args.needs.now c.loop-i.i
