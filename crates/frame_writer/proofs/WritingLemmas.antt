@@ -77,54 +77,41 @@ handed-then {old} {mid} {new} p q = record {
       (q.written (taken ++ p.moved) fs (p.written taken fs are));
 }
 
--- the first frame was taken
-pub first-handed : (old : WaitingFrames) (c : ClassFields) (k : FrameFields)
-    (ks left : List FrameFields)
-    (waiting less : WaitingAreas) → record { class = c; kept = ks; waiting = waiting } ≡ old
-    → ks ≡ k ∷ drop 1 ks → left ≡ drop 1 ks →
-    less.bytes ≡ drop (frame_area k) waiting.bytes →
-    ((given : List ℕ) (ps : List FrameData) → AreAreasLaid given waiting ps
+module _ (old : WaitingFrames) (c : ClassFields) (k : FrameFields) (ks left : List FrameFields)
+    (waiting less : WaitingAreas)
+    (view : record { class = c; kept = ks; waiting = waiting } ≡ old) (is : ks ≡ k ∷ drop 1 ks)
+    (rest : left ≡ drop 1 ks) (drops : less.bytes ≡ drop (frame_area k) waiting.bytes)
+    (step : (given : List ℕ) (ps : List FrameData) → AreAreasLaid given waiting ps
     → AreAreasLaid (given ++ take (frame_area k) waiting.bytes) less ps)
-    → frame_area k ≤ length waiting.bytes
-    →
-    ForwardsFrames old (record { class = c; kept = left; waiting = less })
-first-handed old c k ks left waiting less view is rest drops step within = record {
-  moved = first_bytes k waiting.bytes;
-  bytes =
-      ap₂ (λ (js : List FrameFields) (xs : List ℕ). first_bytes k waiting.bytes
-      ++ framed_bytes js xs)
-      rest drops
-      ∙ first-framed k (drop 1 ks) waiting.bytes
-      ∙ ap (λ (js : List FrameFields). framed_bytes js waiting.bytes) (sym is)
-      ∙ ap held_bytes view;
-  class = ap (λ (h : WaitingFrames). h.class) view;
-  written = λ taken fs are.
-      subst (λ (js : List FrameFields). AreFramesWritten (taken ++ first_bytes k waiting.bytes)
-      (record { class = c; kept = js; waiting = less }) fs) (sym rest)
-      (first-written taken (take (frame_area k) waiting.bytes) c k (drop 1 ks) waiting less fs
-      (length-take-le (frame_area k) waiting.bytes within) step
-      (subst (λ (js : List FrameFields). AreFramesWritten taken
-      (record { class = c; kept = js; waiting = waiting }) fs) is
-      (subst (λ (h : WaitingFrames). AreFramesWritten taken h fs) (sym view) are)));
-}
+    (within : frame_area k ≤ length waiting.bytes) where
+  -- the first frame was taken
+  pub first-handed : ForwardsFrames old (record { class = c; kept = left; waiting = less })
+  first-handed = record {
+    moved = first_bytes k waiting.bytes;
+    bytes =
+        ap₂ (λ (js : List FrameFields) (xs : List ℕ). first_bytes k waiting.bytes
+        ++ framed_bytes js xs)
+        rest drops
+        ∙ first-framed k (drop 1 ks) waiting.bytes
+        ∙ ap (λ (js : List FrameFields). framed_bytes js waiting.bytes) (sym is)
+        ∙ ap held_bytes view;
+    class = ap (λ (h : WaitingFrames). h.class) view;
+    written = λ taken fs are.
+        subst (λ (js : List FrameFields). AreFramesWritten (taken ++ first_bytes k waiting.bytes)
+        (record { class = c; kept = js; waiting = less }) fs) (sym rest)
+        (first-written taken (take (frame_area k) waiting.bytes) c k (drop 1 ks) waiting less fs
+        (length-take-le (frame_area k) waiting.bytes within) step
+        (subst (λ (js : List FrameFields). AreFramesWritten taken
+        (record { class = c; kept = js; waiting = waiting }) fs) is
+        (subst (λ (h : WaitingFrames). AreFramesWritten taken h fs) (sym view) are)));
+  }
 
--- the first frame was taken, and a prefix of it was written
-pub first-part : (name unsent : List ℕ) (old : WaitingFrames) (c : ClassFields) (k : FrameFields)
-    (ks left : List FrameFields) (waiting less : WaitingAreas) (f g : Files)
-    → record { class = c; kept = ks; waiting = waiting } ≡ old →
-    ks ≡ k ∷ drop 1 ks → left ≡ drop 1 ks → less.bytes ≡ drop (frame_area k) waiting.bytes →
-    ((given : List ℕ) (ps : List FrameData) → AreAreasLaid given waiting ps
-    → AreAreasLaid (given ++ take (frame_area k) waiting.bytes) less ps)
-    → frame_area k ≤ length waiting.bytes
-    →
-    AppendedPrefix name (unsent ++ first_bytes k waiting.bytes) f g → ForwardsPart name
-    (writing_of old unsent) (record { class = c; kept = left; waiting = less }) f g
-unfolding first-handed
-first-part name unsent old c k ks left waiting less f g view is rest drops step within prefix =
-    record {
-      on = first-handed old c k ks left waiting less view is rest drops step within;
-      prefix = prefix;
-    }
+  -- the first frame was taken, and a prefix of it was written
+  pub first-part : (name unsent : List ℕ) (f g : Files)
+      → AppendedPrefix name (unsent ++ first_bytes k waiting.bytes) f g → ForwardsPart name
+      (writing_of old unsent) (record { class = c; kept = left; waiting = less }) f g
+  unfolding first-handed
+  first-part name unsent f g prefix = record { on = first-handed; prefix = prefix }
 
 -- what was there before, and then what is taken
 pub behind-more : {base bytes : List ℕ} {old new : WaitingFrames} {fs : List Frame}

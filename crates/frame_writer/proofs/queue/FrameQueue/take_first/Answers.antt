@@ -62,12 +62,13 @@ returns g c = record {
       (ap (λ (b : Buffer FrameFields). b.items) c.pop_front.ensures.items) (drops g c) (step g c)
       (within g (goal.at.returns g c).After-unwrap-first);
   part = err-map c.add_frame-added.result
-      (first-part c.args.name.now c.args.unsent.now c.args.self.now c.self.inside.class
+      (first-part c.args.self.now c.self.inside.class
       c.unwrap-first.result.now c.self.inside.kept.items c.pop_front.new.self.items
-      c.self.inside.areas c.drop_first.new.self _ _
+      c.self.inside.areas c.drop_first.new.self
       c.self.view_is (first g (goal.at.returns g c).After-unwrap-first)
       (ap (λ (b : Buffer FrameFields). b.items) c.pop_front.ensures.items) (drops g c) (step g c)
-      (within g (goal.at.returns g c).After-unwrap-first))
+      (within g (goal.at.returns g c).After-unwrap-first)
+      c.args.name.now c.args.unsent.now _ _)
       c.add_frame-added.ensures.prefix;
   prefix = let k = c.unwrap-first.result.now in
       let items = c.self.inside.kept.items in
