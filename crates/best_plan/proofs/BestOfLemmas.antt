@@ -252,6 +252,18 @@ cheapest-is items [] found e = absurd cc
 cheapest-is items (placed ∷ plans) found e =
     of (cheapest_plan items plans) refl e (λ other is. cheapest-is items plans other is)
   where
+    keeps : ((q : List Placed) → Among plans q
+        → IsNotBehind (cost_of items placed) (cost_of items q))
+        → IsCheapest items (placed ∷ plans) placed
+    keeps least = record {
+      among = inl refl;
+      least = λ q has. elim has as (λ _. IsNotBehind (cost_of items placed) (cost_of items q)) [
+        | inl here ↦ subst (λ q. IsNotBehind (cost_of items placed) (cost_of items q)) here
+            (not_behind-self (cost_of items placed))
+        | inr later ↦ least q later
+      ];
+    }
+
     by : (other : List Placed) → IsCheapest items plans other → (b : Bool)
         → comes_before (cost_of items other) (cost_of items placed) ≡ b
         → IsCheapest items (placed ∷ plans) (cond b other placed)
@@ -263,34 +275,18 @@ cheapest-is items (placed ∷ plans) found e =
         | inr later ↦ is.least q later
       ];
     }
-    by other is false before = record {
-      among = inl refl;
-      least = λ q has. elim has as (λ _. IsNotBehind (cost_of items placed) (cost_of items q)) [
-        | inl here ↦ subst (λ q. IsNotBehind (cost_of items placed) (cost_of items q)) here
-            (not_behind-self (cost_of items placed))
-        | inr later ↦ not_behind-on (cost_of items placed) (cost_of items other) (cost_of items q)
-            (before-not_behind (cost_of items placed) (cost_of items other) before)
-            (is.least q later)
-      ];
-    }
-
-    only : (q : List Placed) → cheapest_plan items plans ≡ None → Among plans q
-        → IsNotBehind (cost_of items placed) (cost_of items q)
-    only q none has = absurd (no-plans items plans none q has)
+    by other is false before =
+        keeps (λ q later.
+        not_behind-on (cost_of items placed) (cost_of items other) (cost_of items q)
+        (before-not_behind (cost_of items placed) (cost_of items other) before) (is.least q later))
 
     of : (o : Option (List Placed)) → cheapest_plan items plans ≡ o
         → Some (better_plan items placed o) ≡ Some found → ((other : List Placed)
         → cheapest_plan items plans ≡ Some other → IsCheapest items plans other)
         → IsCheapest items (placed ∷ plans) found
     of None is e rest = let same : placed ≡ found = cc in
-        subst (IsCheapest items (placed ∷ plans)) same (record {
-          among = inl refl;
-          least = λ q has. elim has as (λ _. IsNotBehind (cost_of items placed) (cost_of items q)) [
-            | inl here ↦ subst (λ q. IsNotBehind (cost_of items placed) (cost_of items q)) here
-                (not_behind-self (cost_of items placed))
-            | inr later ↦ only q is later
-          ];
-        })
+        subst (IsCheapest items (placed ∷ plans)) same
+        (keeps (λ q has. absurd (no-plans items plans is q has)))
     of (Some other) is e rest =
         let same : cond (comes_before (cost_of items other) (cost_of items placed)) other placed
         ≡ found = cc in

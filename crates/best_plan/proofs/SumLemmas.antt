@@ -114,14 +114,13 @@ place-before ns j k ascend within here less =
     ]
 
 module _ (window free : ℕ) (o : OpenFrame) (opens : List OpenFrame) (later : List ℕ)
-    (cost place : ℕ) where
-  least-more : IsAreaChoice window free o.bytes o.areas later cost place
-      → ((left : ℕ) → left ≤ window → IsLeastSum window left opens (get_or later left 0))
-      → (others : List ℕ) → AreChosenAreas (o ∷ opens) others
+    (cost place : ℕ) (is : IsAreaChoice window free o.bytes o.areas later cost place)
+    (behind : (left : ℕ) → left ≤ window → IsLeastSum window left opens (get_or later left 0)) where
+  least-more : (others : List ℕ) → AreChosenAreas (o ∷ opens) others
       → AllFit window free (frames_with_areas (o ∷ opens) others) → cost ≤ sum others
   unfolding AreChosenAreas AllFit frames_with_areas
-  least-more is behind [] chosen fit = absurd chosen
-  least-more is behind (area ∷ others) chosen fit =
+  least-more [] chosen fit = absurd chosen
+  least-more (area ∷ others) chosen fit =
       let left : ℕ = free_bytes_behind window free o.bytes area in
       let rest =
       (behind left (behind-within window free o.bytes area)).least others chosen.1 fit.1 in
@@ -132,12 +131,10 @@ module _ (window free : ℕ) (o : OpenFrame) (opens : List OpenFrame) (later : L
 
   -- the least sum over the areas of a frame, with the
   -- sums of the frames after it, is the least of all
-  pub more-sums : IsAreaChoice window free o.bytes o.areas later cost place
-      → ((left : ℕ) → left ≤ window → IsLeastSum window left opens (get_or later left 0))
-      → IsLeastSum window free (o ∷ opens) cost
+  pub more-sums : IsLeastSum window free (o ∷ opens) cost
   unfolding AreChosenAreas AllFit frames_with_areas
-  more-sums is behind = record {
-    least = least-more is behind;
+  more-sums = record {
+    least = least-more;
     some = λ some.
         let area : ℕ = get_or o.areas place 0 in
         let left : ℕ = free_bytes_behind window free o.bytes area in
@@ -152,90 +149,82 @@ module _ (window free : ℕ) (o : OpenFrame) (opens : List OpenFrame) (later : L
         );
   }
 
-  -- no other list of that sum begins with a smaller area
-  not-before : (area other : ℕ) (others : List ℕ) → Ascend o.areas
-      → IsAreaChoice window free o.bytes o.areas later cost place → cost < nothing
-      → ((left : ℕ) → left ≤ window → IsLeastSum window left opens (get_or later left 0))
-      → get_or o.areas place 0 ≡ area → Contains o.areas other → o.bytes ≤ free + other
-      → AreChosenAreas opens others
-      → AllFit window (free_bytes_behind window free o.bytes other) (frames_with_areas opens others)
-      → other + sum others ≡ cost → other < area → ⊥
-  not-before area other others ascend is some behind at has room chosen fit same less =
-      let there = placed-at o.areas other has in
-      let before = place-before o.areas has.0 place ascend has.1 (is.within some)
-      (omega (arith, there, at, less)) in
-      let more : cost < area_sum window free o.bytes later other =
-      subst (λ n. o.bytes ≤ free + n → cost < area_sum window free o.bytes later n) there
-      (is.first has.0 before some) room in
-      let rest = (behind (free_bytes_behind window free o.bytes other)
-      (behind-within window free o.bytes other)).least others chosen fit in
-      omega (arith, more, rest, same)
+  module _ (area : ℕ) (ascend : Ascend o.areas) (some : cost < nothing)
+      (at : get_or o.areas place 0 ≡ area) where
+    -- no other list of that sum begins with a smaller area
+    not-before : (other : ℕ) (others : List ℕ) → Contains o.areas other → o.bytes ≤ free + other
+        → AreChosenAreas opens others → AllFit window (free_bytes_behind window free o.bytes other)
+        (frames_with_areas opens others) → other + sum others ≡ cost → other < area → ⊥
+    not-before other others has room chosen fit same less =
+        let there = placed-at o.areas other has in
+        let before = place-before o.areas has.0 place ascend has.1 (is.within some)
+        (omega (arith, there, at, less)) in
+        let more : cost < area_sum window free o.bytes later other =
+        subst (λ n. o.bytes ≤ free + n → cost < area_sum window free o.bytes later n) there
+        (is.first has.0 before some) room in
+        let rest = (behind (free_bytes_behind window free o.bytes other)
+        (behind-within window free o.bytes other)).least others chosen fit in
+        omega (arith, more, rest, same)
 
-  first-of : (area : ℕ) (areas : List ℕ) → Ascend o.areas
-      → IsAreaChoice window free o.bytes o.areas later cost place → cost < nothing
-      → ((left : ℕ) → left ≤ window → IsLeastSum window left opens (get_or later left 0))
-      → get_or o.areas place 0 ≡ area
-      → IsFirst window (free_bytes_behind window free o.bytes area) opens areas
-      → area + sum areas ≡ cost → (others : List ℕ) → AreChosenAreas (o ∷ opens) others
-      → AllFit window free (frames_with_areas (o ∷ opens) others) → sum others ≡ cost
-      → IsNotBehind (area ∷ areas) others
-  unfolding AreChosenAreas AllFit frames_with_areas IsNotBehind
-  first-of area areas ascend is some behind at rest total [] chosen fit same = absurd chosen
-  first-of area areas ascend is some behind at rest total (other ∷ others) chosen fit same =
-      elim (cases_lt area other) as (λ _. (area < other)
-      ⊎ ((area ≡ other) × IsNotBehind areas others)) [
-        | inl before ↦ inl before
-        | inr from ↦
-            elim (cases_lt other area) as (λ _. (area < other)
-            ⊎ ((area ≡ other) × IsNotBehind areas others)) [
-              | inl less ↦ absurd (not-before area other others ascend is some behind at
-                  chosen.0 fit.0 chosen.1 fit.1 (omega (arith, same, sum-cons other others)) less)
-              | inr till ↦
-                  let here : area ≡ other = omega (arith, from, till) in
-                  let fits : AllFit window (free_bytes_behind window free o.bytes area)
-                  (frames_with_areas opens others) = subst (λ n. AllFit window
-                  (free_bytes_behind window free o.bytes n) (frames_with_areas opens others))
-                  (sym here) fit.1 in
-                  inr (
-                    here,
-                    rest.first others chosen.1 fits
-                        (omega (arith, same, total, here, sum-cons other others)),
-                  )
-            ]
-      ]
+    first-of : (areas : List ℕ)
+        → IsFirst window (free_bytes_behind window free o.bytes area) opens areas
+        → area + sum areas ≡ cost → (others : List ℕ) → AreChosenAreas (o ∷ opens) others
+        → AllFit window free (frames_with_areas (o ∷ opens) others) → sum others ≡ cost
+        → IsNotBehind (area ∷ areas) others
+    unfolding AreChosenAreas AllFit frames_with_areas IsNotBehind
+    first-of areas rest total [] chosen fit same = absurd chosen
+    first-of areas rest total (other ∷ others) chosen fit same =
+        elim (cases_lt area other) as (λ _. (area < other)
+        ⊎ ((area ≡ other) × IsNotBehind areas others)) [
+          | inl before ↦ inl before
+          | inr from ↦
+              elim (cases_lt other area) as (λ _. (area < other)
+              ⊎ ((area ≡ other) × IsNotBehind areas others)) [
+                | inl less ↦ absurd (not-before other others
+                    chosen.0 fit.0 chosen.1 fit.1 (omega (arith, same, sum-cons other others)) less)
+                | inr till ↦
+                    let here : area ≡ other = omega (arith, from, till) in
+                    let fits : AllFit window (free_bytes_behind window free o.bytes area)
+                    (frames_with_areas opens others) = subst (λ n. AllFit window
+                    (free_bytes_behind window free o.bytes n) (frames_with_areas opens others))
+                    (sym here) fit.1 in
+                    inr (
+                      here,
+                      rest.first others chosen.1 fits
+                          (omega (arith, same, total, here, sum-cons other others)),
+                    )
+              ]
+        ]
 
-  -- the first area with the least sum, followed by the first list after it, is the first list
-  pub first-more : (area : ℕ) (areas : List ℕ) → Ascend o.areas
-      → IsAreaChoice window free o.bytes o.areas later cost place → cost < nothing
-      → ((left : ℕ) → left ≤ window → IsLeastSum window left opens (get_or later left 0))
-      → get_or o.areas place 0 ≡ area
-      → IsFirst window (free_bytes_behind window free o.bytes area) opens areas
-      → IsFirst window free (o ∷ opens) (area ∷ areas)
-  unfolding AreChosenAreas AllFit frames_with_areas
-  first-more area areas ascend is some behind at rest =
-      let left : ℕ = free_bytes_behind window free o.bytes area in
-      let found : cost ≡ area_sum window free o.bytes later area =
-      subst (λ n. cost ≡ area_sum window free o.bytes later n) at (is.found some) in
-      let total : area + sum areas ≡ cost =
-      omega (
-        arith,
-        found,
-        sum-is window left opens areas (get_or later left 0) rest
-            (behind left (behind-within window free o.bytes area)) (omega (arith, found, some)),
-      ) in
-      record {
-        chosen =
-            (subst (Contains o.areas) at (at-place o.areas place (is.within some)), rest.chosen);
-        fit = (subst (λ n. o.bytes ≤ free + n) at (is.fits some), rest.fit);
-        shortest = λ others chosen fit. omega (
+    -- the first area with the least sum, followed by the first list after it, is the first list
+    pub first-more : (areas : List ℕ)
+        → IsFirst window (free_bytes_behind window free o.bytes area) opens areas
+        → IsFirst window free (o ∷ opens) (area ∷ areas)
+    unfolding AreChosenAreas AllFit frames_with_areas
+    first-more areas rest =
+        let left : ℕ = free_bytes_behind window free o.bytes area in
+        let found : cost ≡ area_sum window free o.bytes later area =
+        subst (λ n. cost ≡ area_sum window free o.bytes later n) at (is.found some) in
+        let total : area + sum areas ≡ cost =
+        omega (
           arith,
-          sum-cons area areas,
-          total,
-          least-more is behind others chosen fit,
-        );
-        first = λ others chosen fit same. first-of area areas ascend is some behind at rest total
-            others chosen fit (omega (arith, same, total, sum-cons area areas));
-      }
+          found,
+          sum-is window left opens areas (get_or later left 0) rest
+              (behind left (behind-within window free o.bytes area)) (omega (arith, found, some)),
+        ) in
+        record {
+          chosen =
+              (subst (Contains o.areas) at (at-place o.areas place (is.within some)), rest.chosen);
+          fit = (subst (λ n. o.bytes ≤ free + n) at (is.fits some), rest.fit);
+          shortest = λ others chosen fit. omega (
+            arith,
+            sum-cons area areas,
+            total,
+            least-more others chosen fit,
+          );
+          first = λ others chosen fit same. first-of areas rest total others chosen fit
+              (omega (arith, same, total, sum-cons area areas));
+        }
 
 -- the first of the lists with the least sum is the shortest
 pub shortest-first : (window free : ℕ) (opens : List OpenFrame) (areas : List ℕ) → free ≤ window

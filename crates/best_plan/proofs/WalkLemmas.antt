@@ -87,8 +87,8 @@ walked-more window free item items p placed later cost place ascend choice some 
     lead begin rest = record {
       slots = (lead, chosen, rest.slots);
       list = first-more window free (open_frame item) (map open_frame items) later cost place
-          (item_area item p.slot) (item_areas items placed) ascend choice some behind
-          (sym area) rest.list;
+          choice behind (item_area item p.slot) ascend some (sym area) (item_areas items placed)
+          rest.list;
       begins = ap₂ (λ n (l : List ℕ). n ∷ l) begin rest.begins;
     }
 

@@ -1,25 +1,15 @@
 -- One more frame, and the last.
-use Rattle.std.proofs.Common.{ap, arith, drop, get_or, length, take, ◌+◌, ◌-◌, ◌∙◌, ◌≡◌}
-use Rattle.best_plan.proofs.WalkLemmas.{area-is, goes-all, goes-begun, goes-more, IsOpen, place-is}
+use Rattle.std.proofs.Common.{ap, arith, drop, length, take, ◌+◌, ◌-◌, ◌∙◌, ◌≡◌}
+use Rattle.best_plan.proofs.WalkLemmas.{area-is, goes-all, goes-begun, goes-more, place-is}
 use Rattle.best_plan.proofs.WalkLemmas.{walk-next, walk-open}
-use Rattle.best_plan.proofs.walk.walk.Goals.{After-area_with-area, After-len}
-use Rattle.best_plan.specs.Table.{need_areas}
 use Rattle.slot_plan.{proofs.PartLemmas.same-class, specs.Parts.{item_area, need_item}}
 use Rattle.slot_plan.specs.Reserve.{free_bytes_behind}
-use Rattle.best_plan.proofs.walk.walk.Given as given
 use Rattle.best_plan.proofs.walk.walk.Goals as goal
-
--- the table has a row for the frame, with a sum for its free bytes
-opened : (g : given.Over) (c : After-len g)
-    → IsOpen c.args.room.window (g.P.Policy.choices_of c.args.policy.now) c.loop-need.free
-    c.need-item.result (drop (c.loop-need.need-index + 1) c.args.needs.now)
-    c.loop-need.places.items
-opened g c = walk-open c.args.needs.now c.loop-need.need-index c.need-item.result
-    c.loop-need.invariant.free c.loop-need-test.true c.need-item.is c.loop-need.invariant.can
 
 pub overflow_sub-from : goal.overflow_sub-from
 overflow_sub-from g c =
-    let front = opened g (goal.at.overflow_sub-from g c).After-len in
+    let front = walk-open c.args.needs.now c.loop-need.need-index c.need-item.result
+    c.loop-need.invariant.free c.loop-need-test.true c.need-item.is c.loop-need.invariant.can in
     omega (arith, front.long)
 
 pub loop-need-init : goal.loop-need-init
@@ -32,12 +22,14 @@ loop-need-init g c = record {
 
 pub index-place-requires : goal.index-place-requires
 index-place-requires g c =
-    let front = opened g (goal.at.index-place-requires g c).After-len in
+    let front = walk-open c.args.needs.now c.loop-need.need-index c.need-item.result
+    c.loop-need.invariant.free c.loop-need-test.true c.need-item.is c.loop-need.invariant.can in
     omega (arith, front.long, c.len.ensures, c.loop-need.invariant.free)
 
 pub frame_at-frame-requires-clause-place : goal.frame_at-frame-requires-clause-place
 frame_at-frame-requires-clause-place g c =
-    let front = opened g (goal.at.frame_at-frame-requires-clause-place g c).After-len in
+    let front = walk-open c.args.needs.now c.loop-need.need-index c.need-item.result
+    c.loop-need.invariant.free c.loop-need-test.true c.need-item.is c.loop-need.invariant.can in
     let place = place-is front c.loop-need.invariant.free c.len.result c.index-place.result.now
     (omega (arith, c.len.ensures)) c.index-place.ensures in
     omega (arith, front.choice.within front.some, place)
@@ -48,32 +40,27 @@ area_with-area-requires g c = record {
       c.requires.class c.loop-need-test.true c.need-item.is;
 }
 
--- the frame has the area at its place
-area : (g : given.Over) (c : After-area_with-area g) →
-    let choices = g.P.Policy.choices_of c.args.policy.now in
-    let places = c.loop-need.places.items in
-    item_area (need_item choices c.need-item.result) c.frame_at-frame.result.slot
-    ≡ get_or (need_areas choices c.need-item.result)
-    (get_or places (length places - (c.args.room.window + 1) + c.loop-need.free) 0) 0
-area g c =
-    area-is (walk-open c.args.needs.now c.loop-need.need-index c.need-item.result
-    c.loop-need.invariant.free c.loop-need-test.true c.need-item.is c.loop-need.invariant.can)
-    c.loop-need.invariant.free c.len.result c.index-place.result.now
-    (omega (arith, c.len.ensures)) c.index-place.ensures _ c.frame_at-frame.ensures.area
-
 pub free_behind-free-requires-clause-fits : goal.free_behind-free-requires-clause-fits
 free_behind-free-requires-clause-fits g c =
-    let front = opened g (goal.at.free_behind-free-requires-clause-fits g c).After-len in
-    let at = area g (goal.at.free_behind-free-requires-clause-fits g c).After-area_with-area in
+    let front = walk-open c.args.needs.now c.loop-need.need-index c.need-item.result
+    c.loop-need.invariant.free c.loop-need-test.true c.need-item.is c.loop-need.invariant.can in
+    let choices = g.P.Policy.choices_of c.args.policy.now in
+    let at = area-is front c.loop-need.invariant.free c.len.result c.index-place.result.now
+    (omega (arith, c.len.ensures)) c.index-place.ensures
+    (item_area (need_item choices c.need-item.result) c.frame_at-frame.result.slot)
+    c.frame_at-frame.ensures.area in
     omega (arith, front.choice.fits front.some, c.area_with-area.ensures.area, at)
 
 pub loop-need-preserved : goal.loop-need-preserved
 loop-need-preserved g c =
-    let front = opened g (goal.at.loop-need-preserved g c).After-len in
-    let at = area g (goal.at.loop-need-preserved g c).After-area_with-area in
+    let front = walk-open c.args.needs.now c.loop-need.need-index c.need-item.result
+    c.loop-need.invariant.free c.loop-need-test.true c.need-item.is c.loop-need.invariant.can in
     let choices = g.P.Policy.choices_of c.args.policy.now in
     let need = c.need-item.result in
     let slot = c.frame_at-frame.result.slot in
+    let at = area-is front c.loop-need.invariant.free c.len.result c.index-place.result.now
+    (omega (arith, c.len.ensures)) c.index-place.ensures (item_area (need_item choices need) slot)
+    c.frame_at-frame.ensures.area in
     let free : c.free_behind-free.result ≡ free_bytes_behind c.args.room.window c.loop-need.free
     need.bytes (item_area (need_item choices need) slot) =
     c.free_behind-free.ensures.free ∙ ap (λ n.
