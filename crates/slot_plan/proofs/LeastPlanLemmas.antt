@@ -18,8 +18,8 @@ use Rattle.slot_plan.proofs.OnePlanLemmas.{one_lead, one_plan_for, ordered_frame
 use Rattle.slot_plan.proofs.OnePlanLemmas.{slots_ascend}
 use Rattle.slot_plan.proofs.PartLemmas.{chosen-cons, needed-from, nothing_chosen}
 use Rattle.slot_plan.proofs.PlacedLemmas.{nothing-can, whole-can}
-use Rattle.slot_plan.proofs.ReserveLemmas.{AllFit, can-needed, fit-layout, layout-fit, needed-can}
-use Rattle.slot_plan.proofs.ReserveLemmas.{starts_of}
+use Rattle.slot_plan.proofs.ReserveLemmas.{AllFit, can-needed, fit-layout, layout-fit, max-is}
+use Rattle.slot_plan.proofs.ReserveLemmas.{needed-can, starts_of}
 use Rattle.slot_plan.specs.Laws.{LedPlanIsLeast, PartsChooseInOrder}
 use Rattle.slot_plan.specs.Layouts.{begins_of, FrameLengths, has_layout, HasLayout}
 use Rattle.slot_plan.specs.LeastPlan.{all_lists, earliest_placement, first_list, frames_in_slots}
@@ -36,9 +36,6 @@ use Rattle.slot_plan.specs.Reserve.{greatest_number, open_frames, own_area_of, r
 use Rattle.slot_plan.specs.declared.needs.{Need.Need, Placed.Placed}
 
 -- ---- the test finds whether there is a layout
-
-max-is : (m n : ℕ) → max m n ≡ m + (n - m)
-max-is m n = omega arith
 
 -- frames that fit in the free bytes pass the test of a layout
 pub fit-has : (window end before free : ℕ) (frames : List FrameLengths) → end ≤ before
@@ -389,44 +386,23 @@ module _ (window : ℕ) (items : List PlanItem) where
 
 -- ---- with main data as early as they may be, it is the plan of these items
 
-laid-for : (window end before : ℕ) (items : List PlanItem) (slots : List SlotFields)
-    → AreOf items slots → AreItemSlots items
-    (placed_items items slots (begins_of window end before (frames_in_slots items slots)))
-unfolding AreOf AreItemSlots frames_in_slots begins_of placed_items
-laid-for window end before [] [] of = tt
-laid-for window end before [] (slot ∷ slots) of = absurd of
-laid-for window end before (item ∷ items) [] of = absurd of
-laid-for window end before (item ∷ items) (slot ∷ slots) of = (
-  refl,
-  of.0,
-  laid-for window (max end (before - window) + item.bytes)
-      (before + item_area item slot) items slots of.1,
-)
-
-laid-areas : (window end before : ℕ) (items : List PlanItem) (slots : List SlotFields)
-    → AreOf items slots → item_areas items
-    (placed_items items slots (begins_of window end before (frames_in_slots items slots)))
-    ≡ areas_by items slots
-unfolding AreOf item_areas areas_by frames_in_slots begins_of placed_items
-laid-areas window end before [] [] of = refl
-laid-areas window end before [] (slot ∷ slots) of = absurd of
-laid-areas window end before (item ∷ items) [] of = absurd of
-laid-areas window end before (item ∷ items) (slot ∷ slots) of =
-    ap (λ (l : List ℕ). item_area item slot ∷ l) (laid-areas window
-    (max end (before - window) + item.bytes) (before + item_area item slot) items slots of.1)
-
-laid-begins : (window end before : ℕ) (items : List PlanItem) (slots : List SlotFields)
-    → AreOf items slots
-    → map (λ (p : Placed). p.begin) (placed_items items slots (begins_of window end
-    before (frames_in_slots items slots)))
-    ≡ begins_of window end before (frames_in_slots items slots)
-unfolding AreOf frames_in_slots begins_of placed_items
-laid-begins window end before [] [] of = refl
-laid-begins window end before [] (slot ∷ slots) of = absurd of
-laid-begins window end before (item ∷ items) [] of = absurd of
-laid-begins window end before (item ∷ items) (slot ∷ slots) of =
-    ap (λ (l : List ℕ). (before - max end (before - window)) ∷ l) (laid-begins window
-    (max end (before - window) + item.bytes) (before + item_area item slot) items slots of.1)
+laid-from : (window end before : ℕ) (items : List PlanItem) (slots : List SlotFields)
+    → AreOf items slots →
+    let begins = begins_of window end before (frames_in_slots items slots) in
+    let placed = placed_items items slots begins in
+    AreItemSlots items placed × (item_areas items placed ≡ areas_by items slots)
+    × (map (λ (p : Placed). p.begin) placed ≡ begins)
+unfolding AreOf AreItemSlots item_areas areas_by frames_in_slots begins_of placed_items
+laid-from window end before [] [] of = (tt, refl, refl)
+laid-from window end before [] (slot ∷ slots) of = absurd of
+laid-from window end before (item ∷ items) [] of = absurd of
+laid-from window end before (item ∷ items) (slot ∷ slots) of =
+    let rest = laid-from window (max end (before - window) + item.bytes)
+    (before + item_area item slot) items slots of.1 in (
+      (refl, of.0, rest.0),
+      ap (λ (l : List ℕ). item_area item slot ∷ l) rest.1,
+      ap (λ (l : List ℕ). (before - max end (before - window)) ∷ l) rest.2,
+    )
 
 -- items with main data as early as they may be have these slots and areas, and the earliest starts
 pub laid-early : (window : ℕ) (items : List PlanItem) (slots : List SlotFields) → AreOf items slots
@@ -436,11 +412,11 @@ pub laid-early : (window : ℕ) (items : List PlanItem) (slots : List SlotFields
     (frames_with_areas (map open_frame items)
     (item_areas items (earliest_placement window items slots))))
 laid-early window items slots of =
-    let areas = laid-areas window 0 0 items slots of in (
-      laid-for window 0 0 items slots of,
-      areas,
-      laid-begins window 0 0 items slots of ∙ ap (begins_of window 0 0)
-          (slots-frames items slots ∙ ap (frames_with_areas (map open_frame items)) (sym areas)),
+    let laid = laid-from window 0 0 items slots of in (
+      laid.0,
+      laid.1,
+      laid.2 ∙ ap (begins_of window 0 0)
+          (slots-frames items slots ∙ ap (frames_with_areas (map open_frame items)) (sym laid.1)),
     )
 
 module _ (window : ℕ) (items : List PlanItem) (ordered : AreOrdered items) where

@@ -12,8 +12,9 @@ use Rattle.slot_plan.proofs.AreaLemmas.{leads-span}
 use Rattle.slot_plan.proofs.ReserveLemmas.{AllFit, feasible-windows, fit-after, fit-layout}
 use Rattle.slot_plan.{proofs.ReserveLemmas.needed-fit, specs.Layouts.HasLayout}
 use Rattle.slot_plan.specs.Lists.{AreChosenAreas, frames_with_areas}
-use Rattle.slot_plan.specs.Parts.{AreNeedsOfClass, AreNeedsOfOneClass, ArePartsFeasible, need_item}
-use Rattle.slot_plan.specs.Parts.{needs_in_parts, open_frame, own_frame, slot_areas, window_in}
+use Rattle.slot_plan.specs.Parts.{AreNeedsOfClass, AreNeedsOfOneClass, ArePartsFeasible}
+use Rattle.slot_plan.specs.Parts.{CanBePlanned, need_item, needs_in_parts, open_frame, own_frame}
+use Rattle.slot_plan.specs.Parts.{slot_areas, window_in}
 use Rattle.slot_plan.specs.Reserve.{area_by_header, AreReserves, AreReservesInWindow}
 use Rattle.slot_plan.specs.Reserve.{frame_by_header, greatest_number, IsPlaceablePart, open_frames}
 use Rattle.slot_plan.specs.Reserve.{own_area_of, reserve_before, reserves_behind}
@@ -376,6 +377,14 @@ pub window-first : (needs : List Need) (d : Need) (class : ClassFields) (window 
     → window ≡ window_of class.version → window ≡ window_in needs
 window-first needs d class window all some has gives =
     gives ∙ ap (λ c. window_of c.version) has ∙ window-at needs 0 d all some
+
+-- the window of the first need of parts that can be planned is the window of all
+pub planned-window : (needs : List Need) (parts : List ℕ) (d : Need) (class : ClassFields)
+    (window : ℕ) → CanBePlanned needs parts → class ≡ class_of (get_or needs 0 d).header
+    → window ≡ window_of class.version → window ≡ window_in needs
+planned-window needs parts d class window planned has gives =
+    window-first needs d class window planned.class
+    (omega (arith, planned.within 0 0 planned.some)) has gives
 
 -- a part isn't empty, and ends within the needs
 pub part-bounds : (needs : List Need) (parts : List ℕ) (at end : ℕ) → AllPairs (λ m n. m < n) parts

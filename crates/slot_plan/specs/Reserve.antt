@@ -7,8 +7,9 @@ use Rattle.frame_header.specs.Tables.{area_of, class_of}
 use Rattle.slot_plan.specs.Layouts.{FrameLengths, HasLayout}
 use Rattle.slot_plan.specs.Lists.{AreChosenAreas, CanBeLaid, OpenFrame}
 use Rattle.slot_plan.specs.Parts.{header_areas, item_area, need_item, open_frame, part_items}
-use Rattle.slot_plan.specs.{Parts.{PlanItem, slot_areas}, declared.needs.{Need.Need, Placed.Placed}}
-use Rattle.slot_plan.specs.declared.reserves.Reserves.{Reserves}
+use Rattle.slot_plan.specs.{Parts.{PlanItem, slot_areas}, SlotTables.IsTableForNeeds}
+use Rattle.slot_plan.specs.declared.{needs.{Need.Need, Placed.Placed}, placing.Room.Room}
+use Rattle.slot_plan.specs.declared.{reserves.Reserves.Reserves, table.SlotTable.SlotTable}
 
 -- the greatest number of a list
 unfoldable pub greatest_number : List ℕ → ℕ
@@ -115,6 +116,14 @@ pub record IsPlaceablePart (window : ℕ) (class : ClassFields) (leads : List Sl
   -- with these areas its frames have a layout after the largest lead-in
   pub feasible : HasLayout window (greatest_number (slot_areas class false leads))
       (map (frame_by_header area) part)
+
+-- A part can be placed in this room: the table has the slots of lead-ins in the frames'
+-- class, the part can be placed after one of these, and no more than the window is free.
+pub record CanPlacePart (room : Room) (leads : List SlotFields) (area : HeaderFields → ℕ)
+    (needs : List Need) (slots : SlotTable) : Type 0 where
+  pub table : IsTableForNeeds leads needs slots
+  pub part : IsPlaceablePart room.window slots.lengths leads area needs
+  pub free : room.free ≤ room.window
 
 -- what the frames of a part need, if each may have one of these areas
 pub record AreReserves (window : ℕ) (choices : HeaderFields → List SlotFields)

@@ -3,7 +3,7 @@
 ghost use Rattle.std.specs.Prelude.{◌+◌, ◌-◌, ◌≤◌, false, [], map, IfOk};
 ghost use Rattle.frame_header.specs.Tables.{class_of};
 ghost use Rattle.slot_plan.specs.Parts.{need_item, open_frame};
-ghost use Rattle.slot_plan.specs.Reserve.{greatest_number, open_frames, AreReserves, CanBePlaced, IsPlaceablePart, IsLeastPlacement, PlacesLedPart, PlacesMore, PlacesPart};
+ghost use Rattle.slot_plan.specs.Reserve.{greatest_number, open_frames, AreReserves, CanBePlaced, CanPlacePart, IsLeastPlacement, PlacesLedPart, PlacesMore, PlacesPart};
 ghost use Rattle.slot_plan.specs.SlotTables.{IsTableForNeeds, IsClassTable};
 ghost use Rattle.frame_header.specs.Limits.{most_back};
 
@@ -92,10 +92,8 @@ fn place_behind_lead_in<O: Offer>(
     reserves: Reserves,
     placed: &mut Vec<Placed>,
 ) -> Result<u32, AllocError>
-    requires table { IsTableForNeeds (O.lead_slots_of offer.now) part.now table.now }
-    requires part { IsPlaceablePart room.window table.now.lengths (O.lead_slots_of offer.now)
-        (O.some_area_of offer.now) part.now }
-    requires free { room.free ≤ room.window }
+    requires ready { CanPlacePart room (O.lead_slots_of offer.now) (O.some_area_of offer.now)
+        part.now table.now }
     requires reserves { AreReserves room.window (O.slots_of offer.now) (O.some_area_of offer.now)
         part.now reserves }
     ensures within { IfOk result (λ after. after ≤ room.window) }
@@ -129,10 +127,8 @@ pub(crate) fn place_led<O: Offer>(
     table: &SlotTable,
     placed: &mut Vec<Placed>,
 ) -> Result<u32, AllocError>
-    requires table { IsTableForNeeds (O.lead_slots_of offer.now) part.now table.now }
-    requires part { IsPlaceablePart room.window table.now.lengths (O.lead_slots_of offer.now)
-        (O.some_area_of offer.now) part.now }
-    requires free { room.free ≤ room.window }
+    requires { CanPlacePart room (O.lead_slots_of offer.now) (O.some_area_of offer.now)
+        part.now table.now }
     ensures within { IfOk result (λ after. after ≤ room.window) }
     ensures placed { IfOk result (λ after. PlacesLedPart room.window (O.lead_slots_of offer.now)
         (O.slots_of offer.now) part.now room.free after placed.old.items placed.new.items) }
@@ -155,10 +151,8 @@ pub fn place_part<O: Offer>(
     table: &SlotTable,
     placed: &mut Vec<Placed>,
 ) -> Result<u32, AllocError>
-    requires table { IsTableForNeeds (O.lead_slots_of offer.now) part.now table.now }
-    requires part { IsPlaceablePart room.window table.now.lengths (O.lead_slots_of offer.now)
-        (O.some_area_of offer.now) part.now }
-    requires free { room.free ≤ room.window }
+    requires { CanPlacePart room (O.lead_slots_of offer.now) (O.some_area_of offer.now)
+        part.now table.now }
     ensures within { IfOk result (λ after. after ≤ room.window) }
     ensures placed { IfOk result (λ after. PlacesPart room.window (O.lead_slots_of offer.now)
         (O.slots_of offer.now) part.now room.free after placed.old.items placed.new.items) }

@@ -13,9 +13,10 @@ least_slot-slot-requires g c =
     needed-first c.args.room.window
     (greatest_number (slot_areas c.args.table.now.lengths false leads))
     (g.O.Offer.slots_of c.args.offer.now) (g.O.Offer.some_area_of c.args.offer.now)
-    c.args.part.now c.requires.part.feasible c.requires.reserves.chosen in
+    c.args.part.now c.requires.ready.part.feasible c.requires.reserves.chosen in
     record {
-      within = table-within c.args.table.now leads false c.from.result c.requires.table.of_slots
+      within =
+          table-within c.args.table.now leads false c.from.result c.requires.ready.table.of_slots
           (omega (arith, before, c.requires.reserves.before, c.from.ensures));
     }
 
@@ -25,13 +26,13 @@ returns-clause-placed g c =
     let choices = g.O.Offer.slots_of c.args.offer.now in
     let least = subst (λ n. IsLeastSlot n c.args.table.now.lengths false leads
     c.least_slot-slot.result) (c.from.ensures ∙ c.requires.reserves.before)
-    (c.least_slot-slot.ensures.least leads c.requires.table.of_slots) in
+    (c.least_slot-slot.ensures.least leads c.requires.ready.table.of_slots) in
     IfOk-weaker c.place_frames.result _ _
     (λ after places. led-of c.args.room.window leads choices
     (g.O.Offer.some_area_of c.args.offer.now)
     c.args.table.now.lengths c.args.part.now c.args.room.free c.free_behind-free.result after _
     c.args.placed.now.items c.place_frames.new.placed.items
-    c.requires.part.some c.requires.table.class refl refl least
+    c.requires.ready.part.some c.requires.ready.table.class refl refl least
     (c.free_behind-free.ensures.free
     ∙ ap (λ n. free_bytes_behind c.args.room.window c.args.room.free 0 n)
     c.area_of-area.ensures.area)

@@ -1,9 +1,9 @@
 -- One more part.
-use Rattle.std.proofs.Common.{arith, drop, get_or, length, refl, rules, subst, sym, ◌+◌, ◌<◌}
+use Rattle.std.proofs.Common.{arith, drop, get_or, refl, rules, subst, sym, ◌+◌}
 use Rattle.std.specs.Prelude.{slice_range}
 use Rattle.slot_plan.proofs.LeastPlanLemmas.{plan-least}
 use Rattle.slot_plan.proofs.PartLemmas.{class-range, one-class, part-ready, parts-cons, parts-none}
-use Rattle.slot_plan.proofs.PartLemmas.{placeable-own, window-first}
+use Rattle.slot_plan.proofs.PartLemmas.{placeable-own, planned-window}
 use Rattle.slot_plan.proofs.PlacedLemmas.{parts-all, parts-begun, parts-more, PartsPlaced}
 use Rattle.slot_plan.specs.Parts.{AreNeedsOfClass, ArePartsFeasible, needs_in_parts, window_in}
 use Rattle.slot_plan.specs.Plans.{IsPlan}
@@ -12,11 +12,9 @@ use Rattle.slot_plan.proofs.plans.plan.Goals as goal
 pub loop-at-init : goal.loop-at-init
 loop-at-init g c =
     let needs = c.args.needs.now in
-    let some : 0 < length needs =
-    omega (arith, c.requires.planned.within 0 0 c.requires.planned.some) in
-    let window = window-first needs
-    c.index-needs-0.result c.class-class.result c.window-window.result c.requires.planned.class some
-    c.class-class.ensures c.window-window.ensures.window in
+    let window = planned-window needs c.args.parts.now c.index-needs-0.result c.class-class.result
+    c.window-window.result c.requires.planned c.class-class.ensures c.window-window.ensures.window
+    in
     record {
       free = omega arith;
       feasible = subst (λ n. ArePartsFeasible n (needs_in_parts needs c.args.parts.now))
@@ -76,11 +74,9 @@ returns g c =
     let needs = c.args.needs.now in
     let parts = c.args.parts.now in
     let choices = g.P.Policy.choices_of c.args.policy.now in
-    let some : 0 < length needs =
-    omega (arith, c.requires.planned.within 0 0 c.requires.planned.some) in
-    let window = window-first needs
-    c.index-needs-0.result c.class-class.result c.window-window.result c.requires.planned.class some
-    c.class-class.ensures c.window-window.ensures.window in
+    let window = planned-window needs c.args.parts.now c.index-needs-0.result c.class-class.result
+    c.window-window.result c.requires.planned c.class-class.ensures c.window-window.ensures.window
+    in
     let all = subst (λ l. PartsPlaced c.window-window.result choices
     (needs_in_parts needs parts) l c.loop-at.free c.loop-at.placed.items)
     (parts-none needs parts c.loop-at.at c.loop-at-test.false) c.loop-at.invariant.placed in

@@ -1,8 +1,8 @@
 -- The one part is placed after its lead-in.
-use Rattle.std.proofs.Common.{arith, length, rules, subst, sym, ◌<◌}
+use Rattle.std.proofs.Common.{arith, length, rules, subst, sym, [], ◌<◌, ◌∷◌}
 use Rattle.frame_header.specs.Slots.{all_slots}
 use Rattle.slot_plan.proofs.LeastPlanLemmas.{led-least}
-use Rattle.slot_plan.proofs.PartLemmas.{one-class, one-part, placeable-own, window-first}
+use Rattle.slot_plan.proofs.PartLemmas.{one-class, one-part, placeable-own, planned-window}
 use Rattle.slot_plan.{proofs.PlacedLemmas.led-placed, specs.Parts.{AreNeedsOfClass, window_in}}
 use Rattle.slot_plan.specs.{Plans.IsLedPlan, Reserve.PlacesLedPart}
 use Rattle.slot_plan.proofs.plans.plan_led.Goals as goal
@@ -14,9 +14,9 @@ place_led-requires g c =
     omega (arith, c.requires.planned.within 0 0 c.requires.planned.some) in
     let class = one-class c.class-class.result needs
     c.index-needs-0.result c.requires.planned.class c.class-class.ensures in
-    let window = window-first needs
-    c.index-needs-0.result c.class-class.result c.window-window.result c.requires.planned.class some
-    c.class-class.ensures c.window-window.ensures.window in
+    let window = planned-window needs (0 ∷ []) c.index-needs-0.result c.class-class.result
+    c.window-window.result c.requires.planned c.class-class.ensures c.window-window.ensures.window
+    in
     record {
       table = record {
         class = subst (λ k. AreNeedsOfClass k needs) (sym c.in_ok-table.ensures.class_is) class;
@@ -32,11 +32,9 @@ pub returns : goal.returns
 returns g c =
     let needs = c.args.needs.now in
     let choices = g.P.Policy.choices_of c.args.policy.now in
-    let some : 0 < length needs =
-    omega (arith, c.requires.planned.within 0 0 c.requires.planned.some) in
-    let window = window-first needs
-    c.index-needs-0.result c.class-class.result c.window-window.result c.requires.planned.class some
-    c.class-class.ensures c.window-window.ensures.window in
+    let window = planned-window needs (0 ∷ []) c.index-needs-0.result c.class-class.result
+    c.window-window.result c.requires.planned c.class-class.ensures c.window-window.ensures.window
+    in
     let after = c.in_ok-place_led.field-0 in
     let led = subst (λ l. PlacesLedPart c.window-window.result all_slots choices needs 0 after l
     c.place_led.new.placed.items) c.in_ok-placed.ensures.items c.in_ok-place_led.ensures.placed in
