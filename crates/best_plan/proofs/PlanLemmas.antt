@@ -120,52 +120,51 @@ module _ (window : ℕ) (class : ClassFields) (sums : List ℕ) (cost place : �
         begin = begin;
       }
 
-lead-whole : (window : ℕ) (choices : HeaderFields → List SlotFields) (needs : List Need) (d : Need)
-    (class : ClassFields) (sums places : List ℕ) (lead : Placed) (more : List Placed) (free : ℕ)
-    → 0 < length needs → class ≡ class_of (get_or needs 0 d).header
-    → IsTable window choices needs sums places → IsLeadInOfSums window class sums lead
-    → free ≡ free_bytes_behind window 0 0 (area_of class lead.slot false)
-    → IsBestPlanFor window free (map (need_item choices) needs) more
-    → IsBestPlanFor window 0 (items_with_lead_in true choices needs) (lead ∷ more)
+with-lead-in : (choices : HeaderFields → List SlotFields) (needs : List Need) (d : Need)
+    → 0 < length needs → items_with_lead_in true choices needs
+    ≡ lead_in_item (class_of (get_or needs 0 d).header) all_slots ∷ map (need_item choices) needs
 unfolding items_with_lead_in
-lead-whole window choices [] d class sums places lead more free some is table by gives best =
-    absurd (omega (arith, some))
-lead-whole window choices
-    (first ∷ needs) d class sums places lead more free some is table by gives best =
-    let items : List PlanItem = map (need_item choices) (first ∷ needs) in
-    let rest = subst (λ n. IsWalked window n items more) gives
-    (walked-best window free items more (omega (arith, gives)) best) in
-    let whole : IsBestPlanFor window 0 (lead_in_item class all_slots ∷ items) (lead ∷ more) =
-    best-walked window 0 (lead_in_item class all_slots ∷ items) (lead ∷ more) (omega arith)
-    (walked-more window 0 (lead_in_item class all_slots) items lead more sums
-    by.cost by.place by.ascending by.choice by.some
-    (table-sums window choices (first ∷ needs) sums places table)
-    by.area by.chosen by.lead_in by.begin rest) in
-    subst (λ k. IsBestPlanFor window 0 (lead_in_item k all_slots ∷ items) (lead ∷ more)) is whole
+with-lead-in choices [] d some = absurd (omega (arith, some))
+with-lead-in choices (first ∷ needs) d some = refl
 
--- if the table has no sum for no free bytes, the walk after the best lead-in is the best plan
-pub plan-behind : (window : ℕ) (choices : HeaderFields → List SlotFields) (needs : List Need)
-    (d : Need) (class : ClassFields) (sums places : List ℕ) (lead : Placed) (free : ℕ)
-    (old new placed : List Placed) → 0 < length needs → length needs ≤ 200000
-    → class ≡ class_of (get_or needs 0 d).header → IsTable window choices needs sums places
-    → nothing ≤ get_or sums 0 0 → IsLeadInOfSums window class sums lead
-    → free ≡ free_bytes_behind window 0 0 (area_of class lead.slot false) → old ≡ lead ∷ []
-    → WalksTable window choices free needs old new → placed ≡ new
-    → IsBestPlan window choices needs placed
-plan-behind window choices needs d class sums places lead free old new placed some few is table none
-    by gives first walk result =
-    let all : lead ∷ walk.more ≡ placed =
-    sym (result ∙ walk.appended ∙ ap (λ l. l ++ walk.more) first) in
-    record {
-      lead_in = true;
-      without = (
-        (λ e. absurd (true≢false e)),
-        (λ can. absurd (cannot-sum window choices needs sums places few table none can)),
-      );
-      whole = subst (IsBestPlanFor window 0 (items_with_lead_in true choices needs)) all
-          (lead-whole window
-          choices needs d class sums places lead walk.more free some is table by gives walk.best);
-    }
+module _ (window : ℕ) (choices : HeaderFields → List SlotFields) (needs : List Need) (d : Need)
+    (class : ClassFields) (sums places : List ℕ) (lead : Placed) (free : ℕ)
+    (some : 0 < length needs) (is : class ≡ class_of (get_or needs 0 d).header)
+    (table : IsTable window choices needs sums places)
+    (by : IsLeadInOfSums window class sums lead)
+    (gives : free ≡ free_bytes_behind window 0 0 (area_of class lead.slot false)) where
+  lead-whole : (more : List Placed) → IsBestPlanFor window free (map (need_item choices) needs) more
+      → IsBestPlanFor window 0 (items_with_lead_in true choices needs) (lead ∷ more)
+  lead-whole more best =
+      let items : List PlanItem = map (need_item choices) needs in
+      let rest = subst (λ n. IsWalked window n items more) gives
+      (walked-best window free items more (omega (arith, gives)) best) in
+      let whole : IsBestPlanFor window 0 (lead_in_item class all_slots ∷ items) (lead ∷ more) =
+      best-walked window 0 (lead_in_item class all_slots ∷ items) (lead ∷ more) (omega arith)
+      (walked-more window 0 (lead_in_item class all_slots) items lead more sums
+      by.cost by.place by.ascending by.choice by.some
+      (table-sums window choices needs sums places table)
+      by.area by.chosen by.lead_in by.begin rest) in
+      subst (λ l. IsBestPlanFor window 0 l (lead ∷ more))
+      (ap (λ k. lead_in_item k all_slots ∷ items) is ∙ sym (with-lead-in choices needs d some))
+      whole
+
+  -- if the table has no sum for no free bytes, the walk after the best lead-in is the best plan
+  pub plan-behind : (old new placed : List Placed) → length needs ≤ 200000
+      → nothing ≤ get_or sums 0 0 → old ≡ lead ∷ [] → WalksTable window choices free needs old new
+      → placed ≡ new → IsBestPlan window choices needs placed
+  plan-behind old new placed few none first walk result =
+      let all : lead ∷ walk.more ≡ placed =
+      sym (result ∙ walk.appended ∙ ap (λ l. l ++ walk.more) first) in
+      record {
+        lead_in = true;
+        without = (
+          (λ e. absurd (true≢false e)),
+          (λ can. absurd (cannot-sum window choices needs sums places few table none can)),
+        );
+        whole = subst (IsBestPlanFor window 0 (items_with_lead_in true choices needs)) all
+            (lead-whole walk.more walk.best);
+      }
 
 -- ---- what the call over all slots requires, and what it gives
 -- some lead-in has a sum by the table, and the cheapest in the list is the cheapest of all slots

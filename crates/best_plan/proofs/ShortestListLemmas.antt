@@ -12,15 +12,6 @@ use Rattle.slot_plan.specs.Parts.{open_frame, part_items, PlanItem, slot_areas}
 use Rattle.slot_plan.specs.{Plans.{IsPlanFor, item_areas}, declared.needs.Need.Need}
 use Rattle.slot_plan.specs.declared.needs.Placed.{Placed}
 
--- without a lead-in the choices are the same
-without-lead : (window : ℕ) (choices : HeaderFields → List SlotFields) (needs : List Need)
-    (placed best : List Placed) → IsPlanFor window (map (need_item choices) needs) placed
-    → IsBestPlanFor window 0 (map (need_item choices) needs) best
-    → sum (item_areas (map (need_item choices) needs) best)
-    ≤ sum (item_areas (map (need_item choices) needs) placed)
-without-lead window choices needs placed best plan is = is.best.shortest
-    (item_areas (map (need_item choices) needs) placed) plan.least.chosen plan.least.feasible
-
 -- the only number of a list is the number that the list contains
 pub contains-one : (m n : ℕ) → Contains (m ∷ []) n → m ≡ n
 contains-one m n (zero, within, at) = at
@@ -88,7 +79,11 @@ by-lead : (window : ℕ) (choices : HeaderFields → List SlotFields) (needs : L
     → Holds choices needs placed best lead_in (other ∷ []) (part_items choices needs other)
 unfolding IsLeadIn part_items items_with_lead_in
 by-lead window choices needs placed best false None without is alone plan =
-    (((λ _. refl), (λ _. refl)), without-lead window choices needs placed best plan is)
+    (
+      ((λ _. refl), (λ _. refl)),
+      is.best.shortest (item_areas (map (need_item choices) needs) placed) plan.least.chosen
+          plan.least.feasible,
+    )
 by-lead window choices needs placed best true None without is alone plan =
     absurd (true≢false (without.1 alone))
 by-lead window choices [] placed best lead_in (Some slot) without is alone plan = absurd alone

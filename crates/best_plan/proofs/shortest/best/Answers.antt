@@ -80,9 +80,10 @@ returns g c =
     ∙ ap (λ l. l ++ c.lead_in-frame.result ∷ []) c.in_ok-placed.ensures.items in
     subst (λ n. IsBestPlan n choices needs (entries c.from_placed-2.result)) window
     (plan-behind c.window-window.result choices needs c.index-needs-0.result c.class-class.result
-    sums places c.lead_in-frame.result c.free_behind-free.result c.push.new.self.items
-    c.walk-2.new.placed.items (entries c.from_placed-2.result)
-    c.requires.some c.requires.few c.class-class.ensures c.in_ok-table.ensures
-    (omega (arith, first, c.if-index-lt-NOTHING.false)) by
+    sums places c.lead_in-frame.result c.free_behind-free.result c.requires.some
+    c.class-class.ensures c.in_ok-table.ensures by
     (c.free_behind-free.ensures.free ∙ ap (λ n. free_bytes_behind c.window-window.result 0 0 n)
-    c.area_of-area.ensures.area) old c.in_ok-walk-2.ensures c.from_placed-2.ensures)
+    c.area_of-area.ensures.area) c.push.new.self.items c.walk-2.new.placed.items
+    (entries c.from_placed-2.result) c.requires.few
+    (omega (arith, first, c.if-index-lt-NOTHING.false)) old c.in_ok-walk-2.ensures
+    c.from_placed-2.ensures)
