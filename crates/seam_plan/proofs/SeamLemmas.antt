@@ -1,9 +1,8 @@
 -- What becomes of an input, by the queries that decide it.
 use Rattle.std.proofs.Common.{ap, ap₂, arith, Bool, drop, false, length, List, None, Option, refl}
-use Rattle.std.proofs.Common.{Some, subst, sym, true, ℕ, [], ◌-◌, ◌<◌, ◌∙◌, ◌∷◌, ◌≡◌}
+use Rattle.std.proofs.Common.{Some, subst, sym, true, ℕ, [], ◌<◌, ◌∙◌, ◌∷◌, ◌≡◌}
 use Rattle.std.proofs.lemmas.Bool.{and_from, and_left, and_parts, and_right, not_from_false}
-use Rattle.std.proofs.lemmas.{Bool.not_from_true, List.{drop-map, length-drop, length-map}}
-use Rattle.std.specs.Option.{option_or}
+use Rattle.std.{proofs.lemmas.{Bool.not_from_true, List.drop-map}, specs.Option.option_or}
 use Rattle.std.specs.Prelude.{if◌then◌else◌, not, option_and_then, option_map, slice_get}
 use Rattle.std.specs.Prelude.{slice_index_or, unwrap_or, ◌&&◌}
 use Rattle.exact_span.specs.declared.overlap.Overlap.{Overlap}
@@ -238,9 +237,6 @@ unfolding needs_with_first_slot
 all-moves [] result is = ap (λ o. joined_needs o []) (sym is.slot)
 all-moves (f ∷ fs) result is = ap (λ o. joined_needs o (f.need ∷ needs_of fs)) (sym is.slot)
 
-whole-adds : (brought : Brought) → Adds brought (whole_joint brought)
-whole-adds brought = all-moves brought.frames
-
 -- what becomes of an input adds its frames except those that are left out
 pub joint-adds : (class : ClassFields) (run : List RunFrame) (before brought : Brought)
     → Adds brought (joint_of class run before brought)
@@ -252,7 +248,7 @@ joint-adds class run before brought =
     subst (Moves seam rest) is (joining-moves window seam run rest) result joined
     ∙ ap (joined_needs result.slot)
     (sym (drop-map (λ (f : RunFrame). f.need) (left_out_count seam) brought.frames)))
-    (whole-adds brought)
+    (all-moves brought.frames)
 
 -- as many frames join as are left
 pub length-moved : (slot : Option SlotFields) (needs : List Need)
@@ -261,19 +257,6 @@ unfolding needs_with_first_slot
 length-moved None needs = refl
 length-moved (Some slot) [] = refl
 length-moved (Some slot) (need ∷ needs) = refl
-
--- all frames of an input are joined except as many as its seam leaves out
-pub length-joint : (class : ClassFields) (run : List RunFrame) (before brought : Brought)
-    (result : CodeJoint) → IsJoint (joint_of class run before brought) result
-    → length (joint_of class run before brought).frames
-    ≡ length brought.frames - left_out_count (joint_of class run before brought).seam
-length-joint class run before brought result is =
-    let joint : JointFrames = joint_of class run before brought in
-    sym (length-map joint.frames (λ (f : RunFrame). f.need))
-    ∙ ap length (joint-adds class run before brought result is)
-    ∙ length-moved result.slot (drop (left_out_count joint.seam) (needs_of brought.frames))
-    ∙ length-drop (left_out_count joint.seam) (needs_of brought.frames)
-    ∙ ap (λ n. n - left_out_count joint.seam) (length-map brought.frames (λ (f : RunFrame). f.need))
 
 -- ---- a whole input
 
