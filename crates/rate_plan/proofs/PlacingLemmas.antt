@@ -1,9 +1,8 @@
 -- What is placed from a menu is the plan.
-use Rattle.std.proofs.Common.{arith, false, List, lit≤, map, None, Option, refl, Some, subst, sym}
-use Rattle.std.proofs.Common.{true, ℕ, [], ◌++◌, ◌+◌, ◌-◌, ◌∙◌, ◌∷◌, ◌≡◌, ◌≤◌}
-use Rattle.std.proofs.lemmas.{Bool.true≢false, List.append-nil}
-use Rattle.frame_header.specs.{Fields.{ClassFields, SlotFields}, Tables.{class_of, window_of}}
-use Rattle.frame_header.specs.declared.version.Version.{Version, TheVariants.One}
+use Rattle.std.proofs.Common.{arith, false, List, map, None, Option, refl, Some, subst, sym, true}
+use Rattle.std.proofs.{Common.{ℕ, [], ◌++◌, ◌+◌, ◌-◌, ◌∙◌, ◌∷◌, ◌≡◌}, lemmas.Bool.true≢false}
+use Rattle.std.proofs.lemmas.List.{append-nil}
+use Rattle.frame_header.specs.{Fields.{ClassFields, SlotFields}, Tables.class_of}
 use Rattle.rate_plan.specs.Menus.{IsMenuPlan, menu_choices, menu_items}
 use Rattle.slot_plan.proofs.{AreaLemmas.only_one, PlacedLemmas.plan-placed}
 use Rattle.slot_plan.proofs.ReserveLemmas.{needed-can}
@@ -11,11 +10,6 @@ use Rattle.slot_plan.specs.Parts.{lead_in_item, need_item, open_frame, part_item
 use Rattle.slot_plan.specs.Reserve.{AreItemsPlaced, IsLeastSlot, IsPlacedLeadIn, PlacesMore}
 use Rattle.slot_plan.specs.{Reserve.{PlacesPart, reserve_before}, declared.needs.Need.Need}
 use Rattle.slot_plan.specs.declared.needs.Placed.{Placed}
-
--- no window is longer than 511 bytes
-pub window-most : (version : Version) → window_of version ≤ 511
-window-most One = lit≤ tt
-window-most _ = lit≤ tt
 
 nothing-placed : (window free : ℕ) → AreItemsPlaced window free [] []
 unfolding AreItemsPlaced

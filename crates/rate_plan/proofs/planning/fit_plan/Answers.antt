@@ -1,10 +1,10 @@
 -- The frames are one part.
 use Rattle.std.proofs.Common.{arith, false, map, subst, sym}
 use Rattle.frame_header.specs.Tables.{window_of}
-use Rattle.rate_plan.proofs.FitLemmas.{laid-feasible, top_frame}
-use Rattle.rate_plan.{proofs.PlacingLemmas.{menu-part, window-most}, specs.Menus.IsMenuPlan}
-use Rattle.slot_plan.specs.{Layouts.HasLayout, Parts.{AreNeedsOfClass, slot_areas}}
-use Rattle.slot_plan.specs.Reserve.{greatest_number}
+use Rattle.rate_plan.proofs.{FitLemmas.{laid-feasible, top_frame}, PlacingLemmas.menu-part}
+use Rattle.rate_plan.specs.Menus.{IsMenuPlan}
+use Rattle.slot_plan.{proofs.FreeByteLemmas.window-most, specs.Layouts.HasLayout}
+use Rattle.slot_plan.specs.{Parts.{AreNeedsOfClass, slot_areas}, Reserve.greatest_number}
 use Rattle.rate_plan.proofs.planning.fit_plan.Goals as goal
 
 pub place_part-requires : goal.place_part-requires
