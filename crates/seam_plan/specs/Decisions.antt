@@ -49,7 +49,8 @@ pub record IsRun (class : ClassFields) (frames : List RunFrame) (places : List F
   pub same : length places ≡ length frames
   pub rest : run.rest ≡ brought_rest class before
 
--- this holds of whatever class, frames, places and inputs these are the run and the input of
+-- this holds of all frames that the run can have, their class and their places,
+-- of the last input so far, and of all that the next input can bring
 abbrev pub HoldsOfRun : Run → Input
     → (ClassFields → List RunFrame → List FramePlace → Brought → Brought → Type 0) → Type 0
 HoldsOfRun run input P =
