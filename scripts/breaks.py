@@ -1,4 +1,5 @@
-"""Where a line of a proof is broken: `lines_of` gives the cheapest way, by what stands around each break. `scripts/layout` uses it."""
+"""Where a line of a proof or a clause is broken: `lines_of` gives the cheapest way, by what stands around each break. `scripts/layout` uses
+it."""
 import re
 from functools import lru_cache
 
@@ -17,6 +18,14 @@ CLOSERS = (")", "}", "]")
 # What no break stands before, and behind.
 HELD = ("=", ":", "↦", "|", "[", "where")
 HOLDS = ("λ", "←", "¬", "let", "record", "elim", "if", "|", "unfolding", "module", "pub", "abbrev", "data")
+
+
+def indent_of(line):
+    return len(line) - len(line.lstrip())
+
+
+def has_comment(line):
+    return any(it.startswith("--") for it in TOKEN.findall(line))
 
 
 class Scope:
@@ -97,8 +106,8 @@ def is_binder(tokens, at):
 def price_of(tokens, at):
     """What a break before a token costs; None where none may stand."""
     last, it = tokens[at - 1], tokens[at]
-    # `module _`, and the bracket of a list whose parts begin the lines below.
-    if last.text == "_" and at == 2 or it.text in PARTS and at + 1 == len(tokens):
+    # `module _`, the bracket of a list whose parts begin the lines below, and what is right behind a list's bracket.
+    if last.text == "_" and at == 2 or it.text in PARTS and at + 1 == len(tokens) or last.is_list:
         return None
     if not it.is_spaced or it.is_bound or it.text in HELD or last.text in HOLDS or it.is_list and it.text == "{":
         return None
@@ -162,10 +171,13 @@ class Plan:
         return cost, lines
 
 
-def lines_of(lines, indent, later):
-    """The lines of code that goes on over some lines, broken anew: the first at one column, the others at another. None where they would be
-    as wide."""
-    tokens = tokens_of(" ".join(it.strip() for it in lines))
-    best = Plan(tokens).best(0, len(tokens), indent, later)[1]
+def lines_of(lines, indent, later, head="", back=""):
+    """The lines of code that goes on over some lines, broken anew: the first at one column, the others at another. The head and the back of
+    their text stay with its first and its last token. None where they would be as wide."""
+    text = " ".join(it.strip() for it in lines)
+    tokens = tokens_of(text[len(head):len(text) - len(back)])
+    plan = Plan(tokens)
+    tokens[0].text = head + tokens[0].text
+    best = plan.best(0, len(tokens), indent, later, back)[1]
     too_wide = lambda them: len([it for it in them if len(it) > WIDTH])
     return best if len(best) > 1 and too_wide(best) < too_wide(lines) else None

@@ -57,10 +57,10 @@ def use_lines(paths, head):
 
 
 def is_narrowest(line):
-    """Whether a line can't be narrower: it is the import of one name, or it has a text that is too long for a line."""
+    """Whether a line can't be narrower: it is the import of one name, or it has a name or a text that is too long for a line."""
     found = USE.match(line)
     indent = len(line) - len(line.lstrip())
-    return len(leaves(found[3] or "")) < 2 if found else any(it[0] == '"' and indent + len(it) > WIDTH for it in TOKEN.findall(line))
+    return len(leaves(found[3] or "")) < 2 if found else any(re.match(r'["\w]', it) and indent + len(it) > WIDTH for it in TOKEN.findall(line))
 
 
 def unfolded(lines):
