@@ -13,7 +13,7 @@ pub on_err : {T E P : Type 0} (r : Result T E) → P → OnErr r P
 on_err (Ok x) p = tt
 on_err (Err e) p = p
 
--- a fact of the error that is handed on
+-- a fact of the error that is returned
 pub err_at : {T E : Type 0} (r : Result T E) (P : E → Type 0) {e : E} → IsErrAnd r (λ y. y ≡ e)
     → P e → IfErr r P
 err_at (Ok x) P is p = absurd is
@@ -25,20 +25,20 @@ pub err_by : {T E : Type 0} {P Q : E → Type 0} (r : Result T E) → ((e : E) �
 err_by (Ok x) f p = tt
 err_by (Err e) f p = f e p
 
--- nothing was passed on
+-- a buffer that passed on nothing
 pub passed_nothing : (files : Files) (name bytes : List ℕ) → IsFileThere files name
     → AppendsWaiting name bytes bytes files files
 passed_nothing files name bytes there =
     record { passed = []; split = refl; files = sym (appended_nothing files name there) }
 
--- a prefix was passed on
+-- a buffer that passed on a prefix
 pub passed_front : (name bytes : List ℕ) (n : ℕ) (f g : Files)
     → g ≡ with_appended_bytes f name (take n bytes) → AppendsWaiting name bytes (drop n bytes) f g
 passed_front name bytes n f g is =
     record { passed = take n bytes; split = sym (take-append-drop n bytes); files = is }
 
 module _ {name before after : List ℕ} {f g : Files} where
-  -- more waits after
+  -- more waits after it
   pub passed_with : (piece : List ℕ) → AppendsWaiting name before after f g
       → AppendsWaiting name (before ++ piece) (after ++ piece) f g
   passed_with piece p = record {
@@ -47,12 +47,12 @@ module _ {name before after : List ℕ} {f g : Files} where
     files = p.files;
   }
 
-  -- the name is there afterwards, and no name goes
+  -- the name is there afterwards
   pub passed_there : AppendsWaiting name before after f g → IsFileThere g name
   passed_there p =
       subst (λ files. IsFileThere files name) (sym p.files) (appended_there f name p.passed)
 
--- something was passed on, and then more
+-- what was passed on in two steps was passed on in one
 pub passed_then : {name before mid after : List ℕ} {f g h : Files}
     → AppendsWaiting name before mid f g → AppendsWaiting name mid after g h
     → AppendsWaiting name before after f h
@@ -68,7 +68,7 @@ passed_then {name} {before} {mid} {after} {f} {g} {h} p q = record {
       ∙ appended_twice f name p.passed q.passed;
 }
 
--- two pieces that were passed on one after the other were passed on together
+-- two pieces that were passed on in order were passed on together
 pub passed_more : {name before mid after : List ℕ} {f g h : Files} (piece : List ℕ)
     → AppendsWaiting name before mid f g → AppendsWaiting name (mid ++ piece) after g h
     → AppendsWaiting name (before ++ piece) after f h
@@ -96,7 +96,7 @@ module _ {name before mid : List ℕ} {f g h : Files} (p : AppendsWaiting name b
       ∙ appended_twice f name p.passed mid
       ∙ ap (with_appended_bytes f name) (sym p.split)
 
--- if of the second of two pieces only a prefix was passed on, a prefix of both was
+-- if only a prefix of the second of two pieces was passed on, a prefix of both was
 pub passed_more_prefix : {name before mid : List ℕ} {f g h : Files} (piece : List ℕ)
     → AppendsWaiting name before mid f g → AppendedPrefix name (mid ++ piece) g h
     → AppendedPrefix name (before ++ piece) f h
@@ -112,7 +112,7 @@ prefix_of_front {name} {bytes} {f} {g} n p = record {
       (take-take p.count n bytes (omega (arith, p.short, length-take n bytes)));
 }
 
--- what waits before a piece and the piece, by a prefix of the piece and what follows
+-- what waits and a piece, split at a prefix of the piece
 pub piece_in_two : (waits piece : List ℕ) (n : ℕ)
     → (waits ++ take n piece) ++ drop n piece ≡ waits ++ piece
 piece_in_two waits piece n = append_assoc waits (take n piece) (drop n piece)
@@ -128,7 +128,7 @@ module _ (name waits piece : List ℕ) (n : ℕ) (f g : Files) where
     files = is;
   }
 
-  -- a prefix of what waited and of a prefix of the piece is one of both
+  -- a prefix of what waited and a prefix of the piece is a prefix of both
   pub prefix_waiting : AppendedPrefix name (waits ++ take n piece) f g
       → AppendedPrefix name (waits ++ piece) f g
   prefix_waiting p = record {
@@ -144,7 +144,7 @@ module _ (name waits piece : List ℕ) (n : ℕ) (f g : Files) where
         (drop n piece) (omega (arith, p.short))) ∙ ap (take p.count) (piece_in_two waits piece n));
   }
 
--- a prefix of what waited and of a piece is one with another piece behind it
+-- a prefix of what waited and a piece is one of these and another piece after them
 pub prefix_in_front : {name : List ℕ} (waits front rest : List ℕ) {f g : Files}
     → AppendedPrefix name (waits ++ front) f g → AppendedPrefix name (waits ++ (front ++ rest)) f g
 prefix_in_front {name} waits front rest {f} {g} p =

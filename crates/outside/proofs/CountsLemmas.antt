@@ -2,7 +2,7 @@
 use Rattle.std.proofs.Common.{ap, arith, refl, ◌∙◌}
 use Rattle.outside.specs.Counts.{Counts, Happened, NoneFell, OnlyReads}
 
--- no count falls where none changes
+-- no count falls if none changes
 pub none_fell_same : (a : Counts) → NoneFell a a
 none_fell_same a = record {
   misses = omega arith;
@@ -11,7 +11,7 @@ none_fell_same a = record {
   write_faults = omega arith;
 }
 
--- no count falls over two calls if none does over either
+-- no count falls over two calls if none falls over either
 pub none_fell_then : (a b c : Counts) → NoneFell a b → NoneFell b c → NoneFell a c
 none_fell_then a b c p q = record {
   misses = omega arith;
@@ -20,7 +20,7 @@ none_fell_then a b c p q = record {
   write_faults = omega arith;
 }
 
--- where no count changes no more than reads happened
+-- if no count changes, nothing but reads happened
 pub only_reads_same : (a : Counts) → OnlyReads a a
 only_reads_same a = record {
   misses = omega arith;
@@ -39,7 +39,7 @@ only_reads_then a b c p q = record {
       q.write_faults ∙ p.write_faults;
 }
 
--- where there were only reads no count fell
+-- if there were only reads, no count fell
 pub none_fell_by_reads : (a b : Counts) → OnlyReads a b → NoneFell a b
 none_fell_by_reads a b p = record {
   misses = p.misses;

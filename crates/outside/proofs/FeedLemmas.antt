@@ -38,7 +38,7 @@ given_is n k room rest same ended = by_order (cases_lt k n)
         ap (λ m. take m room) e ∙ same ∙ take_all k rest (ended short)
         ∙ sym (take_all n rest (omega (arith, ended short)))
 
--- a part that was moved to the first place
+-- a part that was moved to the beginning
 pub moved_front : (before held : ℕ) (xs : List ℕ) → held ≤ length xs → before ≤ held
     → take (held - before) (copy_within xs before held 0) ≡ take (held - before) (drop before xs)
 moved_front before held xs within ordered =
@@ -47,11 +47,11 @@ moved_front before held xs within ordered =
     ∙ take-paste xs 0 (drop before xs) (held - before) (omega arith)
     (omega (arith, length-drop before xs))
 
--- of a list that fills the room of another this room has all of it
+-- a list that fills a room is all that is in it
 pub fills : (n : ℕ) (xs rest : List ℕ) → length xs ≡ n → take n (xs ++ rest) ≡ xs
 fills n xs rest size = ap (λ k. take k (xs ++ rest)) (sym size) ∙ take-append_seam xs rest
 
--- a buffer that was filled is one of a feed
+-- a buffer that was filled has the bounds of a feed
 pub within_filled : (n place held to : ℕ) (xs rest : List ℕ) → length xs ≡ n → n ≡ 65536 → held
     ≤ 65536 → to ≤ held → place ≤ 2 ^ 32 → AreFeedBounds (take n (xs ++ rest)) place held 0 to
 within_filled n place held to xs rest size whole few among early = record {

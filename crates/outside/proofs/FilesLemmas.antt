@@ -1,4 +1,4 @@
--- Laws of what a folder tells of its files, and of what a sink tells of its bytes.
+-- Laws of what is known of a folder's files, and of a sink's bytes.
 use Rattle.std.proofs.Common.{ap, append_assoc, arith, inl, inr, length, List, refl, subst, sym}
 use Rattle.std.proofs.Common.{take, ℕ, [], ◌++◌, ◌∙◌, ◌∷◌, ◌≡◌, ◌≢◌}
 use Rattle.std.proofs.lemmas.{Bool.false_from_ne_true, List.{append-nil, take_all}}
@@ -12,7 +12,7 @@ use Rattle.outside.specs.Files.{IsFileThere, OnlyTouches, Sent, sent_and_more, T
 use Rattle.outside.specs.Files.{Untold, untold_files, with_appended_bytes, with_empty_file}
 use Rattle.outside.specs.Files.{with_file, with_touch, with_tried_create}
 
--- the name of a file is equal to itself, and to no other
+-- the name of a file is equal to itself
 pub bytes_eq_same : (name : List ℕ) → bytes_eq name name ≡ true
 bytes_eq_same name = (bytes_eq-Decides name name).1 refl
 
@@ -37,7 +37,7 @@ unfolding with_file
 with_file_other f name bytes other apart =
     update_other bytes_eq f name (Some bytes) other (bytes_eq_other name other apart)
 
--- of bytes given to a name twice the last count
+-- of bytes given to a name twice, the second count
 pub with_file_twice : (f : Contents) (name bytes more : List ℕ)
     → with_file (with_file f name bytes) name more ≡ with_file f name more
 unfolding with_file
@@ -53,13 +53,13 @@ update_held f name w is = λ i q. at q (bytes_eq name q) refl i
     at q true e = update_same bytes_eq f name w q e ∙ sym is ∙ ap f ((bytes_eq-Decides name q).0 e)
     at q false e = update_other bytes_eq f name w q e
 
--- a name that is given its own bytes changes nothing
+-- giving a name the bytes that it has changes nothing
 pub with_file_same : (f : Contents) (name bytes : List ℕ) → f name ≡ Some bytes
     → with_file f name bytes ≡ f
 unfolding with_file
 with_file_same f name bytes is = update_held f name (Some bytes) is
 
--- what is there stays there when a name is given bytes
+-- a name that is there stays there when a name is given bytes
 pub is_some_with_file : (f : Contents) (name bytes other : List ℕ) → IsSome (f other)
     → IsSome (with_file f name bytes other)
 unfolding with_file
@@ -71,11 +71,11 @@ is_some_with_file f name bytes other there = at (bytes_eq name other)
 
 -- ---- which names may have been touched
 
--- that say the same of each name are one
+-- two that say the same of each name are equal
 pub same_touched : (a b : Touched) → ((name : List ℕ) → a name ≡ b name) → a ≡ b
 same_touched a b same = λ i name. same name i
 
--- touched twice is touched where it was either time
+-- touched twice is touched if it was either time
 pub touch_twice : (touched : Touched) (name : List ℕ) (first second both : Bool) → (first || second)
     ≡ both → with_touch (with_touch touched name first) name second ≡ with_touch touched name both
 touch_twice touched name first second both is =
@@ -100,7 +100,7 @@ some_byte_joined : (xs ys : List ℕ) → (is_some_byte xs || is_some_byte ys) �
 some_byte_joined [] ys = refl
 some_byte_joined (x ∷ xs) ys = refl
 
--- what touches a name leaves every other
+-- touching a name leaves every other
 touch_other : (touched : Touched) (name : List ℕ) (is_so : Bool) (other : List ℕ) → other ≢ name
     → with_touch touched name is_so other ≡ touched other
 touch_other touched name is_so other apart =
@@ -112,9 +112,9 @@ touch_other touched name is_so other apart =
     at false true = refl
     at false false = refl
 
--- ---- what is emptied and appended to
+-- ---- files that are emptied and appended to
 
--- appending twice is appending the two joined
+-- appending twice is appending both joined
 pub appended_twice : (files : Files) (name xs ys : List ℕ)
     → with_appended_bytes (with_appended_bytes files name xs) name ys
     ≡ with_appended_bytes files name (xs ++ ys)
@@ -139,13 +139,13 @@ appended_nothing (Told f) name there =
     held None there = cc
     held (Some bytes) there = refl
 
--- contents that are told, emptied and appended to
+-- known contents in which a name has no bytes are those with it emptied
 pub emptied_is : (f new : Contents) (name : List ℕ) → new ≡ with_file f name []
     → Told new ≡ with_empty_file (Told f) name
 unfolding with_empty_file
 emptied_is f new name is = ap Told is
 
--- the contents with these bytes after the name's own are told as appended to
+-- known contents with these bytes after the name's own are those with them appended
 pub appended_is : (f new : Contents) (name bytes : List ℕ)
     → new ≡ with_file f name (unwrap_or (f name) [] ++ bytes)
     → Told new ≡ with_appended_bytes (Told f) name (take (length bytes) bytes)
@@ -154,7 +154,7 @@ appended_is f new name bytes is =
     ap Told is ∙ ap (λ more. Told (with_file f name (unwrap_or (f name) [] ++ more)))
     (sym (take_all (length bytes) bytes (omega arith)))
 
--- emptied and then appended to, the name holds exactly these bytes
+-- a name that was emptied and then appended to holds exactly these bytes
 pub written_holds : (files : Files) (name bytes : List ℕ) → is_told files ≡ true
     → Holds (with_appended_bytes (with_empty_file files name) name bytes) name bytes
 unfolding with_empty_file with_appended_bytes
@@ -163,7 +163,7 @@ written_holds (Told f) name bytes told =
     with_file_here (with_file f name []) name _
     ∙ ap (λ (o : Option (List ℕ)). Some (unwrap_or o [] ++ bytes)) (with_file_here f name [])
 
--- every other name stays
+-- when a name is emptied, every other holds what it held
 pub emptied_holds_other : (files : Files) (name other bytes : List ℕ) → other ≢ name
     → Holds files other bytes → Holds (with_empty_file files name) other bytes
 unfolding with_empty_file
@@ -171,7 +171,7 @@ emptied_holds_other (Untold touched) name other bytes apart holds = holds
 emptied_holds_other (Told f) name other bytes apart holds =
     with_file_other f name [] other apart ∙ holds
 
--- every other name stays when bytes are appended
+-- when a name is appended to, every other holds what it held
 pub appended_holds_other : (files : Files) (name more other bytes : List ℕ) → other ≢ name
     → Holds files other bytes → Holds (with_appended_bytes files name more) other bytes
 unfolding with_appended_bytes
@@ -179,7 +179,7 @@ appended_holds_other (Untold touched) name more other bytes apart holds = holds
 appended_holds_other (Told f) name more other bytes apart holds =
     with_file_other f name _ other apart ∙ holds
 
--- and held already what it holds
+-- when a name is emptied, every other held what it holds
 pub emptied_held_other : (files : Files) (name other bytes : List ℕ) → other ≢ name
     → Holds (with_empty_file files name) other bytes → Holds files other bytes
 unfolding with_empty_file
@@ -187,7 +187,7 @@ emptied_held_other (Untold touched) name other bytes apart holds = holds
 emptied_held_other (Told f) name other bytes apart holds =
     sym (with_file_other f name [] other apart) ∙ holds
 
--- and held already what it holds
+-- when a name is appended to, every other held what it holds
 pub appended_held_other : (files : Files) (name more other bytes : List ℕ) → other ≢ name
     → Holds (with_appended_bytes files name more) other bytes → Holds files other bytes
 unfolding with_appended_bytes
@@ -195,7 +195,7 @@ appended_held_other (Untold touched) name more other bytes apart holds = holds
 appended_held_other (Told f) name more other bytes apart holds =
     sym (with_file_other f name _ other apart) ∙ holds
 
--- a name that was emptied or appended to is there, and no name goes
+-- a name that was emptied is there
 pub emptied_there : (files : Files) (name : List ℕ) → IsFileThere (with_empty_file files name) name
 unfolding with_empty_file
 emptied_there (Untold touched) name = tt
@@ -208,49 +208,49 @@ unfolding with_appended_bytes
 appended_there (Untold touched) name more = tt
 appended_there (Told f) name more = ap is_some (with_file_here f name _)
 
--- no name goes when one is emptied
+-- a name that was there is still there when one is emptied
 pub emptied_keeps : (files : Files) (name other : List ℕ) → IsFileThere files other
     → IsFileThere (with_empty_file files name) other
 unfolding with_empty_file
 emptied_keeps (Untold touched) name other there = tt
 emptied_keeps (Told f) name other there = is_some_with_file f name [] other there
 
--- nor when one is appended to
+-- a name that was there is still there when one is appended to
 pub appended_keeps : (files : Files) (name more other : List ℕ) → IsFileThere files other
     → IsFileThere (with_appended_bytes files name more) other
 unfolding with_appended_bytes
 appended_keeps (Untold touched) name more other there = tt
 appended_keeps (Told f) name more other there = is_some_with_file f name _ other there
 
--- whether files are told never changes
+-- emptying a name doesn't change whether the content of the files is known
 pub emptied_told : (files : Files) (name : List ℕ)
     → is_told (with_empty_file files name) ≡ is_told files
 unfolding with_empty_file
 emptied_told (Untold touched) name = refl
 emptied_told (Told f) name = refl
 
--- nor does an append change whether files are told
+-- appending to a name doesn't change whether the content of the files is known
 pub appended_told : (files : Files) (name more : List ℕ)
     → is_told (with_appended_bytes files name more) ≡ is_told files
 unfolding with_appended_bytes
 appended_told (Untold touched) name more = refl
 appended_told (Told f) name more = refl
 
--- a folder that tells nothing at all tells nothing more when it is written to
+-- a folder that may have touched any name still may have when it is written to
 pub untold_written : {E : Type 0} (r : Result ℕ E) (name bytes : List ℕ)
     → IfOk r (λ k. untold_files ≡ with_appended_bytes untold_files name (take k bytes))
 unfolding with_appended_bytes
 untold_written (Ok k) name bytes = refl
 untold_written (Err fault) name bytes = tt
 
--- ---- which names stay
+-- ---- which names are unchanged
 
 All-split : {X : Type 0} (P : X → Type 0) (xs ys : List X) → All P (xs ++ ys) → All P xs × All P ys
 All-split P [] ys all = (All-nil P, all)
 All-split P (x ∷ xs) ys all = let rest = All-split P xs ys (All-tail P x (xs ++ ys) all) in
     (All-cons P x xs (All-head P x (xs ++ ys) all) rest.0, rest.1)
 
--- where no file changes only these names are touched, whichever they are
+-- if no file changes, only these names are touched, whichever they are
 pub touches_none : (names : List (List ℕ)) (files : Files) → OnlyTouches names files files
 touches_none names (Told f) = λ other apart. refl
 touches_none names (Untold touched) = λ other apart. refl
@@ -267,7 +267,7 @@ touches_then names (Untold f) (Told g) c first second = absurd first
 touches_then names (Told f) (Told g) (Untold h) first second = absurd second
 touches_then names (Untold f) (Untold g) (Told h) first second = absurd second
 
--- also where more names may be touched
+-- a call that touches only some names touches only these and more
 pub touches_more : (few many : List (List ℕ)) (old new : Files)
     → ((other : List ℕ) → All (λ name. other ≢ name) many → All (λ name. other ≢ name) few)
     → OnlyTouches few old new → OnlyTouches many old new
@@ -277,7 +277,7 @@ touches_more few many (Untold f) (Untold g) among only =
 touches_more few many (Told f) (Untold g) among only = only
 touches_more few many (Untold f) (Told g) among only = only
 
--- what touches some names, and then others, touches both
+-- a call that touches some names and then one that touches others touch only both
 pub touches_both : (first second : List (List ℕ)) (a b c : Files) → OnlyTouches first a b
     → OnlyTouches second b c → OnlyTouches (first ++ second) a c
 touches_both first second a b c before after =
@@ -299,7 +299,7 @@ emptied_touches (Told f) name =
 emptied_touches (Untold touched) name =
     λ other apart. touch_other touched name true other (first_apart name other apart)
 
--- so does appending to it
+-- appending to a name touches it alone
 pub appended_touches : (files : Files) (name more : List ℕ)
     → OnlyTouches (name ∷ []) files (with_appended_bytes files name more)
 unfolding with_appended_bytes
@@ -315,7 +315,7 @@ tried_touches (Told f) name = λ other apart. refl
 tried_touches (Untold touched) name =
     λ other apart. touch_other touched name true other (first_apart name other apart)
 
--- so does a call to create it that fails
+-- a call to create a name that fails touches it alone
 pub fails_touches : (old new : Files) (name : List ℕ) → FailsToCreate name old new
     → OnlyTouches (name ∷ []) old new
 fails_touches old new name (inl same) =
@@ -323,14 +323,14 @@ fails_touches old new name (inl same) =
 fails_touches old new name (inr touched) =
     subst (λ files. OnlyTouches (name ∷ []) old files) (sym touched) (tried_touches old name)
 
--- a call to create a file that failed left told files
+-- a call to create a name that failed left files whose content is known
 pub fails_told : (f : Contents) (new : Files) (name : List ℕ) → FailsToCreate name (Told f) new
     → new ≡ Told f
 unfolding with_tried_create
 fails_told f new name (inl same) = same
 fails_told f new name (inr touched) = touched
 
--- told files stay told
+-- touching names doesn't change whether the content of the files is known
 pub touches_told : (names : List (List ℕ)) (old new : Files) → OnlyTouches names old new
     → is_told new ≡ is_told old
 touches_told names (Told f) (Told g) only = refl
@@ -338,9 +338,9 @@ touches_told names (Untold f) (Untold g) only = refl
 touches_told names (Told f) (Untold g) only = absurd only
 touches_told names (Untold f) (Told g) only = absurd only
 
--- ---- what is told
+-- ---- what is known
 
--- where files are told, what is there has bytes, and no two lists of them
+-- if the content of the files is known, a name that is there holds bytes
 pub there_holds : (f : Contents) (name : List ℕ) → IsFileThere (Told f) name
     → (bytes : List ℕ) × Holds (Told f) name bytes
 there_holds f name there = held (f name) there
@@ -349,14 +349,14 @@ there_holds f name there = held (f name) there
     held None there = cc
     held (Some bytes) there = (bytes, refl)
 
--- where no bytes can be those of a file that is there, nothing is told
+-- if no bytes can be those of a name that is there, the content isn't known
 pub nothing_told : (files : Files) (name : List ℕ) → IsFileThere files name
     → ((bytes : List ℕ) → Holds files name bytes → ⊥) → is_told files ≡ false
 nothing_told (Untold touched) name there none = refl
 nothing_told (Told f) name there none = let held = there_holds f name there in
     absurd (none held.0 held.1)
 
--- sending twice is sending the two joined
+-- sending twice is sending both joined
 pub sent_twice : (sent : Sent) (xs ys : List ℕ)
     → sent_and_more (sent_and_more sent xs) ys ≡ sent_and_more sent (xs ++ ys)
 unfolding sent_and_more
@@ -369,7 +369,7 @@ unfolding sent_and_more
 sent_nothing None = refl
 sent_nothing (Some s) = ap Some (append-nil s)
 
--- bytes that are told, and more after them
+-- known bytes with these after them are the bytes with these sent
 pub sent_is : (s new bytes : List ℕ) → new ≡ s ++ bytes
     → Some new ≡ sent_and_more (Some s) (take (length bytes) bytes)
 unfolding sent_and_more

@@ -1,4 +1,4 @@
--- Steps of a pass, one after the other.
+-- The steps of a pass, in order.
 use Rattle.std.proofs.Common.{ap, append-nil, append_assoc, arith, drop, length, length-append}
 use Rattle.std.proofs.Common.{List, refl, subst, sym, take, ℕ, [], ◌++◌, ◌+◌, ◌-◌, ◌∙◌, ◌≡◌, ◌≢◌}
 use Rattle.std.proofs.{Common.◌≤◌, Math.Seq.{take-add, take-append-add}}
@@ -18,29 +18,29 @@ use Rattle.outside.specs.declared.exact.ReadFault.TheVariants.{Failed, Shrunk as
 use Rattle.outside.specs.declared.pass.{Pass.Pass, PassFault.PassFault}
 use Rattle.outside.specs.declared.pass.PassFault.TheVariants.{Read, Shrunk, Write}
 
--- The first of the bytes went on, and the rest of them are to follow.
+-- The first of the bytes were passed on, and the rest are still to come.
 pub record WritesUpTo (pass : Pass) (whole rest : List ℕ → List ℕ) (before after : List ℕ)
     (old new : Files) : Type 0 where
   pub made : List ℕ → List ℕ
   pub written : WritesMadeBytes pass made before after old new
   pub left : (file : List ℕ) → Holds old pass.input.now file → whole file ≡ made file ++ rest file
 
--- ---- files, where the output got more bytes
+-- ---- files after the output got more bytes
 
 module _ (old new : Files) (input output more file : List ℕ) (apart : input ≢ output)
     (is : new ≡ with_appended_bytes old output more) where
-  -- the input stays
+  -- the input holds what it held
   pub input_holds : Holds old input file → Holds new input file
   input_holds holds = subst (λ f. Holds f input file) (sym is)
       (appended_holds_other old output more input file apart holds)
 
-  -- and it was so before
+  -- the input held what it holds
   pub input_held : Holds new input file → Holds old input file
   input_held holds =
       appended_held_other old output more input file apart
       (subst (λ f. Holds f input file) is holds)
 
--- no name goes
+-- a name that was there is still there
 pub still_there : (old new : Files) (output more name : List ℕ)
     → new ≡ with_appended_bytes old output more → IsFileThere old name → IsFileThere new name
 still_there old new output more name is there =
@@ -73,7 +73,7 @@ passed_ready pass {before} {after} {old} {new} {fed} passed ready =
 -- ---- single steps
 
 module _ (pass : Pass) where
-  -- nothing more
+  -- a step that writes nothing
   pub writes_nothing : (made : List ℕ → List ℕ) (waiting : List ℕ) (files : Files)
       → IsFileThere files pass.output.now → AreBytesMade files pass.input.now made []
       → WritesMadeBytes pass made waiting waiting files files
@@ -88,14 +88,14 @@ module _ (pass : Pass) where
     };
   }
 
-  -- a piece that was pushed
+  -- a step that pushes a piece
   pub writes_piece : (made : List ℕ → List ℕ) {piece before after : List ℕ} {old new : Files}
       → AreBytesMade old pass.input.now made piece
       → AppendsWaiting pass.output.now (before ++ piece) after old new
       → WritesMadeBytes pass made before after old new
   writes_piece made {piece} is passed = record { piece = piece; is = is; passed = passed }
 
-  -- a piece of which only a prefix was written
+  -- a step that wrote only a prefix of a piece
   pub prefix_piece : (made : List ℕ → List ℕ) {piece before : List ℕ} {old new : Files}
       {fault : PassFault} → AreBytesMade old pass.input.now made piece
       → AppendedPrefix pass.output.now (before ++ piece) old new
@@ -113,7 +113,7 @@ module _ (pass : Pass) where
         files = prefix.files;
       }
 
-  -- nothing was appended yet, where a read failed
+  -- a step whose read failed appended nothing
   pub prefix_nothing : (made : List ℕ → List ℕ) (before : List ℕ) (old new : Files)
       {fault : PassFault} → IsReadPassFault fault → new ≡ old → IsFileThere old pass.output.now
       → WritesPrefix pass made before old new fault
@@ -124,7 +124,7 @@ module _ (pass : Pass) where
     files = same ∙ sym (appended_nothing old pass.output.now there);
   }
 
-  -- the same, where the bytes are made in another way that gives the same
+  -- bytes that are made in another way with the same result
   pub writes_as : {made : List ℕ → List ℕ} (other : List ℕ → List ℕ) {before after : List ℕ}
       {old new : Files} → ((file : List ℕ) → Holds old pass.input.now file → made file ≡ other file)
       → WritesMadeBytes pass made before after old new
@@ -136,7 +136,7 @@ module _ (pass : Pass) where
         step.passed;
   }
 
-  -- a prefix of some is one of more
+  -- a prefix of some bytes is a prefix of these and more
   pub prefix_as : {made : List ℕ → List ℕ} (other rest : List ℕ → List ℕ) {before : List ℕ}
       {old new : Files} {fault : PassFault}
       → ((file : List ℕ) → Holds old pass.input.now file → other file ≡ made file ++ rest file)
@@ -163,7 +163,7 @@ module _ (pass : Pass) where
         files = part.files;
       }
 
--- ---- a step after a step
+-- ---- a step after another
 
 module _ (pass : Pass) (apart : pass.input.now ≢ pass.output.now) {made : List ℕ → List ℕ}
     {before mid : List ℕ} {old now : Files}
@@ -173,17 +173,17 @@ module _ (pass : Pass) (apart : pass.input.now ≢ pass.output.now) {made : List
   writes_holds file holds = input_holds old now
       pass.input.now pass.output.now step.passed.passed file apart step.passed.files holds
 
-  -- and held what it holds
+  -- the input held what it holds
   pub writes_held : (file : List ℕ) → Holds now pass.input.now file → Holds old pass.input.now file
   writes_held file holds = input_held old now pass.input.now pass.output.now step.passed.passed file
       apart step.passed.files holds
 
-  -- no name goes
+  -- a name that was there is still there
   pub writes_there : (name : List ℕ) → IsFileThere old name → IsFileThere now name
   writes_there name there =
       still_there old now pass.output.now step.passed.passed name step.passed.files there
 
-  -- what two steps wrote is what they made, one after the other
+  -- what two steps wrote is what the first made followed by what the second made
   pub writes_then : {next : List ℕ → List ℕ} {after : List ℕ} {new : Files}
       → WritesMadeBytes pass next mid after now new
       → WritesMadeBytes pass (λ file. made file ++ next file) before after old new
@@ -195,7 +195,7 @@ module _ (pass : Pass) (apart : pass.input.now ≢ pass.output.now) {made : List
         step.piece more.piece) (passed_more more.piece step.passed more.passed);
   }
 
-  -- a step that ends early after a step
+  -- a step after another that ends early
   pub prefix_then : {next : List ℕ → List ℕ} {new : Files} {fault : PassFault}
       → WritesPrefix pass next mid now new fault
       → WritesPrefix pass (λ file. made file ++ next file) before old new fault
@@ -228,10 +228,10 @@ module _ (pass : Pass) (apart : pass.input.now ≢ pass.output.now) {made : List
             ∙ appended_twice old pass.output.now first.passed more.bytes;
       }
 
--- ---- as far as the bytes went on
+-- ---- the bytes passed on so far
 
 module _ (pass : Pass) where
-  -- before the first step nothing went on, and all is to follow
+  -- before the first step nothing was passed on, and all bytes are still to come
   pub up_to_begun : (whole : List ℕ → List ℕ) (waiting : List ℕ) (files : Files)
       → IsFileThere files pass.output.now → WritesUpTo pass whole whole waiting waiting files files
   up_to_begun whole waiting files there = record {
@@ -243,7 +243,7 @@ module _ (pass : Pass) where
 module _ (pass : Pass) (apart : pass.input.now ≢ pass.output.now) {whole rest : List ℕ → List ℕ}
     {before mid : List ℕ} {old now : Files}
     (sofar : WritesUpTo pass whole rest before mid old now) where
-  -- the input is as it was
+  -- the input held what it holds
   pub up_to_held : (file : List ℕ) → Holds now pass.input.now file → Holds old pass.input.now file
   up_to_held file holds = writes_held pass apart sofar.written file holds
 
@@ -255,7 +255,7 @@ module _ (pass : Pass) (apart : pass.input.now ≢ pass.output.now) {whole rest 
         sofar.left file holds ∙ ap (λ (l : List ℕ). sofar.made file ++ l) (is file holds)
         ∙ sym (append_assoc (sofar.made file) (next file) (later file))
 
-    -- what went on, with one step more, are more of the bytes
+    -- one more step passes on more of the bytes
     pub up_to_more : {after : List ℕ} {new : Files} → WritesMadeBytes pass next mid after now new
         → WritesUpTo pass whole later before after old new
     up_to_more step = record {
@@ -264,12 +264,12 @@ module _ (pass : Pass) (apart : pass.input.now ≢ pass.output.now) {whole rest 
       left = both;
     }
 
-    -- if that step failed, what went on is a prefix of them
+    -- if that step failed, a prefix of the bytes was passed on
     pub up_to_prefix : {new : Files} {fault : PassFault} → WritesPrefix pass next mid now new fault
         → WritesPrefix pass whole before old new fault
     up_to_prefix part = prefix_as pass whole later both (prefix_then pass apart sofar.written part)
 
-  -- where nothing is to follow all of them went on
+  -- if none are still to come, all of them were passed on
   pub up_to_end : ((file : List ℕ) → Holds old pass.input.now file → rest file ≡ [])
       → WritesMadeBytes pass whole before mid old now
   up_to_end none =
@@ -278,10 +278,10 @@ module _ (pass : Pass) (apart : pass.input.now ≢ pass.output.now) {whole rest 
       ∙ ap (λ (l : List ℕ). sofar.made file ++ l) (none file holds) ∙ append-nil (sofar.made file)))
       sofar.written
 
-  -- the last of them
+  -- the last step:
   module _ (next : List ℕ → List ℕ)
       (is : (file : List ℕ) → Holds old pass.input.now file → rest file ≡ next file) where
-    -- with the last step all of them went on
+    -- with the last step all of them were passed on
     pub up_to_last : {after : List ℕ} {new : Files} → WritesMadeBytes pass next mid after now new
         → WritesMadeBytes pass whole before after old new
     up_to_last step =
@@ -290,13 +290,13 @@ module _ (pass : Pass) (apart : pass.input.now ≢ pass.output.now) {whole rest 
         sym (sofar.left file holds ∙ ap (λ (l : List ℕ). sofar.made file ++ l) (is file holds)))
         (writes_then pass apart sofar.written step)
 
-    -- if that step failed, a prefix of them did
+    -- if that step failed, a prefix of them was passed on
     pub up_to_last_prefix : {new : Files} {fault : PassFault}
         → WritesPrefix pass next mid now new fault → WritesPrefix pass whole before old new fault
     up_to_last_prefix part = up_to_prefix next (λ file. [])
         (λ file holds. is file holds ∙ sym (append-nil (next file))) part
 
--- ---- what waits is handed on
+-- ---- what waits is appended at the end
 
 module _ (pass : Pass) (made : List ℕ → List ℕ) {waiting : List ℕ} {old now new : Files}
     (step : WritesMadeBytes pass made [] waiting old now) where
@@ -312,7 +312,7 @@ module _ (pass : Pass) (made : List ℕ → List ℕ) {waiting : List ℕ} {old 
         ∙ ap (with_appended_bytes old pass.output.now) (sym step.passed.split);
   }
 
-  -- if a prefix of it was, a prefix of all was
+  -- if a prefix of it was, a prefix of all bytes was
   pub writes_end : {fault : PassFault} → AppendedPrefix pass.output.now waiting now new
       → AppendsPrefix pass.input.now pass.output.now made old new fault
   writes_end part =
@@ -343,14 +343,14 @@ module _ (pass : Pass) (made : List ℕ → List ℕ) {waiting : List ℕ} {old 
             ∙ appended_twice old pass.output.now passed (take part.count waiting);
       }
 
--- nothing waited before
+-- bytes written when nothing waited before
 pub writes_behind_none : {pass : Pass} {made : List ℕ → List ℕ} {before after : List ℕ}
     {old new : Files} → before ≡ [] → WritesMadeBytes pass made before after old new
     → WritesMadeBytes pass made [] after old new
 writes_behind_none {pass} {made} {before} {after} {old} {new} none step =
     subst (λ (l : List ℕ). WritesMadeBytes pass made l after old new) none step
 
--- so where a step failed only a prefix was appended
+-- a part that was appended when nothing waited before is only a prefix
 pub part_behind_none : {input output : List ℕ} {made : List ℕ → List ℕ} {before : List ℕ}
     {old new : Files} {fault : PassFault} → before ≡ []
     → AppendsPart input output made before old new fault
@@ -360,19 +360,19 @@ part_behind_none {input} {output} {made} {before} {old} {new} {fault} none part 
 
 -- ---- counts and causes
 
--- that of a read is a cause of the pass
+-- the cause of a fault of reading is a cause of the pass
 pub read_cause : (way : Route) (files : Files) (before after : Counts) (fault : ReadFault)
     → HasReadCause way.input way.size files before after fault
     → HasPassCause way files before after (pass_fault_of fault)
 read_cause way files before after Failed cause = cause
 read_cause way files before after (ShrunkRead first second) cause = cause
 
--- that of a read is no fault of a write
+-- a fault of reading is no fault of writing
 pub read_kind : (fault : ReadFault) → IsReadPassFault (pass_fault_of fault)
 read_kind Failed = tt
 read_kind (ShrunkRead first second) = tt
 
--- a cause after a step that succeeded is one of both
+-- a cause after a step that succeeded is a cause of both steps
 pub cause_later : (way : Route) (old now : Files) (output more : List ℕ) (before mid after : Counts)
     (fault : PassFault) → now ≡ with_appended_bytes old output more → mid ≡ before
     → HasPassCause way now mid after fault → HasPassCause way old before after fault
@@ -390,7 +390,7 @@ cause_later way old now output more before mid after (Shrunk first second) grown
 cause_later way old now output more before mid after Write grown same cause =
     subst (λ counts. HasPassCause way old counts after Write) same cause
 
--- so is that of a result
+-- a result's cause after a step that succeeded is a cause of both steps
 pub causes_later : {T : Type 0} (r : Result T PassFault) (way : Route) (old now : Files)
     (output more : List ℕ) (before mid after : Counts) → now ≡ with_appended_bytes old output more
     → mid ≡ before → IfErr r (HasPassCause way now mid after)
@@ -399,18 +399,18 @@ causes_later (Ok x) way old now output more before mid after grown same cause = 
 causes_later (Err fault) way old now output more before mid after grown same cause =
     cause_later way old now output more before mid after fault grown same cause
 
--- after bytes that went on
+-- after bytes that were passed on:
 module _ {pass : Pass} {made : List ℕ → List ℕ} {before mid : List ℕ} {old now : Files}
     (step : WritesMadeBytes pass made before mid old now) (way : Route)
     (then between after : Counts)
     (same : between ≡ then) where
-  -- the cause of a fault behind them is a cause of the whole
+  -- the cause of a later fault is a cause of the whole
   pub cause_behind : (fault : PassFault) → HasPassCause way now between after fault
       → HasPassCause way old then after fault
   cause_behind fault cause = cause_later way old now pass.output.now step.passed.passed
       then between after fault step.passed.files same cause
 
-  -- so is that of a result
+  -- the cause of a later result's fault is a cause of the whole
   pub causes_behind : {T : Type 0} (r : Result T PassFault)
       → IfErr r (HasPassCause way now between after) → IfErr r (HasPassCause way old then after)
   causes_behind r cause = causes_later r way old now pass.output.now step.passed.passed
@@ -418,7 +418,7 @@ module _ {pass : Pass} {made : List ℕ → List ℕ} {before mid : List ℕ} {o
 
 -- ---- bytes from one offset to another
 
--- the bytes between two offsets are the first of them and those behind
+-- the bytes between two offsets are the first `n` of them and those that follow
 pub between_split : (file : List ℕ) (at n to : ℕ) → at + n ≤ to
     → bytes_between file at to ≡ take n (drop at file) ++ bytes_between file (at + n) to
 between_split file at n to within =
@@ -429,7 +429,7 @@ between_split file at n to within =
 
 -- ---- bytes of the input that are copied
 
--- those before `at` went on, and all is ready for the others
+-- the bytes before `at` were passed on, and all is ready for the others
 pub record CopiesUpTo (pass : Pass) (from at to : ℕ) (before mid : List ℕ) (fed : Fed)
     (old now : Seen) : Type 0 where
   pub in_range : at ≤ to
@@ -439,7 +439,7 @@ pub record CopiesUpTo (pass : Pass) (from at to : ℕ) (before mid : List ℕ) (
   pub ready : IsPassReady pass now.files fed
   pub done : now.counts ≡ old.counts
 
--- before the first of them nothing went on, and all is ready
+-- before the first of them nothing was passed on, and all is ready
 pub copies_begun : (pass : Pass) (from to : ℕ) (waiting : List ℕ) (fed : Fed) (old : Seen) → from
     ≤ to → IsPassReady pass old.files fed → CopiesUpTo pass from from to waiting waiting fed old old
 copies_begun pass from to waiting fed old ordered ready = record {
@@ -449,12 +449,12 @@ copies_begun pass from to waiting fed old ordered ready = record {
   done = refl;
 }
 
--- a piece more
+-- one more piece:
 module _ {pass : Pass} {from at to : ℕ} {before mid after : List ℕ} {fed next : Fed}
     {old now new : Seen}
     (copied : CopiesUpTo pass from at to before mid fed old now) (n : ℕ)
     (within : at + n ≤ to) where
-  -- a piece that was copied is one more
+  -- a piece that was copied takes the copy one piece further
   pub copies_more : {T : Type 0} {x : T}
       → PassMakes pass (bytes_at at n) mid after next now new (Ok x)
       → CopiesUpTo pass from (at + n) to before after next old new

@@ -1,4 +1,4 @@
--- A piece that is written or read in several calls, one after the other.
+-- A piece that is written or read in several calls.
 use Rattle.std.proofs.Common.{ap, arith, drop, length, length-append, length-drop, List, subst, sym}
 use Rattle.std.proofs.Common.{take, ℕ, ◌++◌, ◌+◌, ◌-◌, ◌∙◌, ◌≡◌, ◌≤◌}
 use Rattle.std.proofs.Math.Seq.{drop-append-add, take-append-add, take-append_seam}
@@ -16,7 +16,7 @@ take_then m n xs =
     ∙ ap (λ front. front ++ drop m (take (m + n) xs)) (take-take m (m + n) xs (omega arith))
     ∙ ap (λ back. take m xs ++ back) (drop-take m n xs)
 
--- the part from m on, as code that slices it says it
+-- the part from m on, as code that slices it says
 pub part_from : {X : Type 0} (m : ℕ) (xs : List X) → take (length xs - m) (drop m xs) ≡ drop m xs
 part_from m xs = take_all (length xs - m) (drop m xs) (omega (arith, length-drop m xs))
 
@@ -31,7 +31,7 @@ appended_then old before now name bytes m n first then =
     ∙ appended_twice old name (take m bytes) (take n (drop m bytes))
     ∙ ap (with_appended_bytes old name) (sym (take_then m n bytes))
 
--- a prefix that was sent, and the next part of the bytes, are a longer prefix
+-- a prefix that was sent and the next part of the bytes are a longer prefix
 pub sent_then : (old before now : Sent) (bytes : List ℕ) (m n : ℕ)
     → before ≡ sent_and_more old (take m bytes) → now ≡ sent_and_more before (take n (drop m bytes))
     → now ≡ sent_and_more old (take (m + n) bytes)
@@ -41,16 +41,16 @@ sent_then old before now bytes m n first then =
     ∙ sent_twice old (take m bytes) (take n (drop m bytes))
     ∙ ap (sent_and_more old) (sym (take_then m n bytes))
 
--- what is before the part that was put in
+-- what precedes the part that was put in is kept
 pub front_kept : (m n : ℕ) (xs ys : List ℕ) → m ≤ length xs → take m (put_mid m n xs ys) ≡ take m xs
 front_kept m n xs ys in_range =
     ap (λ k. take k (put_mid m n xs ys)) (sym (length-take-le m xs in_range))
     ∙ take-append_seam (take m xs) (ys ++ drop n (drop m xs))
 
--- a list with its end, from m on, filled again
+-- a list whose end, from m on, was filled again
 module _ (m n : ℕ) (xs ys : List ℕ) (in_range : m ≤ length xs)
     (as_many : length ys ≡ length xs - m) where
-  -- it has what was there before m, and then what was filled in
+  -- it has what it had before m, and then what was filled in
   pub refilled : put_mid m (length xs - m) xs ys ≡ take m xs ++ ys
   refilled =
       ap (λ (back : List ℕ). take m xs ++ (ys ++ back))
@@ -68,7 +68,7 @@ module _ (m n : ℕ) (xs ys : List ℕ) (in_range : m ≤ length xs)
   drop_front =
       ap (λ k. drop (k + n) (take m xs ++ ys)) (sym front) ∙ drop-append-add (take m xs) ys n
 
-  -- and is as long as before
+  -- it is as long as before
   pub length_refilled : length (put_mid m (length xs - m) xs ys) ≡ length xs
   length_refilled = ap length refilled ∙ length-append (take m xs) ys ∙ omega (arith, front)
 
@@ -82,13 +82,13 @@ module _ (m n : ℕ) (xs ys : List ℕ) (in_range : m ≤ length xs)
       ∙ ap (λ (list : List ℕ). take m all ++ list) more
       ∙ sym (take_then m n all)
 
-  -- what lies past them
+  -- what comes after them is unchanged
   pub drop_refilled : (old : List ℕ) → drop m xs ≡ drop m old → drop n ys ≡ drop n (drop m xs)
       → drop (m + n) (put_mid m (length xs - m) xs ys) ≡ drop (m + n) old
   drop_refilled old here more =
       ap (drop (m + n)) refilled ∙ drop_front ∙ more ∙ ap (drop n) here ∙ drop-drop n m old
 
-  -- no more of them came
+  -- if no more bytes came, the rest is unchanged
   pub drop_unread : (old : List ℕ) → n ≡ 0 → drop m xs ≡ drop m old → drop n ys ≡ drop n (drop m xs)
       → drop m (put_mid m (length xs - m) xs ys) ≡ drop m old
   drop_unread old none here more =

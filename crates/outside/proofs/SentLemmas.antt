@@ -10,7 +10,7 @@ use Rattle.outside.specs.{BufferOutput.{SendsWaiting, SentPrefix}, Files.{Sent, 
 pub sent_none : (sent : Sent) (bytes : List ℕ) → SendsWaiting bytes bytes sent sent
 sent_none sent bytes = record { passed = []; split = refl; sent = sym (sent_nothing sent) }
 
--- all was sent, and this waits after it
+-- all that waited was sent, and this piece waits after it
 pub sent_all : (sent new : Sent) (waits piece : List ℕ) → new ≡ sent_and_more sent waits
     → SendsWaiting (waits ++ piece) piece sent new
 sent_all sent new waits piece is = record { passed = waits; split = refl; sent = is }
@@ -29,7 +29,7 @@ sent_with {before} {after} {s} {t} piece p = record {
   sent = p.sent;
 }
 
--- something was sent, and then more
+-- what was sent in two steps was sent in one
 pub sent_then : {before mid after : List ℕ} {s t u : Sent} → SendsWaiting before mid s t
     → SendsWaiting mid after t u → SendsWaiting before after s u
 sent_then {before} {mid} {after} {s} {t} {u} p q = record {
@@ -41,7 +41,7 @@ sent_then {before} {mid} {after} {s} {t} {u} p q = record {
   sent = q.sent ∙ ap (λ sent. sent_and_more sent q.passed) p.sent ∙ sent_twice s p.passed q.passed;
 }
 
--- two pieces that were sent one after the other were sent together
+-- two pieces that were sent in order were sent together
 pub sent_more_on : {before mid after : List ℕ} {s t u : Sent} (piece : List ℕ)
     → SendsWaiting before mid s t → SendsWaiting (mid ++ piece) after t u
     → SendsWaiting (before ++ piece) after s u
@@ -69,7 +69,7 @@ module _ {before mid : List ℕ} {s t u : Sent} (p : SendsWaiting before mid s t
       ∙ sent_twice s p.passed mid
       ∙ ap (sent_and_more s) (sym p.split)
 
--- if of the second of two pieces only a prefix was sent, a prefix of both was
+-- if only a prefix of the second of two pieces was sent, a prefix of both was
 pub sent_more_prefix : {before mid : List ℕ} {s t u : Sent} (piece : List ℕ)
     → SendsWaiting before mid s t → SentPrefix (mid ++ piece) t u → SentPrefix (before ++ piece) s u
 sent_more_prefix piece p q = sent_then_prefix (sent_with piece p) q
@@ -85,7 +85,7 @@ sent_prefix_of {bytes} {s} {t} behind p = record {
 
 -- ---- a piece that is sent at once, after what waited
 
--- what waited and then a piece were sent, and nothing waits
+-- if what waited and then a piece were sent, nothing waits
 pub sent_over : {T E : Type 0} (r : Result T E) (waits piece after : List ℕ) (s t u : Sent)
     → t ≡ sent_and_more s waits → after ≡ [] → OnOk r (u ≡ sent_and_more t piece)
     → OnOk r (SendsWaiting (waits ++ piece) after s u)
@@ -94,7 +94,7 @@ sent_over (Ok x) waits piece after s t u first none more =
     rw none (sent_out s u (waits ++ piece)
     (more ∙ ap (λ sent. sent_and_more sent piece) first ∙ sent_twice s waits piece))
 
--- the same of a prefix of the piece, where a write failed
+-- if a write of the piece failed, a prefix of what waited and the piece was sent
 pub sent_over_prefix : {T E : Type 0} (r : Result T E) (waits piece : List ℕ) (s t u : Sent) → t
     ≡ sent_and_more s waits
     → OnErr r ((k : ℕ) × (k ≤ length piece) × (u ≡ sent_and_more t (take k piece)))

@@ -1,4 +1,4 @@
--- A name of a folder in memory that was created so that bytes can be appended to it.
+-- A name that was created in a folder in memory so that bytes can be appended to it.
 use Rattle.std.proofs.Common.{ap, ap₂, Bor, eqb, false, length, List, None, Option, refl, Some, sym}
 use Rattle.std.{proofs.Common.{ℕ, [], ◌+◌, ◌||◌, ◌∙◌, ◌≡◌}, specs.List.list_any}
 use Rattle.std.specs.Prelude.{is_some, nat_lt, option_copied, unwrap_or}
@@ -12,7 +12,7 @@ use Rattle.outside.specs.declared.memory.folder.MemFolder.{MemFolder}
 told_same : (f g : Contents) → Told f ≡ Told g → f ≡ g
 told_same f g is = cc
 
--- contents that are told as emptied have no bytes at the name
+-- known contents with an emptied name have no bytes at that name
 pub emptied_contents : (f new : Contents) (name : List ℕ) → Told new ≡ with_empty_file (Told f) name
     → new ≡ with_file f name []
 unfolding with_empty_file

@@ -1,4 +1,4 @@
--- What a call of a folder or of a sink answers and leaves, by what is seen before and after it.
+-- What a call of a folder or of a sink returns and leaves, by what is seen before and after it.
 use Rattle.std.specs.Prelude.{drop, IfErr, IfOk, IsErrOf, length, List, OnErr, OnOk, Result, take}
 use Rattle.std.specs.Prelude.{ℕ, [], ◌++◌, ◌+◌, ◌-◌, ◌<◌, ◌≡◌, ◌≤◌, ◌⊎◌}
 use Rattle.outside.specs.BufferOutput.{AppendedPrefix, AppendsWaiting}
@@ -12,13 +12,13 @@ use Rattle.outside.specs.declared.folder.FindFault.TheVariants.{Absent, Failed}
 
 -- A file was looked for: it is there, or missing, or the call failed.
 pub record FindAnswer (name : List ℕ) (old new : Seen) (result : Result ℕ FindFault) : Type 0 where
-  -- the answer is its length
+  -- the result is its length
   pub found : IfOk result (λ n. OnFile old name (λ bytes. n ≡ length bytes))
   pub there : OnOk result (IsFileThere old.files name)
-  -- what is told of it are bytes
+  -- what is known of its content are bytes
   pub octets : OnOk result (OnFile old name AreOctets)
   pub missing : IsErrOf result Absent → IsFileMissing old.files name
-  -- an absent file and a failure are counted, with its name
+  -- an absent file and a failure are counted, with the file's name
   pub absent : IsErrOf result Absent → HappenedTo name old.counts.misses new.counts.misses
   pub failed : IsErrOf result Failed → HappenedTo name old.counts.read_faults new.counts.read_faults
   pub files : new.files ≡ old.files
@@ -26,23 +26,23 @@ pub record FindAnswer (name : List ℕ) (old new : Seen) (result : Result ℕ Fi
   pub done : OnOk result (new.counts ≡ old.counts)
   pub counts : OnlyReads old.counts new.counts
 
--- Bytes of a file were read from an offset on, over the first of these, or the call failed.
+-- Bytes of a file from an offset on were read into the beginning of a buffer, or the call failed.
 pub record ReadAnswer (name : List ℕ) (at : ℕ) (before after : List ℕ) (old new : Seen)
     (result : Result ℕ FailedCall) : Type 0 where
-  -- the answer is how many were read
+  -- the result is how many were read
   pub bound : IfOk result (λ k. k ≤ length before)
   pub bytes : IfOk result (λ k. OnFile old name (λ bytes. take k after ≡ take k (drop at bytes)))
   pub rest : IfOk result (λ k. drop k after ≡ drop k before)
-  -- none only where there is no room, or at the end of the file or past it
+  -- none only if there is no room, or at the end of the file or past it
   pub end : IfOk result
       (λ k. OnFile old name (λ bytes. k ≡ 0 → (length before ≡ 0) ⊎ (length bytes ≤ at)))
   pub within : IfOk result (λ k. OnFile old name (λ bytes. k ≤ length bytes - at))
-  -- an end that was met and a failure are counted, with its name
+  -- an end that was met and a failure are counted, with the file's name
   pub ended : IfOk result
       (λ k. k ≡ 0 → 0 < length before → EndedAt name at old.counts.ends new.counts.ends)
   pub failed : OnErr result (HappenedTo name old.counts.read_faults new.counts.read_faults)
   pub files : new.files ≡ old.files
-  -- and nothing else is
+  -- nothing else is counted
   pub got : IfOk result (λ k. (0 < k) ⊎ (length before ≡ 0) → new.counts ≡ old.counts)
   pub done : OnOk result (NothingFailed old.counts new.counts)
   pub counts : OnlyReads old.counts new.counts
@@ -59,7 +59,7 @@ pub record CreateAnswer (name : List ℕ) (old new : Seen)
 -- A prefix of these bytes was appended to a file, or the call failed.
 pub record WriteAnswer (name bytes : List ℕ) (old new : Seen)
     (result : Result ℕ FailedCall) : Type 0 where
-  -- the answer is how many were: some, if there are any
+  -- the result is how many: at least one if there are any
   pub bound : IfOk result (λ k. k ≤ length bytes)
   pub some : IfOk result (λ k. 0 < length bytes → 0 < k)
   pub written : IfOk result (λ k. new.files ≡ with_appended_bytes old.files name (take k bytes))
@@ -71,15 +71,15 @@ pub record WriteAnswer (name bytes : List ℕ) (old new : Seen)
 -- A prefix of these bytes was taken by a sink, or the call failed.
 pub record SendAnswer (bytes : List ℕ) (old new : Heard)
     (result : Result ℕ FailedCall) : Type 0 where
-  -- the answer is how many were: some, if there are any
+  -- the result is how many: at least one if there are any
   pub bound : IfOk result (λ k. k ≤ length bytes)
   pub some : IfOk result (λ k. 0 < length bytes → 0 < k)
   pub written : IfOk result (λ k. new.sent ≡ sent_and_more old.sent (take k bytes))
   pub kept : OnErr result (new.sent ≡ old.sent)
   pub cause : HasCause old.faults new.faults result
 
--- A feed gave so many bytes of a file from an offset on,
--- or as many as there are after it, or a read failed.
+-- A feed gave `n` bytes of a file from an offset on, or all that are left if there are fewer, or a
+-- read failed.
 pub record FillAnswer (name : List ℕ) (at n : ℕ) (now : Fed) (old new : Seen)
     (result : Result ℕ FailedCall) : Type 0 where
   pub bound : IfOk result (λ k. k ≤ n)
@@ -94,8 +94,8 @@ pub record FillAnswer (name : List ℕ) (at n : ℕ) (now : Fed) (old new : Seen
   pub done : OnOk result (NothingFailed old.counts new.counts)
   pub counts : OnlyReads old.counts new.counts
 
--- A file was read from an offset on until there was
--- no room or a read gave no byte, or a read failed.
+-- A file was read from an offset on until there was no room or a read returned no byte, or a read
+-- failed.
 pub record ReadFull (name : List ℕ) (at : ℕ) (before after : List ℕ) (old new : Seen)
     (result : Result ℕ FailedCall) : Type 0 where
   pub bound : IfOk result (λ k. k ≤ length before)
@@ -110,8 +110,8 @@ pub record ReadFull (name : List ℕ) (at : ℕ) (before after : List ℕ) (old 
   pub done : OnOk result (NothingFailed old.counts new.counts)
   pub counts : OnlyReads old.counts new.counts
 
--- Of a file of which the first bytes were there, more were read
--- until there were enough or a read gave no byte, or a read failed.
+-- More of a file whose first `have` bytes from `at` on were there was read, until there were
+-- `enough` or a read returned no byte, or a read failed.
 pub record ReadOn (name : List ℕ) (at have enough : ℕ) (before after : List ℕ) (old new : Seen)
     (result : Result ℕ FailedCall) : Type 0 where
   pub bound : IfOk result (λ k. k ≤ length before)
@@ -129,7 +129,7 @@ pub record ReadOn (name : List ℕ) (at have enough : ℕ) (before after : List 
   pub done : OnOk result (NothingFailed old.counts new.counts)
   pub counts : OnlyReads old.counts new.counts
 
--- Bytes of a file were read, from an offset on, over all of these, or a read failed or met the end.
+-- A buffer was filled with bytes of a file from an offset on, or a read failed or met the end.
 pub record ReadExact (name : List ℕ) (size at : ℕ) (before after : List ℕ) (old new : Seen)
     (result : Result (Unit {0}) ReadFault) : Type 0 where
   pub bytes : OnOk result (OnFile old name (λ bytes. after ≡ take (length before) (drop at bytes)))
@@ -138,7 +138,7 @@ pub record ReadExact (name : List ℕ) (size at : ℕ) (before after : List ℕ)
   pub files : new.files ≡ old.files
   pub counts : OnlyReads old.counts new.counts
 
--- A feed gave so many bytes of a file, or a read failed or met the end.
+-- A feed gave `n` bytes of a file, or a read failed or met the end.
 pub record FillExact (name : List ℕ) (size at n : ℕ) (now : Fed) (old new : Seen)
     (result : Result (Unit {0}) ReadFault) : Type 0 where
   pub given : OnOk result (length now.given ≡ n)
@@ -149,7 +149,7 @@ pub record FillExact (name : List ℕ) (size at n : ℕ) (now : Fed) (old new : 
   pub files : new.files ≡ old.files
   pub counts : OnlyReads old.counts new.counts
 
--- Bytes were added to what waits for a file, of which some was appended, or a write failed.
+-- Bytes were added to what waits for a file, and some of it was appended, or a write failed.
 pub record PushAnswer (name before bytes after : List ℕ) (old new : Seen)
     (result : Result (Unit {0}) FailedCall) : Type 0 where
   pub passed : OnOk result (AppendsWaiting name (before ++ bytes) after old.files new.files)
@@ -170,7 +170,7 @@ pub record FinishAnswer (name before after : List ℕ) (old new : Seen)
   pub done : OnOk result (new.counts ≡ old.counts)
   pub counts : OnlyWrites old.counts new.counts
 
--- Of these bytes as many times 65,536 as there are were appended to a file, or a write failed.
+-- All of these bytes but fewer than 65,536 at the end were appended to a file, or a write failed.
 pub record WholeAnswer (name bytes : List ℕ) (old new : Seen)
     (result : Result ℕ FailedCall) : Type 0 where
   pub within : IfOk result (λ k. k ≤ length bytes)
@@ -192,8 +192,8 @@ pub record WriteAllAnswer (name bytes : List ℕ) (old new : Seen)
   pub done : OnOk result (new.counts ≡ old.counts)
   pub counts : OnlyWrites old.counts new.counts
 
--- Bytes were added to what waits for a file, of which some was
--- appended, or a write failed; what waits after that isn't said.
+-- Bytes were added to what waits for a file, and some of it was appended, or a write failed; what
+-- waits after a failure isn't said.
 pub record PassAnswer (name before bytes after : List ℕ) (old new : Seen)
     (result : Result (Unit {0}) FailedCall) : Type 0 where
   pub passed : OnOk result (AppendsWaiting name (before ++ bytes) after old.files new.files)

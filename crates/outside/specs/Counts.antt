@@ -1,47 +1,48 @@
--- How often a folder or a sink has failed, over which
--- file it did last, and what a call does to these counts.
+-- How often a folder or a sink has failed, for which file it last did, and what a call does to
+-- these counts.
 use Rattle.std.specs.Prelude.{List, min, OnErr, OnOk, Result, take, ℕ, [], ◌+◌, ◌-◌, ◌^◌, ◌≡◌, ◌≤◌}
 
 -- a count has grown, or is at the greatest value of a u64
 abbrev pub Rose : ℕ → ℕ → Type 0
 Rose before now = min (before + 1) (2 ^ 64 - 1) ≤ now
 
--- what is noted of a name: its first 4,096 bytes, which are all of a name that a system takes
+-- what is noted of a name: its first 4,096 bytes, which are all of a name that a system allows
 abbrev pub noted_name : List ℕ → List ℕ
 noted_name name = take 4096 name
 
--- how often something happened, and the noted name of the file that it happened to last
+-- how often something happened, and the noted name of the file that it last happened to
 pub record Happened : Type 0 where
   pub times : ℕ
   pub name : List ℕ
 
--- the same of reads that gave no byte though there was room for one, and the offset of the last
+-- how often a read returned no byte though there was room for one, of which file the last one was,
+-- and at which offset
 pub record Ended : Type 0 where
   pub times : ℕ
   pub name : List ℕ
   pub place : ℕ
 
--- these reads, of which the last was at this offset
+-- reads at an end, the last one at this offset
 abbrev pub ended_reads : Happened → ℕ → Ended
 ended_reads last place = record { times = last.times; name = last.name; place = place }
 
 -- what a folder counts: missing files, reads at an end, and faults of reading and of writing, each
--- with the name of the file that it happened to last, and an end with its offset
+-- with the name of the file that it last happened to, and an end with its offset
 pub record Counts : Type 0 where
   -- missing files that `find` met
   pub misses : Happened
-  -- reads that gave no byte though there was room for one
+  -- reads that returned no byte though there was room for one
   pub ends : Ended
   -- failures of `find` and `read`
   pub read_faults : Happened
   -- failures of `create` and `write`
   pub write_faults : Happened
 
--- it happened again, and this file was the last
+-- it happened again, most recently to this file
 abbrev pub HappenedTo : List ℕ → Happened → Happened → Type 0
 HappenedTo name before now = Rose before.times now.times × (now.name ≡ noted_name name)
 
--- a read of this file at this offset gave no byte, and was the last that did so
+-- a read of this file at this offset returned no byte, and was the last that did so
 abbrev pub EndedAt : List ℕ → ℕ → Ended → Ended → Type 0
 EndedAt name place before now =
     Rose before.times now.times × (now.name ≡ noted_name name) × (now.place ≡ place)
@@ -80,7 +81,7 @@ pub record HasCause {T E : Type 0} (before now : ℕ) (result : Result T E) : Ty
   pub done : OnOk result (now ≡ before)
   pub failed : OnErr result (Rose before now)
 
--- a count one higher, which is at the greatest value of a u64
+-- a count one higher, or the greatest value of a u64 once it has that
 abbrev pub one_more : ℕ → ℕ
 one_more n = min (n + 1) (2 ^ 64 - 1)
 
@@ -102,11 +103,11 @@ no_counts =
       write_faults = no_occurrence;
     }
 
--- one more missing file, and this was it
+-- one more missing file: this one
 abbrev pub with_miss : List ℕ → Counts → Counts
 with_miss name counts = record counts { misses = one_occurrence_more name counts.misses }
 
--- one more read that gave no byte, of this file at this offset
+-- one more read that returned no byte, of this file at this offset
 abbrev pub with_end : List ℕ → ℕ → Counts → Counts
 with_end name place counts = record counts {
   ends = ended_reads (record { times = one_more counts.ends.times; name = noted_name name }) place;

@@ -1,4 +1,4 @@
--- What a feed of the bytes of a file shows.
+-- What a feed of a file's bytes shows.
 use Rattle.std.specs.Prelude.{drop, length, List, take, ℕ, ◌^◌, ◌≡◌, ◌≤◌}
 use Rattle.outside.specs.Files.{Files, Holds}
 
@@ -6,11 +6,11 @@ use Rattle.outside.specs.Files.{Files, Holds}
 abbrev pub buffer_size : ℕ
 buffer_size = 65536
 
--- how many bytes a feed gives at once, at most
+-- the most bytes that a feed gives at once
 abbrev pub most_given : ℕ
 most_given = 4096
 
--- what a feed holds of a file, from where, and what it gave last
+-- what a feed holds of a file, from which offset, and what it gave last
 pub record Fed : Type 0 where
   -- the offset in the file of the first byte that is held
   pub place : ℕ
@@ -18,7 +18,8 @@ pub record Fed : Type 0 where
   -- the bytes that the last `fill` gave
   pub given : List ℕ
 
--- where the files are told, the bytes held are those of the name's file from `place` on
+-- where the content of the files is known, the bytes held are the bytes of the name's file from
+-- `place` on
 pub record IsFedFrom (fed : Fed) (files : Files) (name : List ℕ) : Type 0 where
   pub same : (bytes : List ℕ) → Holds files name bytes
       → take (length fed.held) (drop fed.place bytes) ≡ fed.held

@@ -1,14 +1,14 @@
--- What a map of names holds, and the room that it has for each.
+-- The files that a map of names holds, and the room that it has for each.
 use Rattle.std.specs.BTreeMap.{get_by_text}
 use Rattle.std.specs.Prelude.{if◌then◌else◌, List, None, Option, option_map, Some, ℕ}
 use Rattle.outside.specs.{Files.Contents, declared.memory.file_rooms.FileRoom.FileRoom}
 use Rattle.outside.specs.declared.memory.file_rooms.FileRooms.{FileRooms}
 
--- the bytes of a slot, where a file is there
+-- the bytes of the file in a slot, if there is one
 abbrev pub content_of : FileRoom → Option (List ℕ)
 content_of slot = if slot.there then Some slot.buffer.bytes else None
 
--- the bytes of a slot that may be missing
+-- the bytes of the file in a slot that may be missing
 abbrev pub content_in : Option FileRoom → Option (List ℕ)
 content_in None = None
 content_in (Some slot) = content_of slot

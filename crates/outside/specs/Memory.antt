@@ -16,7 +16,7 @@ use Rattle.outside.specs.declared.memory.{folder.MemFolder.MemFolder, sink.MemSi
 abbrev pub contents_of : MemFolder → Contents
 contents_of folder = contents_in folder.slots
 
--- the bytes of a name, none where it isn't there
+-- the bytes of a name, or none if it isn't there
 abbrev pub mem_bytes : MemFolder → List ℕ → List ℕ
 mem_bytes folder name = unwrap_or (contents_of folder name) []
 
@@ -24,7 +24,7 @@ mem_bytes folder name = unwrap_or (contents_of folder name) []
 abbrev pub rooms_of : MemFolder → List ℕ → Option ℕ
 rooms_of folder = rooms_in folder.slots
 
--- the room for a name, 0 where it has none
+-- the room for a name, or 0 if it has none
 abbrev pub mem_room : MemFolder → List ℕ → ℕ
 mem_room folder name = unwrap_or (rooms_of folder name) 0
 
@@ -32,7 +32,7 @@ mem_room folder name = unwrap_or (rooms_of folder name) 0
 abbrev pub with_room : (List ℕ → Option ℕ) → List ℕ → ℕ → List ℕ → Option ℕ
 with_room rooms name room = update bytes_eq rooms name (Some (max (unwrap_or (rooms name) 0) room))
 
--- what the folder counted
+-- the folder's counts
 abbrev pub mem_counts : MemFolder → Counts
 mem_counts folder = folder.tally
 
@@ -55,20 +55,20 @@ calls_to_fail folder call = (schedule_of folder call).failing
 abbrev pub is_to_fail : MemFolder → Call → Bool
 is_to_fail folder call = is_next_to_fail (schedule_of folder call)
 
--- one call of a kind was made, and the rooms and what is to fail stay
+-- one call of a kind was made, and the rooms and what is to fail are unchanged
 pub record MakesCall (old new : MemFolder) (call : Call) : Type 0 where
   pub made : calls_made new call ≡ one_more (calls_made old call)
   pub others_made : (other : Call) → other ≢ call → calls_made new other ≡ calls_made old other
   pub failing : (kind : Call) → calls_to_fail new kind ≡ calls_to_fail old kind
   pub rooms : rooms_of new ≡ rooms_of old
 
--- no call was made, nothing was counted, and what is to fail stays
+-- no call was made, nothing was counted, and what is to fail is unchanged
 pub record MakesNoCall (old new : MemFolder) : Type 0 where
   pub counts : mem_counts new ≡ mem_counts old
   pub made : (kind : Call) → calls_made new kind ≡ calls_made old kind
   pub failing : (kind : Call) → calls_to_fail new kind ≡ calls_to_fail old kind
 
--- what `find` answers
+-- what `find` returns
 abbrev pub find_answer : MemFolder → List ℕ → Result ℕ FindFault
 find_answer folder name =
     if is_to_fail folder Find then Err Failed else length_or_absent (contents_of folder name)
@@ -98,7 +98,7 @@ sink_room sink = sink.buffer.room
 abbrev pub sink_faults : MemSink → ℕ
 sink_faults sink = sink.faults
 
--- how many writes there were
+-- how many writes were made
 abbrev pub writes_made : MemSink → ℕ
 writes_made sink = sink.writes.made
 
@@ -111,15 +111,15 @@ abbrev pub send_fails : MemSink → List ℕ → Bool
 send_fails sink bytes =
     is_next_to_fail sink.writes || nat_lt (sink_room sink) (length (bytes_sent sink) + length bytes)
 
--- what is seen of the folder
+-- what is seen of a folder in memory
 abbrev pub seen_of : MemFolder → Seen
 seen_of folder = seen_folder (Told (contents_of folder)) (mem_counts folder)
 
--- what is heard of the sink
+-- what is seen of a sink in memory
 abbrev pub sink_heard : MemSink → Heard
 sink_heard sink = heard_sink (Some (bytes_sent sink)) (sink_faults sink)
 
--- A folder in memory finds what it has, or fails as it was told to; each is counted.
+-- A folder in memory finds what it has, or fails as scheduled; each is counted.
 pub record MemFinds (name : List ℕ) (was now : MemFolder)
     (result : Result ℕ FindFault) : Type 0 where
   pub exact : result ≡ find_answer was name
@@ -127,7 +127,7 @@ pub record MemFinds (name : List ℕ) (was now : MemFolder)
   pub absent_counts : IsErrOf result Absent → mem_counts now ≡ with_miss name (mem_counts was)
   pub failed_counts : IsErrOf result Failed → mem_counts now ≡ with_read_fault name (mem_counts was)
 
--- It gives all that there is and fits, or fails as it was told to; each is counted.
+-- It returns all that is there and fits, or fails as scheduled; each is counted.
 pub record MemReads (name : List ℕ) (at : ℕ) (before after : List ℕ) (was now : MemFolder)
     (result : Result ℕ FailedCall) : Type 0 where
   pub fails : is_err result ≡ is_to_fail was Read
@@ -138,7 +138,7 @@ pub record MemReads (name : List ℕ) (at : ℕ) (before after : List ℕ) (was 
       then with_end name at (mem_counts was) else mem_counts was))
   pub failed_counts : OnErr result (mem_counts now ≡ with_read_fault name (mem_counts was))
 
--- It makes a name hold no bytes where it has room for it, or fails as it was told to.
+-- It makes a name hold no bytes if it has room for it, or fails as scheduled.
 pub record MemCreates (name : List ℕ) (was now : MemFolder)
     (result : Result (Unit {0}) FailedCall) : Type 0 where
   pub stays : OnErr result (contents_of now ≡ contents_of was)
@@ -146,7 +146,7 @@ pub record MemCreates (name : List ℕ) (was now : MemFolder)
   pub called : MakesCall was now Create
   pub failed_counts : OnErr result (mem_counts now ≡ with_write_fault name (mem_counts was))
 
--- It takes all bytes where it has room for them, or fails as it was told to.
+-- It takes all the bytes if it has room for them, or fails as scheduled.
 pub record MemWrites (name bytes : List ℕ) (was now : MemFolder)
     (result : Result ℕ FailedCall) : Type 0 where
   pub fails : is_err result ≡ write_fails was name bytes
@@ -154,8 +154,8 @@ pub record MemWrites (name bytes : List ℕ) (was now : MemFolder)
   pub called : MakesCall was now Write
   pub failed_counts : OnErr result (mem_counts now ≡ with_write_fault name (mem_counts was))
 
--- A sink in memory takes all bytes where it has room for
--- them, or fails as it was told to; each is counted.
+-- A sink in memory takes all the bytes if it has room for them, or fails as scheduled; each is
+-- counted.
 pub record MemSends (bytes : List ℕ) (was now : MemSink)
     (result : Result ℕ FailedCall) : Type 0 where
   pub fails : is_err result ≡ send_fails was bytes

@@ -2,7 +2,7 @@
 use Rattle.std.specs.{List.list_any, Prelude.{Bool, List, ℕ, ◌==◌}}
 use Rattle.outside.specs.Counts.{one_more}
 
--- how many calls of a kind there were, and which are to fail
+-- how many calls of a kind were made, and which are to fail
 pub record ScheduleFields : Type 0 where
   -- the calls so far
   pub made : ℕ
@@ -13,6 +13,6 @@ pub record ScheduleFields : Type 0 where
 abbrev pub is_next_to_fail : ScheduleFields → Bool
 is_next_to_fail plan = list_any (λ number. number == one_more plan.made) plan.failing
 
--- one call later
+-- the schedule after one more call
 abbrev pub schedule_after_call : ScheduleFields → ScheduleFields
 schedule_after_call plan = record plan { made = one_more plan.made }

@@ -2,7 +2,7 @@
 use Rattle.std.specs.Prelude.{List, OnOk, Result, ℕ, ◌≡◌}
 use Rattle.outside.specs.{Counts.{Counts, OnlyReads}, Files.{Files, Holds, Sent}}
 
--- what is seen of a folder: the files, where they are told, and the counts
+-- what is seen of a folder: what is known of its files, and the counts
 pub record Seen : Type 0 where
   pub files : Files
   pub counts : Counts
@@ -11,22 +11,22 @@ pub record Seen : Type 0 where
 abbrev pub seen_folder : Files → Counts → Seen
 seen_folder files counts = record { files = files; counts = counts }
 
--- what is heard of a sink: the bytes that it got, if they are told, and how often a write failed
+-- what is seen of a sink: the bytes that it got, if they are known, and how often a write failed
 pub record Heard : Type 0 where
   pub sent : Sent
   pub faults : ℕ
 
--- a sink with these bytes and so many faults
+-- a sink with these bytes and this many faults
 abbrev pub heard_sink : Sent → ℕ → Heard
 heard_sink sent faults = record { sent = sent; faults = faults }
 
--- Files were only read: they stay, a call that succeeds
--- leaves all counts, and only counts of reading move.
+-- Files were only read: they are unchanged, a call that succeeds leaves all counts, and only counts
+-- of reading move.
 pub record OnlyRead {T E : Type 0} (result : Result T E) (old new : Seen) : Type 0 where
   pub files : new.files ≡ old.files
   pub done : OnOk result (new.counts ≡ old.counts)
   pub counts : OnlyReads old.counts new.counts
 
--- this holds of the file's bytes, where they are known
+-- this holds for the file's bytes, where they are known
 abbrev pub OnFile : Seen → List ℕ → (List ℕ → Type 0) → Type 0
 OnFile now name P = (bytes : List ℕ) → Holds now.files name bytes → P bytes

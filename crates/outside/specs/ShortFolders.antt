@@ -1,4 +1,4 @@
--- What a folder shows that says greater lengths than it gives.
+-- What is seen of a folder that reports greater lengths than it has bytes.
 use Rattle.std.specs.Prelude.{Bool, drop, Err, false, IfOk, if◌then◌else◌, is_err, is_some, IsErrOf}
 use Rattle.std.specs.Prelude.{length, List, min, nat_lt, not, Ok, OnErr, OnOk, Result, take, true}
 use Rattle.std.specs.Prelude.{ℕ, ◌&&◌, ◌++◌, ◌+◌, ◌-◌, ◌==◌, ◌^◌, ◌||◌, ◌≡◌}
@@ -20,35 +20,35 @@ short_counts folder = mem_counts folder.inner
 abbrev pub is_inside : ShortFolder → List ℕ → Bool
 is_inside folder name = is_some (contents_of folder.inner name)
 
--- a length and so many bytes more, or the greatest value of a u64 if that is less
+-- a length and `extra` bytes more, or the greatest value of a u64 if that is less
 abbrev pub longer_answer : ℕ → Result ℕ FindFault → Result ℕ FindFault
 longer_answer extra (Ok length) = Ok (min (length + extra) (2 ^ 64 - 1))
 longer_answer extra (Err fault) = Err fault
 
--- the `create` that is before a `write` to a name that isn't there fails
+-- the `create` before a `write` to a name that isn't there fails
 abbrev pub create_missing_fails : MemFolder → List ℕ → Bool
 create_missing_fails folder name =
     not (is_some (contents_of folder name)) && create_fails folder name
 
--- a `write` of these bytes fails: that of the folder inside,
--- or the `create` before it, where the name isn't in it
+-- a `write` of these bytes fails: the `write` of the folder inside, or the `create` before it, if
+-- the name isn't there
 abbrev pub short_write_fails : ShortFolder → List ℕ → List ℕ → Bool
 short_write_fails folder name bytes =
     create_missing_fails folder.inner name || write_fails folder.inner name bytes
 
--- A name that isn't there was created: it holds no byte less and
--- no byte more, and a `write` to it fails where it would have.
+-- A name was created if it wasn't there: its bytes are what they were, and a `write` to it fails
+-- exactly if it would have.
 pub record IsCreated (old new : MemFolder) (name : List ℕ) : Type 0 where
   pub bytes : mem_bytes new name ≡ mem_bytes old name
   pub others : (bytes : List ℕ)
       → with_file (contents_of new) name bytes ≡ with_file (contents_of old) name bytes
   pub fails : (bytes : List ℕ) → write_fails new name bytes ≡ write_fails old name bytes
 
--- what is seen of the folder, which tells nothing of its files
+-- what is seen of the folder, whose content isn't known
 abbrev pub short_seen : ShortFolder → Seen
 short_seen folder = seen_folder untold_files (short_counts folder)
 
--- It answers a greater length than the folder inside has.
+-- It returns a greater length than the folder inside has.
 pub record ShortFinds (name : List ℕ) (was now : ShortFolder)
     (result : Result ℕ FindFault) : Type 0 where
   pub exact : result ≡ longer_answer was.extra (find_answer was.inner name)
@@ -59,7 +59,7 @@ pub record ShortFinds (name : List ℕ) (was now : ShortFolder)
   pub failed_counts : IsErrOf result Failed
       → short_counts now ≡ with_read_fault name (short_counts was)
 
--- It gives what the folder inside has, and nothing of a name that that one lacks.
+-- It returns what the folder inside has, and nothing for a name that isn't in it.
 pub record ShortReads (name : List ℕ) (at : ℕ) (before after : List ℕ) (was now : ShortFolder)
     (result : Result ℕ FailedCall) : Type 0 where
   pub none : is_inside was name ≡ false → result ≡ Ok 0
@@ -76,7 +76,7 @@ pub record ShortReads (name : List ℕ) (at : ℕ) (before after : List ℕ) (wa
       then with_end name at (short_counts was) else short_counts was))
   pub failed_counts : OnErr result (short_counts now ≡ with_read_fault name (short_counts was))
 
--- It creates as the folder inside does.
+-- It creates a name as the folder inside does.
 pub record ShortCreates (name : List ℕ) (was now : ShortFolder)
     (result : Result (Unit {0}) FailedCall) : Type 0 where
   pub fails : is_err result ≡ create_fails was.inner name
@@ -87,7 +87,7 @@ pub record ShortCreates (name : List ℕ) (was now : ShortFolder)
   pub extra : now.extra ≡ was.extra
   pub failed_counts : OnErr result (short_counts now ≡ with_write_fault name (short_counts was))
 
--- It writes as the folder inside does, and creates a name that that one lacks.
+-- It writes as the folder inside does, and creates a name that isn't in it.
 pub record ShortWrites (name bytes : List ℕ) (was now : ShortFolder)
     (result : Result ℕ FailedCall) : Type 0 where
   pub fails : is_err result ≡ short_write_fails was name bytes

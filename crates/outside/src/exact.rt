@@ -1,4 +1,4 @@
-//! Reads bytes that a file had when it was found, all of them or none.
+//! Reads bytes that a file had when it was found: all of them or none.
 ghost use Rattle.std.specs.Prelude.{◌≡◌, ◌+◌, ◌^◌, ◌<◌, ◌≤◌, length};
 ghost use Rattle.outside.specs.Files.{IsFileThere};
 ghost use Rattle.outside.specs.Feed.{IsFedFrom, most_given};
@@ -18,12 +18,12 @@ pub enum ReadFault {
     Shrunk(u64, u64),
 }
 
-/// Reads bytes of a file from the offset `at` on until `into` is full. They are within its `size`, the length in
-/// bytes that it was found with. The files stay.
+/// Reads bytes of a file from the offset `at` on until `into` is full. They lie within its `size`,
+/// the length in bytes that it was found with. The files don't change.
 ///
 /// # Errors
-/// `Failed` where a read failed; `Shrunk` where one gave no byte before `into` was full, which comes only where
-/// the folder doesn't tell its files.
+/// `Failed` if a read failed; `Shrunk` if one returned no byte before `into` was full, which
+/// happens only where the content of the files isn't known.
 pub fn read_exact<D: Folder>(
     folder: &mut D,
     name: &str,
@@ -46,8 +46,8 @@ pub fn read_exact<D: Folder>(
 }
 
 impl Feed {
-    /// Gives `n` bytes of a file from the offset `at` on, as `fill` does. They are within its `size`, the length in
-    /// bytes that it was found with.
+    /// Gives `n` bytes of a file from the offset `at` on, as `fill` does. They lie within its
+    /// `size`, the length in bytes that it was found with.
     ///
     /// # Errors
     /// As `read_exact`.

@@ -1,4 +1,4 @@
-//! The bytes of a file, through one buffer.
+//! The bytes of a file, read through one buffer.
 ghost use Rattle.std.specs.Prelude.{◌≡◌, ◌+◌, ◌-◌, ◌^◌, ◌<◌, ◌≤◌, List, ℕ, [], length, take, drop, IfOk};
 ghost use Rattle.outside.specs.Files.{Files, IsFileThere};
 ghost use Rattle.outside.specs.Feed.{IsFedFrom, most_given};
@@ -33,10 +33,10 @@ impl Model for Feed {
 }
 
 impl Feed {
-    /// A feed that holds no bytes, and has given none. It takes all its memory here.
+    /// A feed that holds no bytes and has given none. It takes all its memory here.
     ///
     /// # Errors
-    /// Where there is no memory.
+    /// If memory runs out.
     pub fn new(alloc: Global) -> Result<Feed, AllocError>
         ensures held { IfOk result (λ feed. feed.held ≡ []) }
         ensures given { IfOk result (λ feed. feed.given ≡ []) }
@@ -52,7 +52,8 @@ impl Feed {
         })
     }
 
-    /// Forgets what is held and given, as before another file or after a change of this one.
+    /// Forgets what is held and given, for use before another file is read or after this one
+    /// changed.
     pub fn clear(&mut self)
         ensures held { self.new.held ≡ [] }
         ensures given { self.new.given ≡ [] }
@@ -63,8 +64,8 @@ impl Feed {
         self.to = 0;
     }
 
-    /// The bytes that the last `fill` gave: none before the first one, after `clear` and after a `fill` that
-    /// failed.
+    /// The bytes that the last `fill` gave: none before the first one, after `clear`, and after a
+    /// `fill` that failed.
     #[inline]
     pub fn bytes(&self) -> &[u8]
         ensures { result.now ≡ self.now.given }
@@ -72,15 +73,16 @@ impl Feed {
         &self.room[self.from..self.to]
     }
 
-    /// Gives `n` bytes of the file from the offset `at` on, or as many as there are after it, and answers
-    /// how many. `n` is at most 4,096, and the bytes end at 2^32 or before. It reads only if it doesn't
-    /// hold them, then as much as its buffer takes, and no more once there are `n`. It takes no memory.
+    /// Gives `n` bytes of the file from the offset `at` on, or all that are left if there are
+    /// fewer, and returns how many. `n` is at most 4,096, and the bytes end at 2^32 or before. It
+    /// reads only if it doesn't hold them, each time asking for all that its buffer has room for,
+    /// and stops once it has `n`. It takes no memory.
     ///
-    /// What is held has to be of this file: a feed is cleared before another file, and before this one
-    /// changes.
+    /// What is held must be of this file: a feed is cleared before it is used for another file, and
+    /// before this one changes.
     ///
     /// # Errors
-    /// Where a read failed. Then nothing is given.
+    /// If a read failed. Then nothing is given.
     #[inline]
     pub fn fill<D: Folder>(
         &mut self,
@@ -104,7 +106,7 @@ impl Feed {
         self.refill(folder, name, at, n)
     }
 
-    // Moves what is held from `at` on to the beginning of the buffer, and reads on after it.
+    // Moves what is held from `at` on to the beginning of the buffer, and reads what follows it.
     #[inline(never)]
     fn refill<D: Folder>(
         &mut self,
@@ -131,9 +133,9 @@ impl Feed {
     }
 }
 
-/// Moves what is held of a file from the offset `at` on, all of it, to the beginning of a buffer, and
-/// returns how many bytes that is: none where `at` isn't among them. Held are the bytes of the buffer from
-/// `begin` up to `end`, of which the first is at the offset `place`.
+/// Moves all that is held of a file from the offset `at` on to the beginning of a buffer, and
+/// returns how many bytes that is: none where `at` isn't among them. The bytes of the buffer from
+/// `begin` up to `end` are held, and the first of them is at the offset `place` of the file.
 pub fn keep_from(room: &mut [u8], begin: usize, end: usize, place: u64, at: u64) -> usize
     requires ordered { begin ≤ end }
     requires within { end ≤ length room.old }

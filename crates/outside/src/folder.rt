@@ -8,7 +8,7 @@ use std::alloc::AllocError;
 use std::io;
 use std::io::ErrorKind;
 
-/// A call on the outside failed.
+/// A call to the outside failed.
 #[derive(Clone, Copy, Debug, PartialEq, Eq)]
 pub struct Failed;
 
@@ -62,44 +62,48 @@ impl From<AllocError> for FindFault {
     }
 }
 
-/// A folder of files, each of a name. Contracts see what it tells of them: a map from names to bytes, or, where it tells
-/// nothing of their content, which names it may have touched, so created or written to.
-/// A call that succeeds leaves all counts, except a read of no byte into room, which counts an end.
+/// A folder of files, each with a name. Contracts see what is known of them: a map from names to
+/// bytes, or, where their content isn't known, which names it may have touched, that is, created or
+/// written to. A call that succeeds leaves all counts as they are, except for a read of no byte
+/// into a buffer that isn't empty, which counts as an end.
 pub trait Folder {
-    /// What is seen of it: what is told of the files, and how often a file was missing, a read met an end, and a call failed, and of
-    /// which file it was the last time. Whether the content of the files is told never changes.
+    /// What is seen of it: what is known of the files, how often a file was missing, a read met an
+    /// end, and a call failed, and which file it last happened to. Whether the content of the files
+    /// is known never changes.
     ghost seen: { Self → Seen };
 
-    /// The length of the file in bytes. What is told of its content are bytes, so numbers below 256.
+    /// The length of the file in bytes. What is known of its content are bytes, so numbers below
+    /// 256.
     ///
     /// # Errors
-    /// `Absent` where the name isn't there, `Failed` where the call failed.
+    /// `Absent` if the name isn't there, `Failed` if the call failed.
     fn find(&mut self, name: &str) -> Result<u64, FindFault>
         ensures answer { FindAnswer name.now (seen self.old) (seen self.new) result };
 
-    /// Reads bytes of the file, from the offset `at` on, into the first of `into`, and answers how many:
-    /// none only where `into` is empty or `at` is at the end or past it. The rest of `into` stays.
+    /// Reads bytes of the file from the offset `at` on into the beginning of `into`, and returns
+    /// how many: none only if `into` is empty or `at` is at the end or past it. The rest of `into`
+    /// is unchanged.
     ///
     /// # Errors
-    /// Where the call failed.
+    /// If the call failed.
     fn read(&mut self, name: &str, at: u64, into: &mut [u8]) -> Result<usize, Failed>
         requires { IsFileThere (seen self.old).files name.now }
         ensures answer { ReadAnswer name.now at into.old into.new (seen self.old) (seen self.new)
             result };
 
-    /// Makes the name hold no bytes, whether or not it is there. Every other name stays.
+    /// Makes the name hold no bytes, whether or not it is there. Every other name is unchanged.
     ///
     /// # Errors
-    /// Where the call failed. Then told files stay, and where nothing is told of them, the name may have been
-    /// touched, but no other.
+    /// If the call failed. Then files whose content is known are unchanged; if it isn't known, this
+    /// name may have been touched, but no other.
     fn create(&mut self, name: &str) -> Result<(), Failed>
         ensures answer { CreateAnswer name.now (seen self.old) (seen self.new) result };
 
-    /// Appends a prefix of the bytes to the file, and answers how many: at least one where there are any.
-    /// Every other name stays.
+    /// Appends a prefix of the bytes to the file, and returns how many: at least one if there are
+    /// any. Every other name is unchanged.
     ///
     /// # Errors
-    /// Where the call failed. Then the files stay.
+    /// If the call failed. Then the files are unchanged.
     fn write(&mut self, name: &str, bytes: &[u8]) -> Result<usize, Failed>
         requires { IsFileThere (seen self.old).files name.now }
         ensures answer { WriteAnswer name.now bytes.now (seen self.old) (seen self.new) result };

@@ -1,4 +1,4 @@
-//! Bytes read, appended and sent whole, in as many calls as it takes.
+//! Reads, appends and sends bytes whole, in as many calls as it takes.
 ghost use Rattle.std.specs.Prelude.{◌≡◌, ◌+◌, ◌-◌, ◌^◌, ◌<◌, ◌≤◌, ℕ, length, take, OnOk, OnErr};
 ghost use Rattle.outside.specs.Files.{sent_and_more, IsFileThere};
 ghost use Rattle.outside.specs.Counts.{HasCause};
@@ -10,7 +10,7 @@ use crate::sink::Sink;
 /// Appends all the bytes to the file.
 ///
 /// # Errors
-/// Where a write failed. Then a prefix of the bytes, and not all of them, was appended.
+/// If a write failed. Then a prefix of the bytes, and not all of them, was appended.
 pub fn write_all<D: Folder>(folder: &mut D, name: &str, bytes: &[u8]) -> Result<(), Failed>
     requires { IsFileThere (D.seen folder.old).files name.now }
     ensures { WriteAllAnswer name.now bytes.now (D.seen folder.old) (D.seen folder.new) result }
@@ -25,7 +25,7 @@ pub fn write_all<D: Folder>(folder: &mut D, name: &str, bytes: &[u8]) -> Result<
 /// Sends all the bytes.
 ///
 /// # Errors
-/// Where a write failed. Then a prefix of the bytes, none to all of them, was sent.
+/// If a write failed. Then a prefix of the bytes, none to all of them, was sent.
 pub fn send_all<T: Sink>(sink: &mut T, bytes: &[u8]) -> Result<(), Failed>
     ensures written { OnOk result ((T.heard sink.new).sent
         ≡ sent_and_more (T.heard sink.old).sent bytes.now) }
@@ -40,11 +40,11 @@ pub fn send_all<T: Sink>(sink: &mut T, bytes: &[u8]) -> Result<(), Failed>
     Ok(())
 }
 
-/// Reads the file from the offset `at` on until `into` is full or a read gives no byte, and answers how
-/// many bytes were read. Where the folder gives all that it has, one read fills `into`.
+/// Reads the file from the offset `at` on until `into` is full or a read returns no byte, and
+/// returns how many bytes were read. If the folder returns all that it has, one read fills `into`.
 ///
 /// # Errors
-/// Where a read failed.
+/// If a read failed.
 pub fn read_full<D: Folder>(
     folder: &mut D,
     name: &str,
@@ -60,12 +60,12 @@ pub fn read_full<D: Folder>(
     read_on(folder, name, at, into, 0, enough)
 }
 
-/// Goes on reading a file, of which the first `have` bytes from the offset `at` on are the first of `into`,
-/// until there are `enough` or a read gives no byte, and answers how many there are then. Each read asks
-/// for as much as `into` still takes.
+/// Continues reading a file whose first `have` bytes from the offset `at` on are already in `into`,
+/// until there are `enough` or a read returns no byte, and returns how many there are then. Each
+/// read asks for as much as `into` still has room for.
 ///
 /// # Errors
-/// Where a read failed.
+/// If a read failed.
 pub fn read_on<D: Folder>(
     folder: &mut D,
     name: &str,

@@ -1,5 +1,6 @@
-//! The outside of a program: a folder of files and a sink of bytes, as traits with a written meaning, both in memory,
-//! for tests, and buffers before them. `on_disk` has both over real files and streams.
+//! The outside of a program: a folder of files and a sink of bytes, as traits with contracts, both
+//! in memory for tests, and buffers for them. `on_disk` implements both over real files and
+//! streams.
 #![tactic(auto)]
 
 mod exact;

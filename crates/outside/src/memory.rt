@@ -1,5 +1,5 @@
-//! A folder and a sink in memory, any call of which can be made to fail, and a folder whose files become shorter while
-//! they are read.
+//! A folder and a sink in memory, any call of which can be made to fail, and a folder whose files
+//! become shorter while they are read.
 
 mod buffer;
 mod file_rooms;

@@ -1,18 +1,19 @@
-//! How often something happened, and to which file last.
+//! How often something happened, and to which file it last did.
 ghost use Rattle.std.specs.Prelude.{◌≡◌, ◌≤◌, length};
 ghost use Rattle.outside.specs.Counts.{no_occurrence, one_occurrence_more, noted_name};
 ghost use Rattle.outside.specs.Feed.{most_given};
 
 use std::marker::Model;
 
-// How many bytes of a name are kept: no system takes a longer one.
+// How many bytes of a name are kept: no system allows a longer one.
 const LONGEST: usize = 4096;
 
-/// How often something happened, and the name of the file that it happened to last. It takes no memory.
+/// How often something happened, and the name of the file that it last happened to. It takes no
+/// memory.
 #[derive(Drop)]
 pub(crate) struct Occurrences {
     times: u64,
-    // The name stands in the first `length` bytes.
+    // The name is in the first `length` bytes.
     name: [u8; LONGEST],
     length: usize,
 }
@@ -39,7 +40,7 @@ impl Occurrences {
         }
     }
 
-    /// It happened once more, to the file of this name.
+    /// It happened once more, to the file with this name.
     pub fn add(&mut self, name: &str)
         ensures counted { self.new ≡ one_occurrence_more name.now self.old }
         ensures later { self.old.times ≤ self.new.times }

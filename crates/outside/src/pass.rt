@@ -1,4 +1,4 @@
-//! A second pass over an input: it is read again, and written to an output.
+//! A second pass over an input: reads it again, and writes an output.
 ghost use Rattle.std.specs.Prelude.{◌≡◌, ◌+◌, ◌≤◌, length};
 ghost use Rattle.outside.specs.Files.{IsFileThere};
 ghost use Rattle.outside.specs.Pass.{IsPassReady, bytes_at, bytes_between};
@@ -37,7 +37,7 @@ impl From<ReadFault> for PassFault {
     }
 }
 
-/// What a pass reads, and what it writes.
+/// What a pass reads and what it writes.
 #[derive(Clone, Copy)]
 pub struct Pass<'a> {
     pub input: &'a str,
@@ -47,10 +47,10 @@ pub struct Pass<'a> {
 }
 
 impl<'a> Pass<'a> {
-    /// Gives `n` bytes of the input from the offset `at` on, at most 4,096, which are within its length.
+    /// Gives `n` bytes of the input from the offset `at` on: at most 4,096, and within its length.
     ///
     /// # Errors
-    /// `Read` where a read failed; `Shrunk` where the input ends before the last of them.
+    /// `Read` if a read failed; `Shrunk` if the input ends before the last of them.
     #[inline]
     pub fn fill<D: Folder>(
         &self,
@@ -71,7 +71,7 @@ impl<'a> Pass<'a> {
     /// Adds a piece to what waits for the output.
     ///
     /// # Errors
-    /// `Write` where a write failed.
+    /// `Write` if a write failed.
     #[inline]
     pub fn push<D: Folder>(
         &self,
@@ -89,7 +89,7 @@ impl<'a> Pass<'a> {
         }
     }
 
-    /// Copies the bytes of the input from one offset up to another, which are within its length.
+    /// Copies the bytes of the input from one offset up to another, both within its length.
     ///
     /// # Errors
     /// As `fill` and `push`.
@@ -137,10 +137,10 @@ impl<'a> Pass<'a> {
         self.push(folder, feed.bytes(), waiting)
     }
 
-    /// Appends to the output what waits for it.
+    /// Appends what waits to the output.
     ///
     /// # Errors
-    /// `Write` where a write failed.
+    /// `Write` if a write failed.
     pub fn finish<D: Folder>(
         &self,
         folder: &mut D,

@@ -12,11 +12,11 @@ use crate::waiting::WaitingBytes;
 use std::alloc::{AllocError, Global};
 use std::marker::Model;
 
-/// A buffer of 65,536 bytes before a sink, each write of which may cost much: that to standard output is
-/// followed by a flush. Contracts see it as the bytes that wait.
+/// A buffer of 65,536 bytes for a sink whose writes may each cost much: each write to standard
+/// output is followed by a flush. Contracts see it as the bytes that wait.
 ///
-/// Unlike a `WriteBuffer` it isn't filled before it is sent. Each piece is a line, and whoever reads the
-/// stream gets whole lines.
+/// Unlike a `WriteBuffer`, it isn't filled before it is sent: each piece is a line, and a reader of
+/// the stream gets whole lines.
 #[derive(Drop)]
 pub struct SendBuffer {
     waiting: WaitingBytes,
@@ -34,7 +34,7 @@ impl SendBuffer {
     /// A buffer in which nothing waits. It takes all its memory here.
     ///
     /// # Errors
-    /// Where there is no memory.
+    /// If memory runs out.
     pub fn new(alloc: Global) -> Result<SendBuffer, AllocError>
         ensures { IfOk result (λ buffer. buffer ≡ []) }
     {
@@ -43,11 +43,11 @@ impl SendBuffer {
         })
     }
 
-    /// Adds bytes to what waits. Where that would be more than 65,536, what waits is sent first, and then
-    /// these bytes too if they alone are more than 65,536.
+    /// Adds bytes to what waits. If that would be more than 65,536, what waits is sent first, and
+    /// then these bytes too if they alone are more than 65,536.
     ///
     /// # Errors
-    /// Where a write failed. Then a prefix of what waited and the piece was sent, and nothing waits.
+    /// If a write failed. Then a prefix of what waited and the piece was sent, and nothing waits.
     #[inline]
     pub fn push<T: Sink>(&mut self, sink: &mut T, piece: &[u8]) -> Result<(), Failed>
         ensures passed { OnOk result (SendsWaiting (self.old ++ piece.now) self.new
@@ -67,7 +67,7 @@ impl SendBuffer {
     /// Sends what waits.
     ///
     /// # Errors
-    /// Where a write failed. Then a prefix of what waited was sent, and nothing waits.
+    /// If a write failed. Then a prefix of what waited was sent, and nothing waits.
     pub fn finish<T: Sink>(&mut self, sink: &mut T) -> Result<(), Failed>
         ensures sent { OnOk result ((T.heard sink.new).sent
             ≡ sent_and_more (T.heard sink.old).sent self.old) }
@@ -81,7 +81,8 @@ impl SendBuffer {
         sent
     }
 
-    // Sends what waits, and then adds bytes that didn't fit after it, or sends them too.
+    // Sends what waits, and then adds bytes that didn't fit after it, or sends them too if they
+    // alone don't fit.
     #[inline(never)]
     fn push_over<T: Sink>(&mut self, sink: &mut T, piece: &[u8]) -> Result<(), Failed>
         ensures passed { OnOk result (SendsWaiting (self.old ++ piece.now) self.new

@@ -5,8 +5,9 @@ ghost use Rattle.outside.specs.Counts.{no_counts, with_miss, with_end, with_read
 use crate::occurrences::Occurrences;
 use std::marker::Model;
 
-/// How often a file was missing, a read met an end, and a call failed, and of which file it was the last time.
-/// A count that has reached `u64::MAX` stays there, and of a name longer than 4,096 bytes the first 4,096 are kept.
+/// How often a file was missing, a read met an end, and a call failed, and which file it last
+/// happened to. A count that has reached `u64::MAX` stays there, and of a name longer than 4,096
+/// bytes the first 4,096 are kept.
 #[derive(Drop)]
 pub struct Tally {
     misses: Occurrences,
@@ -55,8 +56,8 @@ impl Tally {
         self.end = at;
     }
 
-    /// A read of this file at this offset gave `count` bytes, where there was room for `room`: it met an end where it
-    /// gave none though there was room.
+    /// A read of this file at this offset returned `count` bytes, where there was room for `room`:
+    /// it met an end if it returned none though there was room.
     #[inline]
     pub fn count_read(&mut self, name: &str, at: u64, count: usize, room: usize)
         ensures counted { self.new ≡ (if count == 0 && nat_lt 0 room then with_end name.now at
@@ -71,7 +72,7 @@ impl Tally {
         }
     }
 
-    /// A call failed that looks for this file or reads it.
+    /// A call to find or read this file failed.
     pub fn count_read_fault(&mut self, name: &str)
         ensures counted { self.new ≡ with_read_fault name.now self.old }
         ensures later { OnlyReads self.old self.new }
@@ -79,7 +80,7 @@ impl Tally {
         self.read_faults.add(name);
     }
 
-    /// A call failed that creates this file or writes to it.
+    /// A call to create this file or write to it failed.
     pub fn count_write_fault(&mut self, name: &str)
         ensures counted { self.new ≡ with_write_fault name.now self.old }
         ensures later { OnlyWrites self.old self.new }

@@ -1,4 +1,4 @@
-//! Bytes that wait to be handed on.
+//! Bytes that wait to be passed on.
 ghost use Rattle.std.specs.Prelude.{◌≡◌, ◌+◌, ◌≤◌, [], ◌++◌, length, take, IfOk};
 ghost use Rattle.outside.specs.Feed.{buffer_size};
 
@@ -6,7 +6,7 @@ use crate::sizes::BUFFER_SIZE;
 use std::alloc::{AllocError, Global};
 use std::marker::Model;
 
-/// A buffer of 65,536 bytes in front of a file or a sink. Contracts see it as the bytes that wait.
+/// A buffer of 65,536 bytes for a file or a sink. Contracts see it as the bytes that wait.
 #[derive(Drop)]
 pub(crate) struct WaitingBytes {
     room: Vec<u8>,
@@ -27,7 +27,7 @@ impl WaitingBytes {
     /// A buffer in which nothing waits. It takes all its memory here.
     ///
     /// # Errors
-    /// Where there is no memory.
+    /// If memory runs out.
     pub fn new(alloc: Global) -> Result<WaitingBytes, AllocError>
         ensures { IfOk result (λ waiting. waiting ≡ []) }
     {
@@ -53,7 +53,7 @@ impl WaitingBytes {
         &self.room[..self.count]
     }
 
-    /// Lets go of what waits.
+    /// Drops what waits.
     #[inline(always)]
     pub fn clear(&mut self)
         ensures { self.new ≡ [] }
@@ -72,8 +72,8 @@ impl WaitingBytes {
         self.count = end;
     }
 
-    /// Adds the first `count` bytes of a piece that fits whole. Copying is fastest where the number of
-    /// bytes is a constant, so the whole piece is copied.
+    /// Adds the first `count` bytes of a piece that fits as a whole. Copying is fastest if the
+    /// number of bytes is a constant, so the whole piece is copied.
     #[inline(always)]
     pub fn add_first(&mut self, piece: &[u8], count: usize)
         requires room { length self.old + length piece.now ≤ buffer_size }

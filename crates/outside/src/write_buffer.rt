@@ -11,9 +11,9 @@ use crate::waiting::WaitingBytes;
 use std::alloc::{AllocError, Global};
 use std::marker::Model;
 
-/// A buffer of 65,536 bytes before one file. Contracts see it as the bytes that wait.
+/// A buffer of 65,536 bytes for one file. Contracts see it as the bytes that wait.
 ///
-/// It is filled before it is written, so that every write but the last has a multiple of 65,536
+/// It is filled before it is written, so that every write but the last is of a multiple of 65,536
 /// bytes.
 #[derive(Drop)]
 pub struct WriteBuffer {
@@ -32,7 +32,7 @@ impl WriteBuffer {
     /// A buffer in which nothing waits. It takes all its memory here.
     ///
     /// # Errors
-    /// Where there is no memory.
+    /// If memory runs out.
     pub fn new(alloc: Global) -> Result<WriteBuffer, AllocError>
         ensures { IfOk result (λ buffer. buffer ≡ []) }
     {
@@ -41,12 +41,12 @@ impl WriteBuffer {
         })
     }
 
-    /// Adds any number of bytes to what waits. Where that would be more than 65,536, the first of
-    /// them are appended to the file, in multiples of 65,536.
+    /// Adds any number of bytes to what waits. If that would be more than 65,536, the first of them
+    /// are appended to the file, in multiples of 65,536.
     ///
     /// # Errors
-    /// Where a write failed. Then a prefix of what waited and the piece, and not all, was appended, and
-    /// nothing waits.
+    /// If a write failed. Then a prefix of what waited and the piece, and not all, was appended,
+    /// and nothing waits.
     #[inline]
     pub fn push<D: Folder>(
         &mut self,
@@ -68,8 +68,8 @@ impl WriteBuffer {
     /// Adds the first `count` bytes of a piece to what waits, as `push` does.
     ///
     /// # Errors
-    /// Where a write failed. Then a prefix of what waited and these bytes, and not all, was appended, and
-    /// nothing waits.
+    /// If a write failed. Then a prefix of what waited and these bytes, and not all, was appended,
+    /// and nothing waits.
     #[inline(always)]
     pub fn push_first<D: Folder>(
         &mut self,
@@ -90,10 +90,11 @@ impl WriteBuffer {
         self.push(folder, name, &piece[..count])
     }
 
-    /// Appends to the file what waits.
+    /// Appends what waits to the file.
     ///
     /// # Errors
-    /// Where a write failed. Then a prefix of what waited, and not all, was appended, and nothing waits.
+    /// If a write failed. Then a prefix of what waited, and not all, was appended, and nothing
+    /// waits.
     pub fn finish<D: Folder>(&mut self, folder: &mut D, name: &str) -> Result<(), Failed>
         requires { IsFileThere (D.seen folder.old).files name.now }
         ensures { FinishAnswer name.now self.old self.new (D.seen folder.old)
@@ -104,8 +105,8 @@ impl WriteBuffer {
         written
     }
 
-    // Adds bytes that don't fit: fills the buffer and appends it to the file, then of the others as many
-    // times 65,536 as there are. The rest waits.
+    // Adds bytes that don't fit: fills the buffer and appends it to the file, then appends the
+    // greatest multiple of 65,536 of the bytes that are left. The rest waits.
     #[inline(never)]
     fn push_over<D: Folder>(
         &mut self,
@@ -127,8 +128,8 @@ impl WriteBuffer {
     }
 }
 
-// Appends as many times 65,536 of the bytes as there are, in one write where the folder takes them, and
-// answers how many bytes these are.
+// Appends the first of the bytes, the greatest multiple of 65,536 of them, in one write if the
+// folder takes them, and returns how many bytes these are.
 fn write_whole<D: Folder>(folder: &mut D, name: &str, bytes: &[u8]) -> Result<usize, Failed>
     requires { IsFileThere (D.seen folder.old).files name.now }
     ensures { WholeAnswer name.now bytes.now (D.seen folder.old) (D.seen folder.new) result }

@@ -1,4 +1,4 @@
-//! Bytes in memory that was taken before.
+//! Bytes in memory that was reserved before.
 ghost use Rattle.std.specs.Prelude.{◌≡◌, ◌+◌, ◌≤◌, [], ◌++◌, length, IfOk, nat_le, if◌then◌else◌};
 
 use std::alloc::{AllocError, Global};
@@ -24,7 +24,7 @@ impl Model for Buffer {
 }
 
 impl Buffer {
-    /// Without bytes and room. It takes no memory.
+    /// No bytes and no room. It takes no memory.
     pub fn new(alloc: Global) -> Self
         ensures { result ≡ record { bytes = []; room = 0 } }
     {
@@ -34,10 +34,10 @@ impl Buffer {
         }
     }
 
-    /// A copy of the bytes, with room for so many.
+    /// A copy of the bytes, with room for `room` of them.
     ///
     /// # Errors
-    /// Where there is no memory.
+    /// If memory runs out.
     pub fn with_room(alloc: Global, room: u64, bytes: &[u8]) -> Result<Self, AllocError>
         requires { length bytes.now ≤ room }
         ensures { IfOk result (λ b. b ≡ record { bytes = bytes.now; room = room }) }
@@ -58,7 +58,8 @@ impl Buffer {
         ensures value { result ≡ self.now.room }
         ensures enough { length self.now.bytes ≤ result }
     {
-        // A look inside gives the proof the invariant of the buffer, by which the bytes are within the room.
+        // A look inside gives the proof the buffer's invariant, which says that the bytes fit the
+        // room.
         let _ = self.content.len();
         self.room
     }
@@ -70,7 +71,7 @@ impl Buffer {
         self.content.clear();
     }
 
-    /// Adds the bytes if there is room for all of them, and answers whether there is.
+    /// Adds the bytes if there is room for all of them, and returns whether there is.
     pub fn append(&mut self, bytes: &[u8]) -> bool
         ensures fits { result ≡ nat_le (length self.old.bytes + length bytes.now) self.old.room }
         ensures added { self.new ≡ (if result then record self.old

@@ -1,4 +1,4 @@
-//! Files in memory by their names, each in memory that was taken before.
+//! Files in memory by name, each in memory that was reserved before.
 ghost use Rattle.std.specs.Prelude.{◌≡◌, ◌+◌, ◌≤◌, [], ◌++◌, length, None, Some, OnOk, OnErr, IfOk, IsSome, is_some, unwrap_or, option_copied, nat_le, if◌then◌else◌, bytes_eq};
 ghost use Rattle.std.specs.Map.{update};
 ghost use Rattle.outside.specs.Files.{with_file};
@@ -17,10 +17,10 @@ pub struct FileRoom {
 impl FileRoom {
     ghost use Rattle.outside.specs.FileRooms.{content_of};
 
-    /// Room for so many bytes, and a file of these bytes if they are given.
+    /// Room for `room` bytes, and a file of the bytes if any are given.
     ///
     /// # Errors
-    /// Where there is no memory.
+    /// If memory runs out.
     pub fn new(alloc: Global, room: u64, bytes: Option<&[u8]>) -> Result<Self, AllocError>
         requires { length (unwrap_or (option_copied bytes) []) ≤ room }
         ensures content { IfOk result (λ s. content_of s ≡ option_copied bytes.entry) }
@@ -61,7 +61,7 @@ impl FileRoom {
         self.there = true;
     }
 
-    /// Adds the bytes to the file if there is room for all of them, and answers whether there is.
+    /// Adds the bytes to the file if there is room for all of them, and returns whether there is.
     pub fn append(&mut self, bytes: &[u8]) -> bool
         requires { IsSome (content_of self.old) }
         ensures fits { result ≡ nat_le (length
@@ -75,7 +75,7 @@ impl FileRoom {
     }
 }
 
-/// Room and file of each name that was put or reserved.
+/// The room and the file of each name that was put or reserved.
 #[derive(Drop)]
 pub struct FileRooms {
     by_name: BTreeMap<String, FileRoom>,
@@ -111,10 +111,10 @@ impl FileRooms {
         }
     }
 
-    /// Gives the name this room and file in place of what it has.
+    /// Gives the name this room and file instead of what it has.
     ///
     /// # Errors
-    /// Where there is no memory. Then rooms and files stay.
+    /// If memory runs out. Then rooms and files are unchanged.
     pub fn set(&mut self, alloc: Global, name: &str, slot: FileRoom) -> Result<(), AllocError>
         ensures contents { OnOk result (contents_in self.new ≡ update bytes_eq
             (contents_in self.old) name.now (content_of slot)) }
@@ -128,7 +128,7 @@ impl FileRooms {
         Ok(())
     }
 
-    /// Makes the name a file of no bytes if it has room, and answers whether it has.
+    /// Makes the name a file of no bytes if it has room, and returns whether it has.
     pub fn create(&mut self, name: &str) -> bool
         ensures answer { result ≡ is_some (rooms_in self.old name.now) }
         ensures contents { contents_in self.new
@@ -145,7 +145,7 @@ impl FileRooms {
         }
     }
 
-    /// Adds the bytes to the file if there is room for all of them, and answers whether there is.
+    /// Adds the bytes to the file if there is room for all of them, and returns whether there is.
     pub fn append(&mut self, name: &str, bytes: &[u8]) -> bool
         requires { IsSome (contents_in self.old name.now) }
         ensures answer { result ≡ nat_le (length

@@ -11,7 +11,7 @@ use crate::memory::schedule::Schedule;
 use crate::tally::Tally;
 use std::alloc::{AllocError, Global};
 
-/// The kinds of calls of a folder.
+/// The kinds of calls to a folder.
 #[derive(Clone, Copy, Debug, PartialEq, Eq)]
 pub enum Call {
     /// `Folder::find`
@@ -24,10 +24,10 @@ pub enum Call {
     Write,
 }
 
-/// A folder in memory. It tells its files, and a call of its trait takes no memory: each name has a room in
-/// bytes, for which `put` and `reserve` take the memory. A call of the trait fails exactly if it is on the
-/// list of calls that are to fail, if `create` is given a name without a room, or if `write` would make a
-/// file longer than its room.
+/// A folder in memory. The content of its files is known, and a call of its trait takes no memory:
+/// each name has a room in bytes, for which `put` and `reserve` take the memory. A call of the
+/// trait fails exactly if it is on the list of calls that are to fail, if `create` is given a name
+/// without a room, or if `write` would make a file longer than its room.
 #[derive(Drop)]
 pub struct MemFolder {
     alloc: Global,
@@ -62,10 +62,11 @@ impl MemFolder {
         }
     }
 
-    /// Makes the name hold these bytes. Its room is then the greater of its old room and their number.
+    /// Makes the name hold these bytes. Its room becomes the greater of its old room and their
+    /// number.
     ///
     /// # Errors
-    /// Where there is no memory. Then files and rooms stay.
+    /// If memory runs out. Then files and rooms are unchanged.
     #[tactic(auto, unfolding(crate::specs::Files::with_file))]
     pub fn put(&mut self, name: &str, bytes: &[u8]) -> Result<(), AllocError>
         ensures contents { OnOk result (contents_of self.new ≡ with_file
@@ -81,10 +82,11 @@ impl MemFolder {
         self.slots.set(self.alloc, name, slot)
     }
 
-    /// Makes the name's room the greater of its old room and this number of bytes. All files stay.
+    /// Makes the name's room the greater of its old room and this number of bytes. All files are
+    /// unchanged.
     ///
     /// # Errors
-    /// Where there is no memory. Then the rooms stay.
+    /// If memory runs out. Then the rooms are unchanged.
     pub fn reserve(&mut self, name: &str, bytes: u64) -> Result<(), AllocError>
         ensures contents { contents_of self.new ≡ contents_of self.old }
         ensures rooms { OnOk result (rooms_of self.new ≡ with_room
@@ -97,7 +99,7 @@ impl MemFolder {
         self.slots.set(self.alloc, name, slot)
     }
 
-    /// The bytes of the file, or `None` where the name isn't there.
+    /// The bytes of the file, or `None` if the name isn't there.
     pub fn get(&self, name: &str) -> Option<&[u8]>
         ensures { option_copied result ≡ contents_of self.now name.now }
     {
@@ -108,7 +110,7 @@ impl MemFolder {
     /// whole life, up to `u64::MAX`.
     ///
     /// # Errors
-    /// Where there is no memory. Then the list of calls that are to fail stays.
+    /// If memory runs out. Then the list of calls that are to fail is unchanged.
     pub fn fail(&mut self, call: Call, number: u64) -> Result<(), AllocError>
         ensures added { OnOk result (calls_to_fail self.new call
             ≡ calls_to_fail self.old call ++ number ∷ []) }
@@ -129,7 +131,7 @@ impl MemFolder {
     }
 }
 
-/// The number of the bytes.
+/// The number of bytes.
 fn size_of(bytes: &[u8]) -> u64
     ensures size { result ≡ length bytes.now }
     // The type says that they are bytes.
@@ -201,7 +203,7 @@ impl Folder for MemFolder {
     }
 }
 
-// Copies the bytes from the offset `at` on, as many as there are and fit, and answers how many.
+// Copies the bytes from the offset `at` on, as many as there are and fit, and returns how many.
 fn copy_from(content: &[u8], at: u64, into: &mut [u8]) -> usize
     ensures count { result ≡ min (length into.old) (length content.now - at) }
     ensures front { take result into.new ≡ take result (drop at content.now) }

@@ -1,11 +1,11 @@
-//! Calls of one kind, of which some are to fail.
+//! The calls of one kind, some of which are to fail.
 ghost use Rattle.std.specs.Prelude.{◌≡◌, [], ◌∷◌, ◌++◌, OnOk, OnErr};
 ghost use Rattle.outside.specs.Schedules.{is_next_to_fail, schedule_after_call};
 
 use std::alloc::{AllocError, Global};
 use std::marker::Model;
 
-/// How many calls there were, and the numbers of those that are to fail, counted from 1.
+/// How many calls were made, and the numbers of those that are to fail, counted from 1.
 #[derive(Drop)]
 pub struct Schedule {
     made: u64,
@@ -34,7 +34,7 @@ impl Schedule {
     /// Makes the call with this number fail, counted from 1.
     ///
     /// # Errors
-    /// Where there is no memory. Then the list of calls that are to fail stays.
+    /// If memory runs out. Then the list of calls that are to fail is unchanged.
     pub fn fail(&mut self, number: u64) -> Result<(), AllocError>
         ensures added { OnOk result (self.new
             ≡ record self.old { failing = self.old.failing ++ number ∷ [] }) }
@@ -44,8 +44,8 @@ impl Schedule {
         Ok(())
     }
 
-    /// Counts a call, and answers whether it is to fail. A number of calls that has reached `u64::MAX`
-    /// stays there.
+    /// Counts a call, and returns whether it is to fail. A number of calls that has reached
+    /// `u64::MAX` stays there.
     pub fn next_fails(&mut self) -> bool
         ensures answer { result ≡ is_next_to_fail self.old }
         ensures counted { self.new ≡ schedule_after_call self.old }

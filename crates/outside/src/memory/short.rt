@@ -1,4 +1,4 @@
-//! A folder that says greater lengths than it gives, for tests.
+//! A folder that reports greater lengths than it has bytes, for tests.
 ghost use Rattle.std.specs.Prelude.{◌≡◌, ◌-◌, ◌<◌, Ok, true, OnOk, OnErr, is_err, is_some, option_copied};
 ghost use Rattle.outside.specs.Files.{Told, untold_files, with_empty_file, with_appended_bytes, IsFileThere};
 ghost use Rattle.outside.specs.Memory.{contents_of, mem_counts};
@@ -9,11 +9,12 @@ ghost use Rattle.outside.specs.Answers.{FindAnswer, ReadAnswer, CreateAnswer, Wr
 use crate::folder::{Failed, FindFault, Folder};
 use crate::memory::folder::MemFolder;
 
-/// A folder over one in memory that tells nothing, and whose files are shorter than `find` says, as if
-/// another program cut them off while they are read. Its calls are those of the folder inside, except three
-/// things: `find` answers so many bytes more than there are, or `u64::MAX` if that is less; `read` gives no
-/// byte of a name that isn't inside; and `write` first creates such a name inside, and fails if that fails.
-/// Its counts are those of the folder inside, in which a read of a name that isn't there counts as one at an end.
+/// A folder over one in memory. The content of its files isn't known, and they are shorter than
+/// `find` says, as if another program cut them off while they are read. Its calls are those of the
+/// folder inside, with three exceptions: `find` returns `extra` bytes more than there are, or
+/// `u64::MAX` if that is less; `read` returns no byte of a name that isn't inside; and `write`
+/// first creates such a name inside, and fails if that fails. Its counts are those of the folder
+/// inside, in which a read of a name that isn't there counts as one at an end.
 #[derive(Drop)]
 pub struct ShortFolder {
     inner: MemFolder,
@@ -23,8 +24,8 @@ pub struct ShortFolder {
 impl ShortFolder {
     ghost use Rattle.outside.specs.Memory.{contents_of};
 
-    /// A folder over this one, whose files seem `extra` bytes longer. Its counts begin with those of this one. It takes
-    /// no memory.
+    /// A folder over this one, whose files seem `extra` bytes longer. Its counts begin with the
+    /// counts of this one. It takes no memory.
     pub fn new(inner: MemFolder, extra: u64) -> Self
         ensures inner { result.inner ≡ inner }
         ensures extra { result.extra ≡ extra }
@@ -33,7 +34,7 @@ impl ShortFolder {
         ShortFolder { inner, extra }
     }
 
-    /// The bytes of a file of the folder inside, or `None` where the name isn't there.
+    /// The bytes of a file of the folder inside, or `None` if the name isn't there.
     pub fn get(&self, name: &str) -> Option<&[u8]>
         ensures { option_copied result ≡ contents_of self.now.inner name.now }
     {

@@ -9,9 +9,9 @@ use crate::memory::schedule::Schedule;
 use crate::sink::Sink;
 use std::alloc::{AllocError, Global};
 
-/// A sink in memory. It tells its bytes, and a `write` takes no memory: the sink has a room in bytes, for
-/// which `reserve` takes the memory. A `write` fails exactly if it is on the list of those that are to
-/// fail, or if the sink would then have more bytes than room.
+/// A sink in memory. Its bytes are known, and a `write` takes no memory: the sink has a room in
+/// bytes, for which `reserve` takes the memory. A `write` fails exactly if it is on the list of
+/// those that are to fail, or if the sink would then have more bytes than room.
 #[derive(Drop)]
 pub struct MemSink {
     alloc: Global,
@@ -39,10 +39,11 @@ impl MemSink {
         }
     }
 
-    /// Makes the room the greater of the old room and this number of bytes. The sink's bytes stay.
+    /// Makes the room the greater of the old room and this number of bytes. The sink's bytes are
+    /// unchanged.
     ///
     /// # Errors
-    /// Where there is no memory. Then the room stays.
+    /// If memory runs out. Then the room is unchanged.
     pub fn reserve(&mut self, bytes: u64) -> Result<(), AllocError>
         ensures room { OnOk result (sink_room self.new ≡ max (sink_room self.old) bytes) }
         ensures room_kept { OnErr result (sink_room self.new ≡ sink_room self.old) }
@@ -59,7 +60,7 @@ impl MemSink {
     /// Makes the `write` with this number fail. Writes are counted from 1 over the sink's whole life.
     ///
     /// # Errors
-    /// Where there is no memory. Then the list of writes that are to fail stays.
+    /// If memory runs out. Then the list of writes that are to fail is unchanged.
     pub fn fail(&mut self, number: u64) -> Result<(), AllocError>
         ensures added { OnOk result (writes_to_fail self.new ≡ writes_to_fail self.old ++ number
             ∷ []) }

@@ -1,4 +1,4 @@
--- Where the files are told, all bytes come.
+-- If the content of the files is known, all bytes come.
 use Rattle.std.proofs.Common.{ap, arith, drop, length, refl, rules, sym, take, ◌<◌, ◌∙◌}
 use Rattle.std.proofs.lemmas.List.{take_all}
 use Rattle.outside.proofs.FilesLemmas.{nothing_told}

@@ -1,4 +1,4 @@
--- What is kept is what was held from an offset on, so it is what is there in the file.
+-- What is kept was held from an offset on, so it is what the file has there.
 use Rattle.std.proofs.Common.{ap, arith, drop, sym, take, ◌+◌, ◌-◌, ◌∙◌, ◌≡◌}
 use Rattle.std.proofs.lemmas.List.{drop-drop, drop-take}
 use Rattle.outside.proofs.FeedLemmas.{moved_front}

@@ -1,4 +1,4 @@
--- Where the files are told, all bytes come.
+-- If the content of the files is known, all bytes come.
 use Rattle.std.proofs.Common.{ap, arith, drop, length, length-drop, length-take, refl, rules, ◌<◌}
 use Rattle.std.proofs.Common.{◌≡◌}
 use Rattle.outside.proofs.FilesLemmas.{nothing_told}

@@ -1,5 +1,5 @@
 use Rattle.std.proofs.Common.{rules}
--- A piece that was read goes on, and all is ready for the next.
+-- A piece that was read is passed on, and all is ready for the next.
 use Rattle.std.proofs.lemmas.Result.{on_ok_weaker}
 use Rattle.outside.proofs.{BufferOutputLemmas.err_at, PassLemmas.{passed_ready, prefix_nothing}}
 use Rattle.outside.specs.Pass.{bytes_at}

@@ -1,5 +1,5 @@
 use Rattle.std.proofs.Common.{rules}
--- The fault is one of the read, and so is the cause.
+-- The fault is one of reading, and so is the cause.
 use Rattle.std.proofs.lemmas.Result.{err_from_is_err_and}
 use Rattle.outside.{proofs.PassLemmas.{read_cause, read_kind}, specs.Pass.route_of}
 use Rattle.outside.proofs.pass.Pass.fill.Goals as goal

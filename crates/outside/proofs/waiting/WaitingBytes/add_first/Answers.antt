@@ -1,10 +1,10 @@
--- Of the bytes that were copied the first are those that wait.
+-- The first of the bytes that were copied are those that wait.
 use Rattle.std.proofs.Common.{ap, ap₂, arith, length, List, sym, take, ℕ, ◌++◌, ◌+◌, ◌∙◌, ◌≡◌, ◌≤◌}
 use Rattle.std.proofs.Math.Seq.{take-append-add}
 use Rattle.std.proofs.lemmas.List.{length-take-le, take-append-le, with_items_is}
 use Rattle.outside.proofs.waiting.WaitingBytes.add_first.Goals as goal
 
--- more bytes than these were put after those that wait
+-- more bytes than `count` were put after those that wait
 first_added : (waiting count : ℕ) (room piece put rest held : List ℕ) → waiting ≤ length room
     → take waiting room ≡ held → put ≡ piece → count ≤ length piece →
     take (waiting + count) (take waiting room ++ (put ++ rest)) ≡ held ++ take count piece
