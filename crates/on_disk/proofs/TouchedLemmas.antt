@@ -1,4 +1,4 @@
--- A name that was added to those that may have been touched.
+-- A name that was added to the names that may have been touched.
 use Rattle.std.proofs.Common.{ap, Bool, bytes_eq, cond, Err, false, inr, IsTrue, List, Ok, OnErr}
 use Rattle.std.proofs.Common.{OnOk, refl, Result, string_bytes, true, ℕ, ◌&&◌, ◌||◌, ◌∙◌, ◌≡◌}
 use Rattle.std.proofs.lemmas.{Map.Text.btree_set_updates_text, Slice.Eq.bytes_eq-Decides}
@@ -11,7 +11,7 @@ use Rattle.outside.specs.Files.{FailsToCreate, Touched, Untold, with_empty_file,
 use Rattle.outside.specs.Files.{with_tried_create}
 
 module _ (old : TouchedNames) (name : List ℕ) where
-  -- a name that was inserted is one more of the touched names
+  -- a name that was inserted is one more touched name
   pub touch_added : (new : TouchedNames) → UpdatesBy string_cmp
       (λ key. slice_cmp nat_cmp name (string_bytes key)) old.names new.names true
       → touched_in new ≡ with_touch (touched_in old) name true
@@ -39,13 +39,13 @@ touch_there old new name added = ap (λ touched. touched name) added
 
 module _ {T E : Type 0} (old mid new : Touched) (name : List ℕ)
     (added : mid ≡ with_touch old name true) (stays : new ≡ mid) where
-  -- where a call succeeded that may have emptied it, it counts as emptied
+  -- if a call succeeded that may have emptied the file, the name counts as emptied
   pub touch_emptied : (r : Result T E) → OnOk r (Untold new ≡ with_empty_file (Untold old) name)
   unfolding with_empty_file
   touch_emptied (Ok x) = ap Untold (stays ∙ added)
   touch_emptied (Err fault) = tt
 
-  -- where one failed, it may have been touched
+  -- if that call failed, the name may have been touched
   pub touch_failed : (r : Result T E) → OnErr r (FailsToCreate name (Untold old) (Untold new))
   unfolding with_tried_create
   touch_failed (Ok x) = tt

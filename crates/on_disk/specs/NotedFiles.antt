@@ -12,7 +12,8 @@ is_same_file a b = a.device == b.device && a.inode == b.inode
 abbrev pub is_noted : NotedFiles → FileId → Bool
 is_noted noted file = list_any (λ found. is_same_file found file) noted.files.items
 
--- whether a file may be emptied: not if the folder found it before, else if it is a regular one
+-- what `create` does with a file: it is refused if the folder found it before, and otherwise
+-- emptied if it is a regular one
 abbrev pub create_action : Bool → Bool → CreateAction
 create_action true regular = Refused
 create_action false true = Emptied

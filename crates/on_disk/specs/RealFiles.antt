@@ -1,4 +1,5 @@
--- What a folder of real files and a real stream count and keep open, and what open files tell.
+-- What a folder of real files and a real stream count and keep open, and what is known of open
+-- files.
 use Rattle.std.specs.Io.{KnownBytes.{Appends, Keeps}, Seek.SeekMoves}
 use Rattle.std.specs.Prelude.{drop, false, IfOk, IfSome, IsSome, IsTrue, length, List, min, Ok}
 use Rattle.std.specs.Prelude.{Option, option_and_then, option_map, pos, Result, Some, string_bytes}
@@ -10,11 +11,11 @@ use Rattle.on_disk.specs.declared.stream.StdSink.{StdSink}
 use Rattle.outside.specs.{Counts.Counts, Files.{Files, Untold, untold_bytes}}
 use Rattle.outside.specs.Seen.{Heard, heard_sink, Seen, seen_folder}
 
--- what the folder counted
+-- the folder's counts
 abbrev pub disk_counts : {R File Dir : Type 0} → DiskFolder R File Dir → Counts
 disk_counts folder = folder.tally
 
--- nothing is told of real files but which names may have been touched
+-- what is known of real files: only which names may have been touched
 abbrev pub disk_files : {R File Dir : Type 0} → DiskFolder R File Dir → Files
 disk_files folder = Untold (touched_in folder.touched)
 
@@ -38,11 +39,11 @@ found_file folder = option_map (λ opened. opened.file) folder.found
 abbrev pub FoundIsNoted : {R File Dir : Type 0} → DiskFolder R File Dir → Type 0
 FoundIsNoted folder = IfSome folder.found (λ opened. IsTrue (is_noted folder.noted opened.id))
 
--- those of the file that is open for appending are not
+-- the device and the inode number of the file that is open for appending aren't noted
 abbrev pub CreatedIsNotNoted : {R File Dir : Type 0} → DiskFolder R File Dir → Type 0
 CreatedIsNotNoted folder = IfSome folder.created (λ opened. is_noted folder.noted opened.id ≡ false)
 
--- what was noted stays so
+-- what was noted stays noted
 abbrev pub StayNoted : {R File Dir : Type 0} → DiskFolder R File Dir → DiskFolder R File Dir
     → Type 0
 StayNoted old new =
@@ -52,18 +53,18 @@ StayNoted old new =
 abbrev pub created_name : {R File Dir : Type 0} → DiskFolder R File Dir → Option (List ℕ)
 created_name folder = open_name folder.created
 
--- what the file that is open for appending holds, where one is open and tells it
+-- what the file that is open for appending holds, if one is open and its content is known
 abbrev pub created_bytes : {R File Dir : Type 0} → (File → Option (List ℕ)) → DiskFolder R File Dir
     → Option (List ℕ)
 created_bytes contents folder = option_and_then (λ opened. contents opened.file) folder.created
 
--- a file tells the offset at which it is, and that these are its bytes
+-- the offset of a file is known, and these are known to be its bytes
 pub record TellsBytes {File : Type 0} (position : File → Option ℕ) (bytes : File → Option (List ℕ))
     (file : File) (xs : List ℕ) : Type 0 where
   pub stands : IsSome (position file)
   pub holds : bytes file ≡ Some xs
 
--- the file of this name is open for reading, and tells that these are its bytes
+-- the file of this name is open for reading, and these are known to be its bytes
 pub record HasOpen {R File Dir : Type 0} (position : File → Option ℕ) (bytes : File
     → Option (List ℕ)) (folder : DiskFolder R File Dir) (name xs : List ℕ) : Type 0 where
   pub file : File
@@ -71,44 +72,44 @@ pub record HasOpen {R File Dir : Type 0} (position : File → Option ℕ) (bytes
   pub named : found_name folder ≡ Some name
   pub tells : TellsBytes position bytes file xs
 
--- reads give the bytes of a file from its offset on, as those of a cursor over bytes in memory do
+-- reads return the bytes of a file from its offset on, as with a cursor over bytes in memory
 pub record ReadsFromOffset {File : Type 0} (remaining : File → Option (List ℕ))
     (position : File → Option ℕ)
     (bytes : File → Option (List ℕ)) : Type 0 where
   pub gives : (file : File) (at : ℕ) (xs : List ℕ) → position file ≡ Some at → bytes file ≡ Some xs
       → remaining file ≡ Some (drop at xs)
 
--- where the file of this name is open for reading, as many of its
--- bytes were read as there are from an offset on and there is room for
+-- if the file of this name is open for reading, as many of its bytes were read as there are from an
+-- offset on and there is room for
 abbrev pub ReadsWhole : {R File Dir E : Type 0} → (File → Option ℕ) → (File → Option (List ℕ))
     → DiskFolder R File Dir → List ℕ → ℕ → ℕ → Result ℕ E → Type 0
 ReadsWhole position bytes folder name at room read =
     (xs : List ℕ) → HasOpen position bytes folder name xs
     → IfOk read (λ k. k ≡ min room (length xs - at))
 
--- and these bytes, where reads give the bytes from an offset on
+-- if reads return the bytes from the offset on, these bytes were read
 abbrev pub ReadsOpen : {R File Dir E : Type 0} → (File → Option (List ℕ)) → (File → Option ℕ)
     → (File → Option (List ℕ)) → DiskFolder R File Dir → List ℕ → ℕ → List ℕ → Result ℕ E → Type 0
 ReadsOpen remaining position bytes folder name at into read =
     ReadsFromOffset remaining position bytes → (xs : List ℕ) → HasOpen position bytes folder name xs
     → IfOk read (λ k. take k into ≡ take k (drop at xs))
 
--- where the file of this name is open for appending,
--- exactly the bytes that were written came to its end
+-- if the file of this name is open for appending, exactly the bytes that were written were appended
+-- to it
 abbrev pub AppendsOpen : {R File Dir E : Type 0} → (File → Option (List ℕ)) → DiskFolder R File Dir
     → DiskFolder R File Dir → List ℕ → List ℕ → Result ℕ E → Type 0
 AppendsOpen contents old new name bytes written =
     created_name old ≡ Some name → IfOk written
     (λ k. Appends (created_bytes contents old) (created_bytes contents new) (take k bytes))
 
--- a file of another name that is open for appending stays as it is
+-- a file of another name that is open for appending is unchanged
 abbrev pub LeavesOthers : {R File Dir : Type 0} → DiskFolder R File Dir → DiskFolder R File Dir
     → List ℕ → Type 0
 LeavesOthers old new name = created_name old ≢ Some name → new.created ≡ old.created
 
--- A seek to the end led from the file as it was opened to this offset, and
--- what the file told of its bytes it still tells. The library says nothing
--- of a file that was just opened, so whether it told anything stays open.
+-- A seek to the end led from the file as it was opened to this offset, and what was known of its
+-- bytes still is. The library says nothing of a file that was just opened, so whether anything was
+-- known stays open.
 pub record EndsAt {File : Type 0} (position : File → Option ℕ) (bytes : File → Option (List ℕ))
     (sought : File) (place : ℕ) : Type 0 where
   pub before : File
@@ -120,7 +121,7 @@ pub record EndsAt {File : Type 0} (position : File → Option ℕ) (bytes : File
 abbrev pub stream_faults : {W : Type 0} → StdSink W → ℕ
 stream_faults sink = sink.faults
 
--- what is heard of the sink, which tells no bytes
+-- what is seen of the sink, whose bytes aren't known
 abbrev pub stream_heard : {W : Type 0} → StdSink W → Heard
 stream_heard sink = heard_sink untold_bytes (stream_faults sink)
 

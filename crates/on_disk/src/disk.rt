@@ -20,7 +20,7 @@ use std::io::{Read, Seek, Write};
 use std::rt::Files;
 use std::{fs, io};
 
-// A file that is kept open, with the name that it was opened by, and its device and inode number.
+// A file that is kept open, with the name that it was opened by and its device and inode numbers.
 #[derive(Drop)]
 struct Opened<F> {
     name: String,
@@ -42,7 +42,7 @@ impl<F: Write> Opened<F> {
 }
 
 impl<F: Read + Seek> Opened<F> {
-    // Reads what there is from the offset `at` on, as much as fits.
+    // Reads from the offset `at` on, as much as there is and fits.
     fn read_part(&mut self, at: u64, into: &mut [u8]) -> io::Result<usize>
         ensures name { self.new.name ≡ self.old.name }
         ensures id { self.new.id ≡ self.old.id }
@@ -68,17 +68,17 @@ fn is_open<F>(opened: &Option<Opened<F>>, name: &str) -> bool
     }
 }
 
-/// A folder of real files, over a runtime that reaches them. It tells nothing of their contents.
+/// A folder of real files, over a runtime that reaches them. The content of its files isn't known.
 ///
-/// Not proved is what the system does: that the files behave as the trait says. They do while nobody
-/// else changes them and two names don't name one file. Against two names `create` helps: it fails where
-/// its name leads to a file that this folder found before, by device and inode, so no file is emptied that
-/// is still to be read. (A runtime that gives all files one device and inode has every `create` fail that
-/// follows a `find`.)
+/// What the system does isn't proved: that the files behave as the trait says. They do as long as
+/// nobody else changes them and no two names lead to one file. `create` guards against two such
+/// names: it fails if its name leads to a file that this folder found before, by device and inode,
+/// so no file is emptied that is still to be read. (With a runtime that gives all files one device
+/// and inode, every `create` after a `find` fails.)
 ///
-/// It keeps two files open, the one last found or read and the one last created, and opens others again. It also keeps the
-/// names that it was asked to create, which contracts see, and writes to no others. A call for which memory is refused
-/// fails.
+/// It keeps two files open, the one last found or read and the one last created, and reopens
+/// others. It also keeps the names that it was asked to create, which contracts see, and writes to
+/// no others. A call that is refused memory fails.
 #[derive(Drop)]
 pub struct DiskFolder<'a, R: Files> {
     rt: &'a R,
@@ -109,7 +109,7 @@ impl<'a, R: Files> DiskFolder<'a, R> {
         }
     }
 
-    // Opens a regular file, notes it, keeps it open and answers its length in bytes.
+    // Opens a regular file, notes it, keeps it open, and returns its length in bytes.
     fn locate(&mut self, name: &str) -> Result<u64, FindFault>
         ensures tally { disk_counts self.new ≡ disk_counts self.old }
         ensures touched { self.new.touched ≡ self.old.touched }
@@ -127,8 +127,8 @@ impl<'a, R: Files> DiskFolder<'a, R> {
         Ok(length)
     }
 
-    // Notes a file that was found, and keeps it open for reading. Fails for a file that comes after 65
-    // others.
+    // Notes a file that was found, and keeps it open for reading. Fails for a new file once 65
+    // others are noted.
     fn keep(&mut self, opened: Opened<R::File>) -> Result<(), FindFault>
         ensures tally { disk_counts self.new ≡ disk_counts self.old }
         ensures touched { self.new.touched ≡ self.old.touched }
@@ -162,7 +162,7 @@ impl<'a, R: Files> DiskFolder<'a, R> {
         Ok(())
     }
 
-    // Reads what there is from the offset `at` on, as much as fits.
+    // Reads from the offset `at` on, as much as there is and fits.
     fn read_there(&mut self, name: &str, at: u64, into: &mut [u8]) -> Result<usize, Failed>
         ensures bound { IfOk result (λ k. k ≤ length into.old) }
         ensures rest { IfOk result (λ k. drop k into.new ≡ drop k into.old) }
@@ -180,8 +180,9 @@ impl<'a, R: Files> DiskFolder<'a, R> {
         }
     }
 
-    // Opens the file of this name, empties it if it is a regular one, and keeps it open; fails if this
-    // folder found it. The name has to be noted first, since the system may make a file and fail then.
+    // Opens the file of this name, empties it if it is a regular one, and keeps it open; fails if
+    // this folder found it before. The name must be noted first, since the system may make a file
+    // and still fail.
     fn make_empty(&mut self, name: &str) -> Result<(), Failed>
         requires noted_first { IsTrue (touched_in self.now.touched name.now) }
         ensures tally { disk_counts self.new ≡ disk_counts self.old }
@@ -201,7 +202,7 @@ impl<'a, R: Files> DiskFolder<'a, R> {
         Ok(())
     }
 
-    // Notes the name as touched, opens its file and empties it, and keeps it open.
+    // Notes the name as touched, opens its file, empties it, and keeps it open.
     fn touch_and_empty(&mut self, name: &str) -> Result<(), Failed>
         ensures tally { disk_counts self.new ≡ disk_counts self.old }
         ensures emptied { OnOk result (disk_files self.new
@@ -246,7 +247,7 @@ fn append_anew<R: Files>(rt: &R, name: &str, bytes: &[u8]) -> Result<usize, Fail
     write_some(&mut file, bytes)
 }
 
-// How a file is opened to be written: each write goes to its end, and opening it empties nothing.
+// How a file is opened for writing: each write goes to its end, and opening it empties nothing.
 fn appending(creates: bool) -> OpenOptions
     ensures { result ≡ record new_options { append = true; create = creates } }
 {
@@ -255,8 +256,9 @@ fn appending(creates: bool) -> OpenOptions
     options
 }
 
-// Opens the file of this name to be written, and empties it if it is a regular one; fails if it was found. A file that is empty
-// is left as it is: some file systems write a file that was cut off to the disk when it is closed.
+// Opens the file of this name for writing, and empties it if it is a regular one; fails if it was
+// found before. A file that is empty is left as it is: some file systems write a truncated file to
+// the disk when it is closed.
 fn open_emptied<R: Files>(
     rt: &R,
     noted: &NotedFiles,
@@ -275,7 +277,8 @@ fn open_emptied<R: Files>(
     Ok((file, id))
 }
 
-// Opens a regular file for reading. Anything else is looked at first, since to open a pipe may block.
+// Opens a regular file for reading. The kind of the file is looked at first, since opening a pipe
+// may block.
 fn open_regular<R: Files>(rt: &R, name: &str) -> Result<(R::File, FileId), FindFault> {
     if !fs::metadata(rt, name)?.is_file() {
         return Err(FindFault::Failed);
@@ -296,16 +299,16 @@ impl<'a, R: Files> Folder for DiskFolder<'a, R> {
     /// The length of a regular file in bytes. The file is kept open for `read`.
     ///
     /// # Errors
-    /// `Absent` where the system says that the name isn't found, and `Failed` for every other error.
-    /// Anything but a regular file, such as a directory or a pipe, is a fault, and nothing blocks on it. So
-    /// is a file that this folder finds after 65 others.
+    /// `Absent` if the system says that the name isn't found, and `Failed` for every other error.
+    /// Anything but a regular file, such as a directory or a pipe, is a fault, and nothing blocks
+    /// on it. A file that this folder finds after 65 others is a fault too.
     fn find(&mut self, name: &str) -> Result<u64, FindFault>
         ensures answer { FindAnswer name.now (disk_seen self.old) (disk_seen self.new) result }
         // What the library knows of the open file.
         ensures opened { OnOk result (found_name self.new ≡ Some name.now) }
         ensures length { IfOk result (λ n. IfSome (found_file self.new)
             (λ file. EndsAt R.File.stream_position R.File.stream_bytes file n)) }
-        // Its device and inode are noted, and stay so.
+        // Its device and inode are noted, and stay noted.
         ensures noted { OnOk result (FoundIsNoted self.new) }
         ensures stay_noted { StayNoted self.old self.new }
         ensures created_stays { self.new.created ≡ self.old.created }
@@ -330,11 +333,12 @@ impl<'a, R: Files> Folder for DiskFolder<'a, R> {
     /// Reads bytes of the file from the offset `at` on, as many as there are and fit.
     ///
     /// # Errors
-    /// Where the system gives an error, and where the file is cut short while it is read.
+    /// If the system gives an error, or if the file is cut short while it is read.
     fn read(&mut self, name: &str, at: u64, into: &mut [u8]) -> Result<usize, Failed>
         ensures answer { ReadAnswer name.now at into.old into.new (disk_seen self.old)
             (disk_seen self.new) result }
-        // What the library knows of the open file: its own bytes were read, as many as there are and fit.
+        // What the library knows of the open file: its own bytes were read, as many as there are
+        // and fit.
         ensures opened { OnOk result (found_name self.new ≡ Some name.now) }
         ensures whole { ReadsWhole R.File.stream_position R.File.stream_bytes self.old name.now at
             (length into.old) result }
@@ -359,13 +363,13 @@ impl<'a, R: Files> Folder for DiskFolder<'a, R> {
     /// Makes the name a file of no bytes. Anything but a regular file is opened and left as it is.
     ///
     /// # Errors
-    /// Where the system gives an error, and where the name, whatever it is, leads to a file that this
+    /// If the system gives an error, or if the name, whatever it is, leads to a file that this
     /// folder found. That file is left as it is.
     #[tactic(auto, unfolding(outside::specs::Files::with_empty_file))]
     fn create(&mut self, name: &str) -> Result<(), Failed>
         ensures answer { CreateAnswer name.now (disk_seen self.old) (disk_seen self.new) result }
         ensures opened { OnOk result (created_name self.new ≡ Some name.now) }
-        // Its device and inode are those of no file that was found.
+        // No file that was found has its device and inode.
         ensures unfound { OnOk result (CreatedIsNotNoted self.new) }
         ensures found_stays { self.new.found ≡ self.old.found }
         ensures noted_stay { self.new.noted ≡ self.old.noted }
@@ -379,17 +383,17 @@ impl<'a, R: Files> Folder for DiskFolder<'a, R> {
         Ok(())
     }
 
-    /// Appends a prefix of the bytes to the file, which has to be there.
+    /// Appends a prefix of the bytes to the file, which must be there.
     ///
     /// # Errors
-    /// Where no call was made to create the name, where the system gives an error, and where it takes none of the bytes
-    /// though there are some.
+    /// If no call was made to create the name, if the system gives an error, or if it takes none of
+    /// the bytes though there are some.
     #[tactic(auto, unfolding(outside::specs::Files::with_appended_bytes))]
     fn write(&mut self, name: &str, bytes: &[u8]) -> Result<usize, Failed>
         ensures answer { WriteAnswer name.now bytes.now (disk_seen self.old) (disk_seen self.new)
             result }
-        // What the library knows of the open file: exactly these bytes came to its end, and none in a call that
-        // fails.
+        // What the library knows of the open file: exactly these bytes were appended to it, and
+        // none by a call that fails.
         ensures appended { AppendsOpen R.File.contents self.old self.new name.now bytes.now result }
         ensures aside { LeavesOthers self.old self.new name.now }
         ensures unwritten { OnErr result (Keeps (created_bytes R.File.contents self.old)

@@ -9,7 +9,7 @@ use std::os::unix::fs::MetadataExt;
 // The 64 inputs of a join, and a cue sheet.
 const MOST_FILES: usize = 65;
 
-/// What distinguishes one file from every other, whatever its names.
+/// What distinguishes a file from every other, whatever its names.
 #[derive(Clone, Copy, Default, PartialEq, Eq)]
 pub struct FileId {
     device: u64,
@@ -47,7 +47,7 @@ impl NotedFiles {
         self.files.as_slice().contains(file)
     }
 
-    /// Notes a file unless it is noted already, and answers whether it is noted now.
+    /// Notes a file unless it is noted already, and returns whether it is noted now.
     pub fn note(&mut self, file: FileId) -> bool
         ensures answer { result ≡ (is_noted self.old file || nat_lt
             (length self.old.files.items) MOST_FILES) }

@@ -7,10 +7,10 @@ ghost use Rattle.std.specs.Io.KnownBytes.{Keeps};
 use std::io;
 use std::io::{Read, Seek, SeekFrom};
 
-/// The length of a file in bytes, by a seek to its end.
+/// The length of a file in bytes, found by a seek to its end.
 ///
 /// # Errors
-/// Where the seek fails.
+/// If the seek fails.
 pub fn length_of<F: Seek>(file: &mut F) -> io::Result<u64>
     ensures length { (xs : List ℕ) → TellsBytes F.stream_position F.stream_bytes file.old xs
         → IfOk result (λ n. n ≡ length xs) }
@@ -21,10 +21,11 @@ pub fn length_of<F: Seek>(file: &mut F) -> io::Result<u64>
     file.seek(SeekFrom::End(0))
 }
 
-/// Reads what there is of the file from the offset `at` on, as much as fits. The rest of `into` stays.
+/// Reads from the offset `at` of the file on, as much as there is and fits. The rest of `into` is
+/// unchanged.
 ///
 /// # Errors
-/// Where the file gives an error, and where it ends before its length.
+/// If the file gives an error, or if it ends before its length.
 pub fn read_part<F: Read + Seek>(file: &mut F, at: u64, into: &mut [u8]) -> io::Result<usize>
     ensures bound { IfOk result (λ k. k ≤ length into.old) }
     ensures rest { IfOk result (λ k. drop k into.new ≡ drop k into.old) }
@@ -37,8 +38,8 @@ pub fn read_part<F: Read + Seek>(file: &mut F, at: u64, into: &mut [u8]) -> io::
     let there = length_of(file)?.saturating_sub(at);
     let count = into.len().min(there as usize);
     file.seek(SeekFrom::Start(at))?;
-    // The contract of a read says nothing of the buffer after the bytes that it counts, so the read gets no
-    // more than these.
+    // The contract of a read says nothing of the buffer after the bytes that it counts, so the read
+    // gets no more of it than that.
     file.read_exact(&mut into[..count])?;
     Ok(count)
 }

@@ -9,8 +9,8 @@ use crate::writing::write_some;
 use outside::{Failed, Sink};
 use std::io::Write;
 
-/// A sink over a writer of the library, such as standard output. Each write is followed by a flush. It
-/// tells nothing of its bytes: what becomes of them after the writer isn't proved.
+/// A sink over a writer of the library, such as standard output. Each write is followed by a flush.
+/// Its bytes aren't known: what becomes of them after the writer isn't proved.
 #[derive(Drop)]
 pub struct StdSink<W: Write + Drop> {
     writer: W,
@@ -51,13 +51,13 @@ impl<W: Write + Drop> Sink for StdSink<W> {
     /// Writes a prefix of the bytes, and flushes the writer.
     ///
     /// # Errors
-    /// Where the writer fails, and where it takes none of the bytes though there are some.
+    /// If the writer fails, or if it takes none of the bytes though there are some.
     #[tactic(auto, unfolding(outside::specs::Files::sent_and_more))]
     fn write(&mut self, bytes: &[u8]) -> Result<usize, Failed>
         ensures answer { SendAnswer bytes.now (stream_heard self.old)
             (stream_heard self.new) result }
-        // Where the library knows what the writer holds, exactly these bytes came to it, or in a call that
-        // fails a prefix of them.
+        // If the library knows what the writer holds: exactly these bytes were appended to it, or,
+        // by a call that fails, a prefix of them.
         ensures passed { IfOk result (λ k. Appends (W.contents self.old.writer)
             (W.contents self.new.writer) (take k bytes.now)) }
         ensures prefix { OnErr result (GrewByPrefix (W.contents self.old.writer)

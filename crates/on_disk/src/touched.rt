@@ -5,7 +5,7 @@ ghost use Rattle.outside.specs.Files.{with_touch};
 use std::alloc::{AllocError, Global};
 use std::collections::BTreeSet;
 
-/// The names that calls were made to create.
+/// The names that the folder was asked to create.
 #[derive(Drop)]
 pub struct TouchedNames {
     names: BTreeSet<String>,
@@ -32,7 +32,7 @@ impl TouchedNames {
     /// Adds a name.
     ///
     /// # Errors
-    /// Where there is no memory. Then all is as before.
+    /// If memory runs out. Then nothing changes.
     pub fn add(&mut self, alloc: Global, name: &str) -> Result<(), AllocError>
         ensures added { OnOk result (touched_in self.new
             ≡ with_touch (touched_in self.old) name.now true) }

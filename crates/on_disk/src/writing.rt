@@ -6,11 +6,11 @@ use outside::Failed;
 use std::io;
 use std::io::{ErrorKind, Write};
 
-/// Writes a prefix of the bytes, at least one byte if there are any, and tries again where a signal came
-/// first.
+/// Writes a prefix of the bytes, at least one byte if there are any, and tries again if a signal
+/// interrupts it.
 ///
 /// # Errors
-/// Where the writer fails, and where it takes none of the bytes though there are some.
+/// If the writer fails, or if it takes none of the bytes though there are some.
 #[tactic(auto, using(crate::proofs::KnownLemmas::none_appended))]
 pub fn write_some<W: Write>(writer: &mut W, bytes: &[u8]) -> Result<usize, Failed>
     ensures bound { IfOk result (λ k. k ≤ length bytes.now) }
@@ -24,7 +24,7 @@ pub fn write_some<W: Write>(writer: &mut W, bytes: &[u8]) -> Result<usize, Faile
     Ok(count)
 }
 
-// One write, tried again as long as a signal comes first.
+// One write, tried again as long as a signal interrupts it.
 fn write_once<W: Write>(writer: &mut W, bytes: &[u8]) -> io::Result<usize>
     ensures bound { IfOk result (λ k. k ≤ length bytes.now) }
     ensures passed { WriteAppends (W.contents writer.old) (W.contents writer.new) result bytes.now }

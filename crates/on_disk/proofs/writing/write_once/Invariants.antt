@@ -1,4 +1,4 @@
--- A write that a signal cut short leaves the writer as it was.
+-- A write that a signal interrupts leaves the writer as it was.
 use Rattle.std.specs.Io.KnownBytes.{Keeps}
 use Rattle.on_disk.proofs.writing.write_once.Given as goal
 
