@@ -1,6 +1,6 @@
--- Frames that are lost when the head is set apart. In a file without fault these are
--- the frames whose main data begin before the areas of the frames before them, the
--- head's left out; and all others have their main data in the areas without the head's.
+-- Frames that are lost when the head is set apart. In a file without fault these are the frames
+-- whose main data begin before the areas of the frames before them, not counting the head's; all
+-- others have their main data in these areas.
 use Rattle.std.proofs.Common.{ap, ap₂, arith, Bool, cond, false, List, map, None, Option, refl}
 use Rattle.std.proofs.Common.{slice_get, Some, subst, suc, sum_by, sym, take, true, zero, ℕ, []}
 use Rattle.std.proofs.Common.{◌+◌, ◌-◌, ◌<◌, ◌==◌, ◌||◌, ◌∙◌, ◌∷◌, ◌≡◌, ◌≤◌}
@@ -22,7 +22,7 @@ use Rattle.sync_survey.specs.{Survey.{AreWellPlaced, IsWellPlaced}, declared.pla
 
 -- ---- one frame
 
--- its main data begin before the areas, and none end before it
+-- a frame is lost if its main data begin before the areas, and none end before it
 lacks_by : (place ended : ℕ) (r : Row) → ended ≡ 0 → place < r.side.main_data_begin
     → lacks_data place ended r ≡ true
 lacks_by place ended r none far = and_from (ended == 0) (points_too_far place r)
@@ -43,7 +43,7 @@ pub record Stands (place ended : ℕ) (r : Row) : Type 0 where
   pub apart : ended ≤ place - r.side.main_data_begin
   pub within : (place - r.side.main_data_begin) + payload_bytes r.side ≤ place + own_area r.header
 
--- so they do where they are where they may be
+-- main data that are where they may be begin after those before them, and end within the own area
 pub stands_by : (place ended : ℕ) (r : Row) → StandWell place ended r → Stands place ended r
 stands_by place ended r well = record {
   begins = ltb-false place r.side.main_data_begin well.begins;
@@ -51,7 +51,7 @@ stands_by place ended r well = record {
   within = ltb-false (place + own_area r.header) (end_of_data place r) well.within;
 }
 
--- where a frame is marked as lost exactly if it lacks data, main data that stand have no fault
+-- if a frame that doesn't lack data has its main data where they may be, they have no fault
 pub sound-by : (at other : ℕ) (r : Row) (lost : Bool) → lacks_data at other r ≡ lost
     → (lost ≡ false → Stands at other r) → data_faults at other r ≡ []
 sound-by at other r true is stands = rw is refl
@@ -79,13 +79,13 @@ area_more (x ∷ xs) (suc i) r is =
     sum_by-cons area x (take (suc i) xs) ∙ ap (λ m. area x + m) (area_more xs i r is) ∙ apart
     ∙ ap (λ m. m + area r) (sym (sum_by-cons area x (take i xs)))
 
--- the place after a frame is its own area further on
+-- the place after a frame is further on by its own area
 pub area-more : (rows : List Row) (i : ℕ) (r : Row) → slice_get rows i ≡ Some r
     → place None rows (suc i) ≡ place None rows i + own_area r.header
 unfolding place
 area-more rows i r is = omega (arith, area_more rows i r is)
 
--- with the head the place is its area further on
+-- with the head, the place is further on by the head's area
 pub place-apart : (head : Option Head) (rows : List Row) (i : ℕ)
     → place head rows i ≡ head_area head + place None rows i
 unfolding place
@@ -93,9 +93,9 @@ place-apart head rows i = omega arith
 
 -- ---- with the head and without it
 
--- What is so with the head, so many bytes before the first area, and
--- without it. `ended` and `other` are where the main data end before
--- the frame. They end after it no further on, without the head's area.
+-- What holds with the head, `area` bytes before the first area, and without it. `ended` and `other`
+-- are where the main data end before the frame, with it and without it; without the head's area
+-- they end no further on.
 module _ (area at ended other : ℕ) (r : Row) (less : other ≤ ended - area)
     (well : lacks_data (area + at) ended r ≡ false → Stands (area + at) ended r) where
   far_lacks_by : (lost : Bool) → lacks_data (area + at) ended r ≡ lost → at < r.side.main_data_begin
@@ -180,7 +180,7 @@ module _ (head : Option Head) (class : ClassFields) (rows : List Row)
   less_next i (Some r) found less = less_behind area (at i) (data_end_before head rows i)
       (data_end_before None rows i) r less (stands_at i r found)
 
-  -- without the head the main data end no further on, without its area
+  -- without the head, the main data end no further on, not counting its area
   less_at : (i : ℕ) → data_end_before None rows i ≤ data_end_before head rows i - area
   unfolding data_end_before
   less_at zero = omega arith
@@ -196,12 +196,12 @@ module _ (head : Option Head) (class : ClassFields) (rows : List Row)
       far_lacks area (at i) (data_end_before head rows i) (data_end_before None rows i) r
       (less_at i) (stands_at i r found) far
 
-  -- a frame whose main data begin too far back is lost where the head is set apart
+  -- a frame whose main data begin too far back is lost when the head is set apart
   pub apart-lost : (i : ℕ) (r : Row) → slice_get rows i ≡ Some r → points_too_far (at i) r ≡ true
       → is_lost None rows i r ≡ true
   apart-lost i r found far = lost_far i r found (ltb-true (at i) r.side.main_data_begin far)
 
-  -- a frame that is lost is so without the head too
+  -- a frame that is lost is lost without the head too
   or_same : (i : ℕ) (r : Row) → slice_get rows i ≡ Some r → (lost : Bool) → r.lost ≡ lost
       → (lost || is_lost None rows i r) ≡ is_lost None rows i r
   or_same i r found true is =
@@ -252,7 +252,7 @@ placed-apart None class rows placed = placed
 placed-apart (Some head) class rows placed = subst (AreWellPlaced None class)
     (sym (apart_marked (Some head) class rows placed)) (placed_marked (Some head) class rows placed)
 
--- every frame before such a frame is silent or lost in this sense
+-- every frame before a frame that is lost without the head is silent or lost in this sense
 pub apart-leads : (head : Option Head) (class : ClassFields) (rows : List Row)
     → AreWellPlaced head class rows → (i : ℕ) (r : Row) → slice_get rows i ≡ Some r
     → points_too_far (place None rows i) r ≡ true
@@ -295,7 +295,7 @@ near_set : (head : Option Head) (rows : List Row) → apart_rows rows ≡ rows
 near_set None rows is = refl
 near_set (Some head) rows is = is
 
--- where all main data begin within the areas without the head's, all frames stay
+-- if all main data begin within the areas without the head's, all frames are unchanged
 pub near-same : (head : Option Head) (rows : List Row)
     → ((i : ℕ) (r : Row) → slice_get rows i ≡ Some r → r.side.main_data_begin ≤ place None rows i)
     → rows_set_apart head rows ≡ rows

@@ -1,5 +1,5 @@
--- The loops that mark the frames that are lost without
--- a head, and that make lost frames empty ones.
+-- The loops that mark the frames that are lost without a head, and that make lost frames empty
+-- ones.
 use Rattle.std.proofs.Common.{ap, append_assoc, ap₂, arith, Bool, cond, drop, false, get_or, length}
 use Rattle.std.proofs.Common.{List, ltb, map, min, None, refl, slice_get, Some, subst, suc, sym}
 use Rattle.std.proofs.Common.{take, true, zero, ℕ, [], ◌&&◌, ◌++◌, ◌+◌, ◌-◌, ◌<◌, ◌==◌, ◌^◌, ◌||◌}
@@ -33,7 +33,7 @@ module _ (rows now front : List Row) (i : ℕ) (d : Row) (size : length front �
   here-is =
       ap (λ l. get_or l i d) split ∙ at_end front (get_or rows i d) (drop (i + 1) rows) i d size
 
-  -- to write it is to have written one more
+  -- writing it is having written one more
   pub written-one : (y : Row) → set now i y ≡ (front ++ y ∷ []) ++ drop (i + 1) rows
   written-one y =
       ap (λ l. set l i y) split
@@ -42,7 +42,7 @@ module _ (rows now front : List Row) (i : ℕ) (d : Row) (size : length front �
 
 -- ---- lost frames become empty ones
 
--- to empty the frame at i, after those before it, is to have emptied one more
+-- emptying the frame at i, after those before it, is having emptied one more
 pub emptied-step : (rows now : List Row) (i : ℕ) (d : Row) (new : Row) → i < length rows
     → now ≡ map emptied_row (take i rows) ++ drop i rows → new ≡ emptied_row (get_or now i d)
     → set now i new ≡ map emptied_row (take (i + 1) rows) ++ drop (i + 1) rows
@@ -58,7 +58,7 @@ emptied-step rows now i d new within is one =
 -- ---- frames that are lost without a head are marked
 
 module _ (rows : List Row) where
-  -- these frames, which are those from a number on, marked
+  -- these frames, numbered from n on, marked
   abbrev pub apart_from : ℕ → List Row → List Row
   apart_from n xs = map (λ (p : ℕ × Row). apart_row rows p.0 p.1) (enumerate_from n xs)
 
@@ -83,7 +83,7 @@ module _ (rows : List Row) where
       ap (λ l. apart_row rows n x ∷ l) (apart_split (n + 1) i xs
       ∙ ap (λ m. apart_from (n + 1) (take i xs) ++ apart_from m (drop i xs)) (omega arith))
 
-  -- ---- from a frame on that has main data and isn't lost
+  -- ---- from the first frame that has main data and isn't lost
 
   ended_before : (i j : ℕ) → i ≤ j → data_end_before None rows j ≡ 0
       → data_end_before None rows i ≡ 0
@@ -135,8 +135,8 @@ module _ (rows : List Row) where
           let most : sum ≡ 2 ^ 64 - 1 = is ∙ min-eq_right (omega (arith, more)) in
           absurd (omega (arith, most, lt))
 
-  -- The frames before frame i are marked, and each of them is silent or
-  -- lost; this is the sum of their areas, if no main_data_begin is greater.
+  -- The frames before frame i are marked, and each of them is silent or lost; `areas` is the sum of
+  -- their areas, if no main_data_begin is greater.
   pub record AreMarkedTo (now : List Row) (areas i : ℕ) : Type 0 where
     pub rows_are : now ≡ apart_from 0 (take i rows) ++ drop i rows
     pub none : data_end_before None rows i ≡ 0
@@ -215,7 +215,7 @@ module _ (rows : List Row) where
         ≡ (is_silent here || points_too_far (place None rows i) here)
     empty_same = ap₂ (λ (q : Row) b. is_silent q || b) here_same far_same
 
-    -- it is silent or lost, and the next one is
+    -- the frame is silent or lost, and the next one may be lost
     pub marked-next : (sum : ℕ)
         → (is_silent (get_or now i d) || points_too_far areas (get_or now i d)) ≡ true
         → sum ≡ min (areas + own_area (get_or now i d).header) (2 ^ 64 - 1)
@@ -244,7 +244,7 @@ module _ (rows : List Row) where
     loud_end false false is kept = loud-end (place None rows i) here is
     loud_end _ _ is kept = absurd cc
 
-    -- it has main data that aren't lost, and no later one is lost
+    -- the frame has main data and isn't lost, so no later one is lost
     pub marked-last : (is_silent (get_or now i d) || points_too_far areas (get_or now i d)) ≡ false
         → set now i new ≡ apart_rows rows
     marked-last kept =

@@ -83,7 +83,7 @@ module _ (said : ℕ) (class : ClassFields) (allowed place ended count : ℕ) (r
       (one_of_bytes (has_wrong_crc said r) _ tt)) (data_of_bytes place ended r))
       (one_of_bytes (count == allowed) _ tt)
 
-  -- so does the first fault of a frame
+  -- the first fault of a frame refuses the file, with the right numbers
   pub frame_rightly : (fault : SurveyFault)
       → first_of (faults_at said class allowed place ended count r) ≡ Some fault
       → RefusesRightly fault
@@ -172,7 +172,7 @@ survey_cases file allowed (Ok start) fault is e =
     first_of_bytes (faults_from file allowed start) fault (file_of_bytes file allowed start)
     (fault_is (first_of (faults_from file allowed start)) (fields_from file start) fault e)
 
--- what a survey of bytes refuses is a fault of them
+-- a fault with which a survey of bytes refuses them is a fault of bytes
 pub surveyed_of_bytes : (file : List ℕ) (allowed : ℕ) (fault : SurveyFault)
     → survey_fields file allowed ≡ Err fault → IsOfBytes fault
 unfolding survey_fields

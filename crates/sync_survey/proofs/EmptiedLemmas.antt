@@ -1,5 +1,5 @@
--- With its lost frames as frames without main data, a survey is laid out as
--- that of a file without fault; and so it is where the head was set apart.
+-- With its lost frames as frames without main data, a survey is laid out like that of a file
+-- without fault; so is one whose head was set apart.
 use Rattle.std.proofs.Common.{ap, ap₂, arith, Bool, cond, false, length, List, map, None, Option}
 use Rattle.std.proofs.Common.{option_map, refl, slice_get, Some, subst, suc, sum_by, sym, take}
 use Rattle.std.proofs.Common.{true, zero, ℕ, [], ◌+◌, ◌==◌, ◌||◌, ◌∙◌, ◌∷◌, ◌≡◌, ◌≤◌}
@@ -34,7 +34,7 @@ header_by false r = refl
 pub emptied_true : (r : Row) → r.lost ≡ true → emptied_row r ≡ empty_row r
 emptied_true r is = ap (λ b. cond b (empty_row r) r) is
 
--- any other stays
+-- any other frame is unchanged
 pub emptied_false : (r : Row) → r.lost ≡ false → emptied_row r ≡ r
 emptied_false r is = ap (λ b. cond b (empty_row r) r) is
 
@@ -43,15 +43,15 @@ pub no_bits : payload_bits no_side ≡ 0
 unfolding payload_bits
 no_bits = refl
 
--- and so it has no bytes
+-- the empty side information has no bytes of main data
 pub no_bytes : payload_bytes no_side ≡ 0
 unfolding payload_bytes payload_bits
 no_bytes = refl
 
 -- A frame among frames that may be lost. Its header is of the standard and of the class, and its
--- side fields are within their bits. The main data that are kept before it end before its own
--- area; those of a frame that isn't lost begin after them and end within that area, and where
--- those kept then end is no further on than `behind`.
+-- side fields are within their bits. The main data that are kept before it end before its own area.
+-- If it isn't lost, its main data begin after them and end within that area. The main data that are
+-- kept after it end no further on than `behind`.
 pub record IsKept (class : ClassFields) (place ended behind : ℕ) (r : Row) : Type 0 where
   pub known : IsHeader r.header
   pub class_is : class_of r.header ≡ class
@@ -60,8 +60,8 @@ pub record IsKept (class : ClassFields) (place ended behind : ℕ) (r : Row) : T
   pub stands : r.lost ≡ false → Stands place ended r
   pub goes : cond (r.lost || is_silent r) ended (end_of_data place r) ≤ behind
 
--- What is so of it as an empty frame if it is lost, where the
--- main data before it end no further on than those that were kept.
+-- What holds for it as an empty frame if it is lost, if the main data before it end no further on
+-- than those that were kept.
 module _ (class : ClassFields) (at ended behind other : ℕ) (r : Row)
     (kept : IsKept class at ended behind r) (less : other ≤ ended) where
   stands_emptied_by : (lost : Bool) → r.lost ≡ lost → Stands at other (emptied_row r)
@@ -104,7 +104,7 @@ module _ (class : ClassFields) (at ended behind other : ℕ) (r : Row)
   goes = subst (λ b. cond (is_silent (emptied_row r) || b) other (end_of_data at (emptied_row r))
       ≤ behind) (sym none_lost) (goes_by (is_silent r) r.lost refl refl kept.goes)
 
--- the side information of a frame still fits, whether or not it was emptied
+-- the side information of a frame still fits, whether or not the frame was emptied
 pub fits_by : (class : ClassFields) (r : Row) (lost : Bool) → r.lost ≡ lost → SideFits class r.side
     → SideFits class (emptied_row r).side
 fits_by class r true is fits =
@@ -143,7 +143,7 @@ earlier [] i r found = absurd cc
 earlier (x ∷ rows) zero r found = (x, refl)
 earlier (x ∷ rows) (suc i) r found = earlier rows i r found
 
--- Frames of which each is kept, by where the main data that are kept before it end.
+-- Frames each of which is kept, given where the main data that are kept before it end.
 module _ (head : Option Head) (class : ClassFields) (rows : List Row) (ended : ℕ → ℕ)
     (kept : (i : ℕ) (r : Row) → slice_get rows i ≡ Some r
     → IsKept class (place head rows i) (ended i) (ended (suc i)) r) where
@@ -204,7 +204,8 @@ module _ (head : Option Head) (class : ClassFields) (rows : List Row)
       (data-none_well (at i) (ended i) r (placed i r found).sound
       (sym (placed i r found).mark ∙ kept))
 
-  -- where the main data end after it, with so many bytes before the first area and without them
+  -- where the main data end after the frame, with `more` bytes before the first area and without
+  -- them
   ends_by : (at ended : ℕ) (r : Row) (silent lost : Bool) → ended ≤ at
       → (lost ≡ false → Stands at ended r)
       → (cond (lost || silent) (more + ended) (end_of_data (more + at) r)
@@ -252,7 +253,7 @@ module _ (head : Option Head) (class : ClassFields) (rows : List Row)
         goes = (ends_at i r found before).0;
       }
 
-  -- with lost frames as empty ones they are well placed with a head too
+  -- with lost frames as empty ones, the frames are well placed with a head too
   pub placed-emptied : AreWellPlaced head class (map emptied_row rows)
   placed-emptied = placed-kept head class rows (λ i. more + ended i) (λ i r found.
       subst (λ n. IsKept class n (more + ended i) (more + ended (suc i)) r)
@@ -267,7 +268,7 @@ laid_one : (from to : ℕ) (r : Row) (rows : List Row) (b : Bool) → from ≤ r
 laid_one from to r rows true low fits rest = (low, SideFits-no_side (class_of r.header), rest)
 laid_one from to r rows false low fits rest = (low, fits, rest)
 
--- so does where the frames are
+-- emptying lost frames leaves frames laid out
 pub laid_emptied : (from to : ℕ) (rows : List Row) → FramesAreLaid from rows to
     → FramesAreLaid from (map emptied_row rows) to
 laid_emptied from to [] laid = laid
@@ -290,7 +291,7 @@ unfolding apart_rows
 laid_apart None from to rows laid = laid
 laid_apart (Some head) from to rows laid = laid_from rows 0 from to rows laid
 
--- frames that are set apart are as many
+-- setting the head apart leaves the number of frames
 pub length_apart : (head : Option Head) (rows : List Row)
     → length (rows_set_apart head rows) ≡ length rows
 unfolding apart_rows
@@ -299,7 +300,7 @@ length_apart (Some head) rows =
     length-map (enumerate_from 0 rows) (λ (p : ℕ × Row). apart_row rows p.0 p.1)
     ∙ length-enumerate_from 0 rows
 
--- with the head set apart and lost frames emptied a survey is still laid out
+-- with the head set apart and lost frames emptied, a survey is still laid out
 pub apart-laid : (s : SurveyFields) → IsSurveyLaidOut s
     → IsSurveyLaidOut (emptied_survey (head_apart s))
 apart-laid s laid = record {

@@ -1,4 +1,4 @@
--- The first of several faults, and the faults of a frame in their order.
+-- The first of several faults, and the faults of a frame in order.
 use Rattle.std.proofs.Common.{ap, ap₂, arith, drop, false, flat_map, get_or, inl, inr, length}
 use Rattle.std.proofs.Common.{length-append, List, map, None, Option, refl, slice_get, slice_set}
 use Rattle.std.proofs.Common.{Some, subst, suc, sum_by, sym, true, zero, ℕ, [], ◌++◌, ◌+◌, ◌<◌, ◌∙◌}
@@ -18,7 +18,7 @@ use Rattle.sync_survey.specs.declared.survey_fault.SurveyFault.{SurveyFault, The
 
 -- ---- lists of faults
 
--- the first fault of two lists is that of the one or, if it has none, of the other
+-- the first fault of two lists is the first of one or, if it has none, of the other
 pub first-append : (xs ys : List SurveyFault)
     → first_of (xs ++ ys) ≡ option_or (first_of xs) (first_of ys)
 first-append [] ys = refl
@@ -29,7 +29,7 @@ pub none-of : (xs : List SurveyFault) → first_of xs ≡ None → xs ≡ []
 none-of [] e = refl
 none-of (x ∷ xs) e = absurd cc
 
--- more faults after it don't change the first
+-- more faults after it don't change the first fault
 pub some-append : (xs ys : List SurveyFault) (fault : SurveyFault) → first_of xs ≡ Some fault
     → first_of (xs ++ ys) ≡ Some fault
 some-append [] ys fault e = absurd cc
@@ -44,7 +44,7 @@ module _ (said : ℕ) (class : ClassFields) (allowed place ended count : ℕ) (r
   unfolding faults_at
   first-mixed differ = rw differ refl
 
-  -- of a frame of the class it is the first of all later ones
+  -- for a frame of the class, the first of the later faults is the first of all
   pub first-same : same_class (class_of r.header) class ≡ true
       → first_of (later_faults said allowed place ended count r)
       ≡ first_of (faults_at said class allowed place ended count r)
@@ -61,24 +61,24 @@ module _ (said allowed place ended count : ℕ) (r : Row) where
       ∙ sym (first-append (crc_faults said r ++ data_faults place ended r)
       (count_faults count allowed r))
 
-  -- the fault of the check word is the first
+  -- the fault of the check word comes first
   pub first-word : (fault : SurveyFault) → first_of (crc_faults said r) ≡ Some fault
       → first_of (later_faults said allowed place ended count r) ≡ Some fault
   first-word fault is = sym by_parts ∙ rw is refl
 
-  -- without one it is that of the main data
+  -- without that, the fault of the main data comes first
   pub first-data : (fault : SurveyFault) → first_of (crc_faults said r) ≡ None
       → first_of (data_faults place ended r) ≡ Some fault
       → first_of (later_faults said allowed place ended count r) ≡ Some fault
   first-data fault none is = sym by_parts ∙ rw (none, is) refl
 
-  -- without these it is that of the number of frames, if any
+  -- without these, the fault of the number of frames comes first, if any
   pub first-count : first_of (crc_faults said r) ≡ None → first_of (data_faults place ended r)
       ≡ None → first_of (later_faults said allowed place ended count r)
       ≡ first_of (count_faults count allowed r)
   first-count none sound = sym by_parts ∙ rw (none, sound) refl
 
--- ---- one frame more after these
+-- ---- one more frame after these
 
 -- more frames after them don't change those that are there
 pub get_more : (rows more : List Row) (i : ℕ) → i < length rows
@@ -87,12 +87,12 @@ get_more [] more i lt = absurd (omega (arith, lt))
 get_more (r ∷ rows) more zero lt = refl
 get_more (r ∷ rows) more (suc i) lt = get_more rows more i (omega (arith, lt))
 
--- the frame that was added is behind all others
+-- the frame that was added is after all others
 pub get_next : (rows : List Row) (r : Row) → slice_get (rows ++ r ∷ []) (length rows) ≡ Some r
 get_next [] r = refl
 get_next (q ∷ rows) r = get_next rows r
 
--- what holds of each of these, and of one more
+-- what holds for each of these and for one more holds for all
 pub each_push : (P : ℕ → Row → Type 0) (rows : List Row) (r : Row)
     → ((i : ℕ) (q : Row) → i < length rows → slice_get rows i ≡ Some q → P i q) → P (length rows) r
     → (i : ℕ) (q : Row) → slice_get (rows ++ r ∷ []) i ≡ Some q → P i q
@@ -109,12 +109,12 @@ each_push P rows r each last i q found =
           subst (P i) same (subst (λ n. P n r) (sym at) last)
     ]
 
--- so it is what is read at their count
+-- the frame that was added is what is read at the number of the others
 pub get_last : (rows : List Row) (r other : Row) → get_or (rows ++ r ∷ []) (length rows) other ≡ r
 get_last [] r other = refl
 get_last (q ∷ rows) r other = get_last rows r other
 
--- and what is set there takes its place
+-- what is set there replaces it
 pub set_last : (rows : List Row) (r q : Row)
     → slice_set (rows ++ r ∷ []) (length rows) q ≡ rows ++ q ∷ []
 set_last [] r q = refl
@@ -128,7 +128,7 @@ module _ (head : Option Head) (rows : List Row) where
   place-more more i within = ap (λ l. head_area head + sum_by (λ (r : Row). own_area r.header) l)
       (take-append-le i rows more within)
 
-  -- the place after one more frame is its own area further on
+  -- the place after one more frame is further on by its own area
   pub place-next : (r : Row) → place head (rows ++ r ∷ []) (length (rows ++ r ∷ []))
       ≡ place head rows (length rows) + own_area r.header
   unfolding place
@@ -141,8 +141,8 @@ module _ (head : Option Head) (rows : List Row) where
         sum_by_push area rows r,
       )
 
--- where main data end before frame i, by a rule from where the area
--- of each frame begins, where the data before it end, and the frame
+-- where main data end before frame i, by a rule that is given where the area of each frame begins,
+-- where the data before it end, and the frame
 pub record IsRuled (head : Option Head) (rule : ℕ → ℕ → Option Row → ℕ)
     (end : List Row → ℕ → ℕ) : Type 0 where
   pub more : (rows more : List Row) (i : ℕ) → i ≤ length rows → end (rows ++ more) i ≡ end rows i
@@ -178,7 +178,7 @@ module _ (head : Option Head) (rule : ℕ → ℕ → Option Row → ℕ) (end :
       (ruled-more rows (r ∷ []) n (omega arith))
       ∙ ap (rule (place head rows n) (end rows n)) (get_next rows r)
 
-  -- by such a rule the end before a frame is that of the frames before it
+  -- by such a rule, the end before a frame depends only on the frames before it
   pub ruled : IsRuled head rule end
   ruled = record { more = ruled-more; next = ruled-next }
 
@@ -190,7 +190,7 @@ module _ (head : Option Head) (rows : List Row) where
   end-more =
       (ruled head data_end_after (data_end_before head) (λ rows. refl) (λ rows i. refl)).more rows
 
-  -- one frame more moves the end as its own main data do
+  -- one more frame moves the end as its own main data do
   pub end-next : (r : Row) → data_end_before head (rows ++ r ∷ []) (length (rows ++ r ∷ []))
       ≡ data_end_after (place head rows (length rows)) (data_end_before head rows (length rows))
       (Some r)
@@ -198,9 +198,9 @@ module _ (head : Option Head) (rows : List Row) where
   end-next =
       (ruled head data_end_after (data_end_before head) (λ rows. refl) (λ rows i. refl)).next rows
 
--- ---- all frames in turn
+-- ---- all frames, in order
 
--- two lists are numbered one after the other
+-- two joined lists are numbered on from the first to the second
 pub enumerate-append : {X : Type 0} (n : ℕ) (xs ys : List X)
     → enumerate_from n (xs ++ ys) ≡ enumerate_from n xs ++ enumerate_from (n + length xs) ys
 enumerate-append n [] ys = ap (λ m. enumerate_from m ys) (omega arith)
@@ -208,12 +208,12 @@ enumerate-append n (x ∷ xs) ys =
     ap (λ l. (n, x) ∷ l) (enumerate-append (n + 1) xs ys
     ∙ ap (λ m. enumerate_from (n + 1) xs ++ enumerate_from m ys) (omega arith))
 
--- numbered, they are as many as before
+-- numbering a list keeps its length
 pub enumerate-length : {X : Type 0} (n : ℕ) (xs : List X) → length (enumerate_from n xs) ≡ length xs
 enumerate-length n [] = refl
 enumerate-length n (x ∷ xs) = ap suc (enumerate-length (n + 1) xs)
 
--- what is made of each is the same, where it is for each number
+-- two maps that agree for each number are the same
 pub map-numbers : {X A : Type 0} (f g : ℕ → X → A) (n : ℕ) (xs : List X)
     → ((i : ℕ) (x : X) → i < n + length xs → f i x ≡ g i x)
     → map (λ (p : ℕ × X). f p.0 p.1) (enumerate_from n xs)
@@ -222,7 +222,7 @@ map-numbers f g n [] same = refl
 map-numbers f g n (x ∷ xs) same = ap₂ (λ a b. a ∷ b) (same n x (omega arith))
     (map-numbers f g (n + 1) xs (λ i y lt. same i y (omega (arith, lt))))
 
--- the same where each makes a list
+-- two maps to lists that agree for each number are the same
 pub flat_map-numbers : {X A : Type 0} (f g : ℕ → X → List A) (n : ℕ) (xs : List X)
     → ((i : ℕ) (x : X) → i < n + length xs → f i x ≡ g i x)
     → flat_map (λ (p : ℕ × X). f p.0 p.1) (enumerate_from n xs)
@@ -243,7 +243,7 @@ module _ (file : List ℕ) (head : Option Head) (class : ClassFields) (allowed :
       ap₂ (λ m n. faults_at (stored_crc (drop r.offset file)) class allowed m n i r)
       (place-more head rows more i within) (end-more head rows more i within)
 
-  -- these frames have the same faults, and then come those after
+  -- the faults of these frames are unchanged, and those of the frames after them follow
   pub faults-more : (rows more : List Row) → all_faults file head class allowed (rows ++ more)
       ≡ all_faults file head class allowed rows ++ flat_map
       (λ (p : ℕ × Row). faults_of (rows ++ more) p.0 p.1) (enumerate_from (length rows) more)
@@ -259,7 +259,7 @@ module _ (file : List ℕ) (head : Option Head) (class : ClassFields) (allowed :
       (λ i r lt. frame-more rows more i r (omega (arith, lt))))
 
   module _ (rows : List Row) (r : Row) (none : all_faults file head class allowed rows ≡ []) where
-    -- the next frame has no fault
+    -- if the next frame has no fault, all have none
     pub none_more : first_of (faults_of rows (length rows) r) ≡ None
         → all_faults file head class allowed (rows ++ r ∷ []) ≡ []
     none_more sound =
@@ -267,7 +267,7 @@ module _ (file : List ℕ) (head : Option Head) (class : ClassFields) (allowed :
         ∙ ap₂ (λ (xs ys : List SurveyFault). xs ++ (ys ++ [])) none (frame-more rows (r ∷ [])
         (length rows) r (omega arith) ∙ none-of (faults_of rows (length rows) r) sound)
 
-    -- or the first of its faults is the first of all
+    -- if the next frame has one, its first fault is the first of all
     pub first_more : (later : List Row) (fault : SurveyFault)
         → first_of (faults_of rows (length rows) r) ≡ Some fault
         → first_of (all_faults file head class allowed (rows ++ r ∷ later)) ≡ Some fault
@@ -295,7 +295,7 @@ module _ (head : Option Head) where
       length-map (enumerate_from 0 rows) (λ (p : ℕ × Row). marked_row head rows p.0 p.1)
       ∙ enumerate-length 0 rows
 
-  -- of no frames none is marked
+  -- if there are no frames, none is marked
   pub marked-none : marked_rows head [] ≡ []
   unfolding marked_rows
   marked-none = refl
@@ -310,7 +310,7 @@ module _ (head : Option Head) where
   marked_row-more rows more i r within =
       ap (λ b. record r { lost = b }) (lost-more rows more i r within)
 
-  -- one frame more doesn't change the marks of those before it
+  -- one more frame doesn't change the marks of those before it
   pub marked-push : (rows : List Row) (r : Row) → marked_rows head (rows ++ r ∷ [])
       ≡ marked_rows head rows ++ marked_row head rows (length rows) r ∷ []
   unfolding marked_rows

@@ -1,4 +1,4 @@
--- The faults of a file are listed by their offsets, so that the first of them has the smallest.
+-- The faults of a file are listed in order of offset, so the first of them has the smallest.
 use Rattle.std.proofs.Common.{ap, append_assoc, arith, Bool, cond, drop, Err, false, flat_map}
 use Rattle.std.proofs.Common.{IfErr, inl, inr, length, List, ltb, None, not, Ok, Option}
 use Rattle.std.proofs.Common.{option_to_list, refl, Result, Some, subst, sym, true, ℕ, ⊎_elim, []}
@@ -100,9 +100,9 @@ frame_at said class allowed place ended count r =
     (one_at r.offset (has_wrong_crc said r) word refl)) (data_at place ended r))
     (one_at r.offset (count == allowed) (TooManyFrames r.offset) refl)
 
--- ---- the faults of frames that follow one after the other
+-- ---- the faults of frames that follow each other
 
--- the offsets of these frames rise, from one on to another
+-- the offsets of these frames rise, from `at` to `to`
 abbrev AreRising : ℕ → List Row → ℕ → Type 0
 AreRising at [] to = at ≤ to
 AreRising at (r ∷ rows) to = (at ≤ r.offset) × AreRising r.offset rows to
@@ -111,7 +111,7 @@ rising_ends : (at : ℕ) (rows : List Row) (to : ℕ) → AreRising at rows to �
 rising_ends at [] to rise = rise
 rising_ends at (r ∷ rows) to rise = omega (arith, rise.0, rising_ends r.offset rows to rise.1)
 
--- each frame of these has faults at its offset alone
+-- each frame has faults only at its own offset
 abbrev AreOfEach : (ℕ → Row → List SurveyFault) → Type 0
 AreOfEach each = (i : ℕ) (r : Row) → AreAt r.offset (each i r)
 
@@ -140,7 +140,7 @@ first_at at (x ∷ xs) ys fault all is later =
           (none-append at (x ∷ xs) ys (at_none at (x ∷ xs) all) later),
     )
 
--- the first of the faults of frames and of what comes after them
+-- the first of the faults of frames and of what comes after them has the smallest offset
 least_first : (each : ℕ → Row → List SurveyFault) (own : AreOfEach each) (at to n : ℕ)
     (rows : List Row) (later : List SurveyFault) (fault : SurveyFault) → AreRising at rows to
     → NoneBefore to later
@@ -176,7 +176,7 @@ all_least file head class allowed at to rows later fault rise behind last is =
     (λ i r. frame_at (stored_crc (drop r.offset file)) class allowed (place head rows i)
     (data_end_before head rows i) i r) at to 0 rows later fault rise behind last is
 
--- ---- the frames of a walk follow one after the other
+-- ---- the frames of a walk follow each other
 
 rising_more : (file : List ℕ) (at : ℕ) (item : Item) (rows : List PlacedFrame) (to : ℕ)
     → AreRising at (rows_of file rows) to

@@ -1,4 +1,4 @@
--- The refusals of a survey of a file of a folder.
+-- The refusals of a survey of a file in a folder.
 use Rattle.std.proofs.Common.{ap, arith, Bool, cond, drop, Err, false, IfErr, IfOk, leb, length}
 use Rattle.std.proofs.Common.{length-drop, List, ltb, min, Ok, refl, Result, subst, sym, take, true}
 use Rattle.std.proofs.Common.{ℕ, ◌-◌, ◌<◌, ◌∙◌, ◌≡◌, ◌≤◌}
@@ -28,7 +28,7 @@ too_long file allowed size is long =
     ap (λ b. cond b (Err (TooLong (length file))) (survey_fields file allowed)) more
     ∙ ap (λ n. Err (TooLong n)) (sym is)
 
--- the survey of a file that isn't too long is that of its bytes
+-- the survey of a file that isn't too long is the survey of its bytes
 pub survey_of-short : (file : List ℕ) (allowed : ℕ) → length file ≤ longest_file
     → survey_of file allowed ≡ survey_fields file allowed
 unfolding survey_of
@@ -68,12 +68,12 @@ pub record HasRead (feed : Fed) (name : List ℕ) (before after : Files)
   pub files : after ≡ before
   pub counts : new ≡ old
 
--- where nothing was read yet, files and counts are what they were
+-- if nothing was read yet, files and counts are what they were
 pub none_read : {feed : Fed} {name : List ℕ} {files : Files} {counts : Counts}
     → IsFedFrom feed files name → HasRead feed name files files counts counts
 none_read fed = record { fed = fed; files = refl; counts = refl }
 
--- one more read that succeeded leaves files and feed so
+-- one more read that succeeded leaves files and counts as they were, too
 pub read_more : {T : Type 0} {x : T} {feed next : Fed} {name : List ℕ} {files mid now : Files}
     {old between new : Counts} → HasRead feed name files mid old between
     → ReadsBy next name (Ok x) (seen_folder mid between) (seen_folder now new)
@@ -91,7 +91,7 @@ pub still_held : {feed : Fed} {name : List ℕ} {files now : Files} {old new : C
 still_held {name = name} before bytes holds =
     subst (λ f. Holds f name bytes) (sym before.files) holds
 
--- a refusal is one of all these calls
+-- a refusal after calls that changed nothing is a refusal by all of them
 pub refusal_later : {name : List ℕ} {files mid : Files} {allowed : ℕ}
     {before between after : Counts} {fault : SurveyFault} → mid ≡ files → between ≡ before
     → IsSurveyRefusal name mid allowed between after fault
@@ -101,7 +101,7 @@ refusal_later {name = name} {mid = mid} {allowed = allowed} {before = before} {a
     subst (λ f. IsSurveyRefusal name f allowed before after fault) same_files
     (subst (λ n. IsSurveyRefusal name mid allowed n after fault) same_counts is)
 
--- a refusal after reads that succeeded is one of all calls together
+-- a refusal after reads that succeeded is a refusal by all calls together
 pub refusal_after : {feed : Fed} {name : List ℕ} {files mid : Files} {allowed : ℕ}
     {before between after : Counts} {fault : SurveyFault}
     → HasRead feed name files mid before between
@@ -109,12 +109,12 @@ pub refusal_after : {feed : Fed} {name : List ℕ} {files mid : Files} {allowed 
     → IsSurveyRefusal name files allowed before after fault
 refusal_after read is = refusal_later read.files read.counts is
 
--- where no count changed, only reads were counted
+-- if no count changed, only reads were counted
 pub only_reads_equal : {before after : Counts} → after ≡ before → OnlyReads before after
 only_reads_equal {before = before} same =
     subst (OnlyReads before) (sym same) (only_reads_same before)
 
--- the stream doesn't begin
+-- a file whose stream doesn't begin has the fault of its start
 pub surveyed_by : (file : List ℕ) (allowed : ℕ) (fault : SurveyFault) → start_of file ≡ Err fault
     → survey_fields file allowed ≡ Err fault
 unfolding survey_fields
@@ -147,7 +147,7 @@ module _ (name : List ℕ) (files : Files) (allowed : ℕ) (before after : Count
     numbers = cause.2;
   }
 
-  -- want of memory may refuse any file
+  -- any file may be refused when out of memory
   pub memory_refusal : (size : ℕ) → HasLength files name size → after ≡ before
       → IsSurveyRefusal name files allowed before after Memory
   memory_refusal size known same = record {
@@ -180,7 +180,7 @@ module _ (name : List ℕ) (files : Files) (allowed : ℕ) (before after : Count
         counts = same;
       })
 
-  -- so does a fault before its first frame
+  -- a fault before the first frame refuses the file
   pub start_refusal : (size : ℕ) (fault : SurveyFault) → HasLength files name size → after ≡ before
       → RefusesRightly fault
       → ((bytes : List ℕ) → Holds files name bytes → start_of bytes ≡ Err fault)
@@ -189,14 +189,14 @@ module _ (name : List ℕ) (files : Files) (allowed : ℕ) (before after : Count
       bytes_refusal size fault known same rightly
       (λ bytes holds. surveyed_by bytes allowed fault (none bytes holds))
 
--- the start, or why there is none
+-- a result that is a start is the start of the file
 pub start_ok : (r : Result Start SurveyFault) (files : Files) (name : List ℕ)
     → ((bytes : List ℕ) → Holds files name bytes → start_of bytes ≡ r)
     → IfOk r (λ s. (bytes : List ℕ) → Holds files name bytes → start_of bytes ≡ Ok s)
 start_ok (Ok s) files name is = is
 start_ok (Err fault) files name is = tt
 
--- an answer that is an error is such a refusal
+-- a result that is an error is such a refusal
 pub start_err : (r : Result Start SurveyFault) (name : List ℕ) (files : Files)
     (before after : Counts) (size : ℕ) → HasLength files name size → after ≡ before
     → IfErr r RefusesRightly → ((bytes : List ℕ) → Holds files name bytes → start_of bytes ≡ r)

@@ -1,4 +1,4 @@
--- The front of a file, one item after the other.
+-- The front of a file, item by item.
 use Rattle.std.proofs.Common.{ap, append-nil, append_assoc, arith, length, List, None}
 use Rattle.std.proofs.Common.{option_to_list, refl, subst, sym, ℕ, [], ◌++◌, ◌+◌, ◌∙◌, ◌∷◌, ◌≡◌}
 use Rattle.std.proofs.Common.{◌≤◌}
@@ -21,7 +21,7 @@ unfolding front_end_of
 passed_none file blocks none =
     record { pieces = ap (λ l. l ++ blocks_of (item_run Front file 0).items) none; stop = refl }
 
--- to pass an item of the front adds it, if it is a block
+-- passing an item of the front adds it, if it is a block
 pub passed_more : (file : List ℕ) (blocks later : List Piece) (at size : ℕ) (item : Item)
     → IsPassedTo file blocks at → Passes Front file at item size
     → later ≡ blocks ++ option_to_list (block_of_item at item) → IsPassedTo file later (at + size)
@@ -32,12 +32,12 @@ passed_more file blocks later at size item so_far passes kept = record {
   stop = sym passes.stop ∙ so_far.stop;
 }
 
--- the blocks are those of the front, which ends here
+-- the blocks are the blocks of the front, which ends here
 pub record IsFrontPassed (file : List ℕ) (blocks : List Piece) (at : ℕ) : Type 0 where
   pub pieces : blocks ≡ blocks_of (item_run Front file 0).items
   pub end : at ≡ front_end_of file
 
--- where no further item of the front begins, the front was passed
+-- if no further item of the front begins, the front was passed
 pub passed_all : (file : List ℕ) (blocks : List Piece) (at : ℕ) → IsPassedTo file blocks at
     → whole_item_at Front file at ≡ None → IsFrontPassed file blocks at
 passed_all file blocks at so_far none =
@@ -48,13 +48,13 @@ passed_all file blocks at so_far none =
       end = sym (ap (λ r. r.stop) stopped) ∙ so_far.stop;
     }
 
--- at the end of the file it was passed too
+-- at the end of the file, the front was passed
 pub passed_end : (file : List ℕ) (blocks : List Piece) (at size : ℕ) → size ≡ length file
     → size ≤ at → IsPassedTo file blocks at → IsFrontPassed file blocks at
 passed_end file blocks at size is past so_far =
     passed_all file blocks at so_far (item_of-past Front file at (omega (arith, is, past)))
 
--- ---- blocks one after the other
+-- ---- blocks that follow each other
 
 laid_push : (from : ℕ) (blocks : List Piece) (to later : ℕ) (b : Piece)
     → BlocksAreLaid from blocks to → to ≤ b.offset → b.offset + b.block.length ≤ later
@@ -82,13 +82,13 @@ laid_by blocks at size (Block b) laid least = laid_push 0 blocks at (at + size)
     (record { offset = at; block = b }) laid (omega arith) (omega (arith, least))
 laid_by blocks at size _ laid least = laid_none 0 blocks at (at + size) laid (omega arith)
 
--- one block more is behind those before it
+-- one more block follows those before it
 pub blocks_more : (blocks later : List Piece) (at size : ℕ) (item : Item)
     → BlocksAreLaid 0 blocks at → size_of item ≤ size
     → later ≡ blocks ++ option_to_list (block_of_item at item) → BlocksAreLaid 0 later (at + size)
 blocks_more blocks later at size item laid least kept =
     subst (λ l. BlocksAreLaid 0 l (at + size)) (sym kept) (laid_by blocks at size item laid least)
 
--- no blocks are in place
+-- no blocks are laid out
 pub blocks_none : (blocks : List Piece) → blocks ≡ [] → BlocksAreLaid 0 blocks 0
 blocks_none blocks none = subst (λ l. BlocksAreLaid 0 l 0) (sym none) (omega arith)

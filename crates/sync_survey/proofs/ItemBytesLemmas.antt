@@ -23,7 +23,7 @@ use Rattle.tag_blocks.specs.declared.block.Kind.TheVariants.{Ape, Id3v1, Id3v2}
 
 -- ---- a block
 
--- by how many of its first bytes a block of this kind is known
+-- how many of its first bytes decide that a block is of this kind
 abbrev pub known_by : Kind → ℕ
 known_by Id3v2 = 10
 known_by Id3v1 = 3
@@ -58,13 +58,13 @@ length_as-take Id3v2 n bytes within =
 length_as-take Id3v1 n bytes within = refl
 length_as-take Ape n bytes within = rw (part_take 12 4 n bytes (omega arith)) refl
 
--- a kind of item is known by as many first bytes as it takes
+-- the first bytes that decide whether there is a block of a kind are enough
 pub front_as-take : (kind : Kind) (n : ℕ) (bytes : List ℕ) → known_by kind ≤ n
     → block_of_kind kind (take n bytes) ≡ block_of_kind kind bytes
 front_as-take kind n bytes within =
     rw (begins-take kind n bytes within, length_as-take kind n bytes within) refl
 
--- these bytes are within the block
+-- the bytes that decide the kind are within the block
 known_within : (kind : Kind) (bytes : List ℕ) → known_by kind ≤ length_of_kind kind bytes
 unfolding id3v2_length ape_length
 known_within Id3v2 bytes = omega arith
@@ -96,8 +96,8 @@ header_front-four xs ys same =
 
 -- ---- an item
 
--- These bytes are an item: they are as many as it has,
--- and whatever bytes are after them, they begin with it.
+-- These bytes are an item: they are as many as it has, and begin with it, whatever bytes are after
+-- them.
 pub record IsItem (item : Item) (own : List ℕ) : Type 0 where
   pub size : length own ≡ size_of item
   pub known : (rest : List ℕ) → item_front (own ++ rest) ≡ item

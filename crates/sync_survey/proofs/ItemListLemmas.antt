@@ -1,4 +1,4 @@
--- Bytes that are items, one after the other: where they are in a file, the items follow end to end.
+-- Bytes that are items joined in order: where they are in a file, the items follow end to end.
 use Rattle.std.proofs.Common.{ap, append_assoc, ap₂, arith, drop, filter_map, length, length-append}
 use Rattle.std.proofs.Common.{length-drop, List, map, None, Option, option_map, refl, Some, sym}
 use Rattle.std.proofs.Common.{true, ℕ, [], ◌++◌, ◌+◌, ◌-◌, ◌<◌, ◌∙◌, ◌∷◌, ◌≡◌, ◌≤◌}
@@ -44,7 +44,7 @@ ends-rise part file from [] to ends = omega (arith, ends)
 ends-rise part file from (p ∷ ps) to ends =
     omega (arith, ends.0, ends-rise part file (p.offset + size_of p.item) ps to ends.2)
 
--- and within the file, if they begin there
+-- items end to end end within the file, if they begin there
 pub ends-within : (part : Region) (file : List ℕ) (from : ℕ) (ps : List PlacedItem) (to : ℕ)
     → AreEndToEnd part file from ps to → from ≤ length file → to ≤ length file
 ends-within part file from [] to ends within = omega (arith, ends, within)
@@ -53,13 +53,13 @@ ends-within part file from (p ∷ ps) to ends within = ends-within part file
 
 -- ---- bytes that are items
 
--- these bytes are these items, one after the other
+-- these bytes are these items, joined in order
 abbrev pub AreItems : List PlacedItem → List ℕ → Type 0
 AreItems [] bytes = bytes ≡ []
 AreItems (p ∷ ps) bytes =
     (own : List ℕ) × (rest : List ℕ) × (bytes ≡ own ++ rest) × IsItem p.item own × AreItems ps rest
 
--- they are as many as the items have
+-- bytes that are items are as many as the items have
 pub items-length : (part : Region) (file : List ℕ) (from : ℕ) (ps : List PlacedItem) (to : ℕ)
     (bytes : List ℕ) → AreEndToEnd part file from ps to → AreItems ps bytes
     → from + length bytes ≡ to
@@ -89,7 +89,7 @@ kept_items file from (p ∷ ps) to ends =
 
 -- ---- where they are
 
--- an item, a frame and a block elsewhere, by where each offset is then
+-- an item whose offset is mapped
 abbrev pub placed_by : (ℕ → ℕ) → PlacedItem → PlacedItem
 placed_by to p = record p { offset = to p.offset }
 
@@ -99,7 +99,7 @@ frame_by to p = record p { offset = to p.offset }
 abbrev pub piece_by : (ℕ → ℕ) → Piece → Piece
 piece_by to p = record p { offset = to p.offset }
 
--- the item, so many bytes nearer to the beginning of the file
+-- the item, `gap` bytes nearer to the beginning of the file
 abbrev pub nearer : ℕ → PlacedItem → PlacedItem
 nearer gap p = placed_by (λ at. at - gap) p
 
@@ -110,8 +110,8 @@ unfolding item_at
 item_at-known file place at bytes item same is known =
     ap (λ n. item_front (drop n file)) same ∙ ap item_front is ∙ known
 
--- If bytes that are items are in another file, so many
--- bytes nearer to its beginning, they are there end to end.
+-- If bytes that are items are in another file, `gap` bytes nearer to its beginning, they are there
+-- end to end.
 pub items-end : (part : Region) (old file : List ℕ) (gap from at : ℕ) (ps : List PlacedItem)
     (to : ℕ)
     (bytes behind : List ℕ) → AreEndToEnd part old from ps to → from ≡ at + gap → AreItems ps bytes
@@ -154,7 +154,7 @@ nearer-none (p ∷ ps) =
     let same : p.offset - 0 ≡ p.offset = omega arith in
     λ i. record p { offset = same i } ∷ nearer-none ps i
 
--- they are the run there, if no further item of the part begins after them
+-- bytes that are items are the run there, if no further item of the part begins after them
 pub items-run : (part : Region) (old file : List ℕ) (gap from at : ℕ) (ps : List PlacedItem)
     (to : ℕ)
     (bytes behind : List ℕ) → AreEndToEnd part old from ps to → from ≡ at + gap → AreItems ps bytes
@@ -195,7 +195,7 @@ pub frames-by : (to : ℕ → ℕ) (ps : List PlacedItem)
     → frames_of (map (placed_by to) ps) ≡ map (frame_by to) (frames_of ps)
 frames-by to ps = taken frame_of_item (frame_by to) to (moved_frame to) ps
 
--- so are their blocks
+-- the blocks of items that are moved are these blocks moved
 pub blocks-by : (to : ℕ → ℕ) (ps : List PlacedItem)
     → blocks_of (map (placed_by to) ps) ≡ map (piece_by to) (blocks_of ps)
 blocks-by to ps = taken block_of_item (piece_by to) to (moved_block to) ps
@@ -206,12 +206,12 @@ nearer_frame gap p = frame_by (λ at. at - gap) p
 abbrev pub nearer_piece : ℕ → Piece → Piece
 nearer_piece gap p = piece_by (λ at. at - gap) p
 
--- the frames of items that are nearer to the beginning are as much nearer
+-- the frames of items that are nearer to the beginning are nearer by as much
 pub frames-nearer : (gap : ℕ) (ps : List PlacedItem)
     → frames_of (map (nearer gap) ps) ≡ map (nearer_frame gap) (frames_of ps)
 frames-nearer gap ps = frames-by (λ at. at - gap) ps
 
--- so are their blocks
+-- the blocks of items that are nearer to the beginning are nearer by as much
 pub blocks-nearer : (gap : ℕ) (ps : List PlacedItem)
     → blocks_of (map (nearer gap) ps) ≡ map (nearer_piece gap) (blocks_of ps)
 blocks-nearer gap ps = blocks-by (λ at. at - gap) ps

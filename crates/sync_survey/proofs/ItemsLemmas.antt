@@ -51,7 +51,7 @@ pub header_stands : (bytes : List ℕ) (item : Item) (h : HeaderFields) → item
     → item ≡ Frame h → header_front bytes ≡ Ok h
 header_stands bytes item h front is = subst (IsItemFront bytes) (sym front ∙ is) (stands bytes)
 
--- so they do at an offset of a file
+-- bytes at an offset of a file begin with the item that is found there
 pub stands-at : (file : List ℕ) (at : ℕ) (item : Item) → item_at file at ≡ item
     → IsItemFront (drop at file) item
 unfolding item_at
@@ -64,13 +64,13 @@ header_cases : (b : Bool) (r : Result HeaderFields NotHeader) (h : HeaderFields)
 header_cases true r h e = e
 header_cases false r h e = absurd cc
 
--- a header with which bytes begin is that of their first four bytes
+-- the header with which bytes begin is the header of their first four bytes
 pub header_at-front : (bytes : List ℕ) (h : HeaderFields) → header_front bytes ≡ Ok h
     → header_at (take 4 bytes) ≡ Ok h
 unfolding header_front
 header_at-front bytes h e = header_cases _ _ h e
 
--- and its fields are in range
+-- the fields of a header with which bytes begin are in range
 pub header_front-in_range : (bytes : List ℕ) (h : HeaderFields) → header_front bytes ≡ Ok h
     → IsHeader h
 unfolding header_front
@@ -80,7 +80,7 @@ frame_some : (h : HeaderFields) → IsHeader h → 0 < length_of (class_of h) h.
 frame_some h fields =
     omega (arith, area_some (class_of h) h.slot (IsClass-class_of h fields) fields.slot)
 
--- an item with which bytes begin, and that belongs to a part, has at least a byte
+-- an item with which bytes begin and that belongs to a part has at least one byte
 pub some_by : (bytes : List ℕ) (part : Region) (item : Item) → IsItemFront bytes item
     → belongs part item ≡ true → 0 < size_of item
 some_by bytes part (Frame h) here is = frame_some h (header_front-in_range bytes h here)
@@ -88,7 +88,7 @@ some_by bytes part (Block b) here is = omega (arith, block_front-least bytes b h
 some_by bytes part Zero here is = omega arith
 some_by bytes part _ here is = absurd (false≢true is)
 
--- so has one at an offset of a file
+-- an item at an offset of a file that belongs to a part has at least one byte
 pub size-some : (part : Region) (file : List ℕ) (at : ℕ) (item : Item) → item_at file at ≡ item
     → belongs part item ≡ true → 0 < size_of item
 size-some part file at item is belongs =

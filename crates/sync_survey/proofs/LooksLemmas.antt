@@ -47,7 +47,7 @@ zero_at part file bytes at is =
 abbrev pub zero_test : ℕ → Bool
 zero_test b = b == 0
 
--- what a zero byte doesn't change is the same after all zero bytes with which these bytes begin
+-- what one zero byte doesn't change, all zero bytes with which these bytes begin don't change
 module _ {X : Type 0} (file : List ℕ) (f : ℕ → X)
     (one : (bytes : List ℕ) (at : ℕ) → drop at file ≡ 0 ∷ bytes → f at ≡ f (at + 1)) where
   zeros_more : (rest : List ℕ) (at n b : ℕ) → drop at file ≡ b ∷ rest
@@ -67,7 +67,7 @@ module _ {X : Type 0} (file : List ℕ) (f : ℕ → X)
 
 -- ---- how many bytes are passed
 
--- so many bytes are passed with an item where so many are left
+-- `size` bytes are passed with an item where `left` are left
 pub record IsSized (item : Item) (left size : ℕ) : Type 0 where
   pub least : size_of item ≤ size
   pub some : 0 < size
@@ -111,7 +111,7 @@ sized_by part front left size Zero here is within all counts =
     }
 sized_by part front left size _ here is within all counts = absurd (false≢true is)
 
--- the item at the front of what is left is passed with its own bytes, zeros all at once
+-- the item with which what is left begins is passed with its own bytes, and zero bytes all at once
 pub sized : (part : Region) (front : List ℕ) (left size : ℕ) (item : Item) → item ≡ item_front front
     → belongs part item ≡ true → size_of item ≤ left → length front ≤ left
     → (item ≡ Zero → size ≡ prefix_len zero_test front) → ((item ≡ Zero → ⊥) → size ≡ size_of item)
@@ -121,13 +121,13 @@ sized part front left size item is here within all zeros other = sized_by part f
 
 module _ (file : List ℕ) (at : ℕ) (front : List ℕ) (left : ℕ)
     (shows : Shows file at front left) where
-  -- the item at the front is that of the file there
+  -- the item with which the look begins is the file's item there
   pub item_at-shown : item_front front ≡ item_at file at
   unfolding item_at
   item_at-shown =
       ap item_front shows.front_is ∙ item_front-take look_size (drop at file) (omega arith)
 
-  -- what is there so many bytes after, where 32 bytes are shown from there on
+  -- the item `size` bytes later, where 32 bytes are shown from there on, is the file's item there
   pub item_at-behind : (size : ℕ) → size ≤ 4064
       → item_front (drop size front) ≡ item_at file (at + size)
   unfolding item_at
@@ -165,7 +165,7 @@ module _ (file : List ℕ) (at : ℕ) (front : List ℕ) (left : ℕ)
   whole_here part item is here some within = item_of-whole part file at item
       (sym item_at-shown ∙ sym is) here (omega (arith, some, within, shows.left_is))
 
-  -- after all zero bytes that are shown too
+  -- what one zero byte doesn't change, all zero bytes that are shown don't change
   pub zeros_shown : {X : Type 0} (f : ℕ → X) (size : ℕ) → size ≡ prefix_len zero_test front
       → ((bytes : List ℕ) (place : ℕ) → drop place file ≡ 0 ∷ bytes → f place ≡ f (place + 1))
       → f at ≡ f (at + size)
@@ -175,7 +175,7 @@ module _ (file : List ℕ) (at : ℕ) (front : List ℕ) (left : ℕ)
       sym (take-append-drop look_size (drop at file)) ∙ ap (λ l. l ++ rest) (sym shows.front_is) in
       zeros_same file f one front rest at split ∙ ap (λ n. f (at + n)) (sym many)
 
-  -- a whole item and all zero bytes that are shown after a zero byte are passed
+  -- all zero bytes that are shown are passed at once
   pub passes_zeros : (part : Region) (size : ℕ) → size ≡ prefix_len zero_test front
       → Passes part file at Zero size
   passes_zeros part size many = record {
@@ -188,7 +188,7 @@ module _ (file : List ℕ) (at : ℕ) (front : List ℕ) (left : ℕ)
         (run-next part file place Zero (zero_at part file bytes place zero)));
   }
 
-  -- to pass all of an item's bytes is to pass it
+  -- passing all of an item's bytes is passing it
   pub passes_whole : (part : Region) (item : Item) (size : ℕ)
       → whole_item_at part file at ≡ Some item → size ≡ size_of item → Passes part file at item size
   passes_whole part item size here is =
@@ -204,7 +204,7 @@ module _ (file : List ℕ) (at : ℕ) (front : List ℕ) (left : ℕ)
   step_by part Zero size here counts = passes_zeros part size (counts.0 refl)
   step_by part item size here counts = passes_whole part item size here (counts.1 (λ e. cc))
 
-  -- an item of the part that fits is passed, and zeros all at once
+  -- an item of the part that fits is passed, and zero bytes all at once
   pub step_passes : (part : Region) (size : ℕ) (item : Item) → item ≡ item_front front
       → belongs part item ≡ true → size_of item ≤ left
       → (item ≡ Zero → size ≡ prefix_len zero_test front)

@@ -1,5 +1,5 @@
--- Lost frames have only silent and lost frames before them,
--- since the main data of any other frame end after 0.
+-- Lost frames have only silent and lost frames before them, since the main data of any other frame
+-- end after 0.
 use Rattle.std.proofs.Common.{ap, arith, Bool, cond, false, inl, inr, List, None, Option, refl}
 use Rattle.std.proofs.Common.{slice_get, Some, subst, suc, sym, true, zero, ℕ, ⊎_elim, ◌<◌, ◌==◌}
 use Rattle.std.proofs.Common.{◌||◌, ◌∙◌, ◌≡◌, ◌≤◌, ◌⊎◌}
@@ -73,7 +73,7 @@ module _ (head : Option Head) (rows : List Row) where
       (λ same. here_by i j q (Some r) is (λ p some. let one : r ≡ p = cc in
       subst (IsEmptyAt i) one parts.1) same found) (at_or_before j i lt)
 
-  -- if no main data end after 0 before a frame, those before it are silent or lost
+  -- if no main data end after 0 before a frame, all frames before it are silent or lost
   pub none-empty : (i : ℕ) → data_end_before head rows i ≡ 0 → AreSilentOrLost head rows i
   unfolding data_end_before
   none-empty zero e = λ j q lt found. absurd (omega (arith, lt))
@@ -86,7 +86,7 @@ module _ (head : Option Head) (rows : List Row) where
   behind_empty i (Some r) is none each = empty_cases (is_silent r) (is_lost head rows i r)
       (data_end_before head rows i) (end_of_data (place head rows i) r) (each r is) none
 
-  -- and if they are, none end after 0
+  -- if all frames before a frame are silent or lost, no main data before it end after 0
   pub empty-none : (i : ℕ) → AreSilentOrLost head rows i → data_end_before head rows i ≡ 0
   unfolding data_end_before
   empty-none zero all = refl
@@ -96,7 +96,7 @@ module _ (head : Option Head) (rows : List Row) where
 
   -- ---- one frame
 
-  -- a lost frame points too far back, and those before it are silent or lost
+  -- a lost frame points too far back, and all frames before it are silent or lost
   pub lost-leads : (i : ℕ) (r : Row) → is_lost head rows i r ≡ true
       → (points_too_far (place head rows i) r ≡ true) × AreSilentOrLost head rows i
   lost-leads i r lost =
@@ -104,7 +104,7 @@ module _ (head : Option Head) (rows : List Row) where
       and_parts (data_end_before head rows i == 0) (points_too_far (place head rows i) r) lost in
       (parts.1, none-empty i (eqb-true (data_end_before head rows i) 0 parts.0))
 
-  -- and such a frame is lost
+  -- such a frame is lost
   pub leads-lost : (i : ℕ) (r : Row) → (points_too_far (place head rows i) r ≡ true)
       × AreSilentOrLost head rows i → is_lost head rows i r ≡ true
   leads-lost i r leads =

@@ -7,7 +7,7 @@ use Rattle.sync_survey.specs.{Order.merged_list, declared.merge.Entry.Entry}
 use Rattle.sync_survey.specs.declared.merge.{Entry.TheVariants.{First, Second}, Merge.Merge}
 
 module _ {A B : Type 0} (first_at : A → ℕ) (second_at : B → ℕ) (old : Merge A B) where
-  -- what it met is the first of what was left, and the others are left
+  -- what the walk met is the first of what was left, and the others are left
   pub met : (result : Option (Entry A B)) (new : Merge A B)
       → Meets first_at second_at old result new
       → MatchOption result (entries_left first_at second_at old

@@ -1,4 +1,4 @@
--- Bytes begin with one item at most.
+-- Bytes begin with at most one item.
 use Rattle.std.proofs.Common.{ap, arith, Bool, cond, drop, Err, false, get_or, length, List, None}
 use Rattle.std.proofs.Common.{Option, refl, Result, Some, subst, sym, take, true, ℕ, [], ◌*◌, ◌++◌}
 use Rattle.std.proofs.Common.{◌+◌, ◌<◌, ◌==◌, ◌^◌, ◌∙◌, ◌∷◌, ◌≡◌, ◌≢◌, ◌≤◌}
@@ -129,7 +129,7 @@ stands-only bytes Nothing here =
 stands-only bytes _ here =
     ap (λ r. header_or_item r (block_or_item (block_front bytes) (byte_item bytes))) (sym here)
 
--- so it is at an offset of a file
+-- an item at an offset of a file is the one that the definition finds there
 pub stands-only_at : (file : List ℕ) (at : ℕ) (item : Item) → IsItemFront (drop at file) item
     → item ≡ item_at file at
 unfolding item_at

@@ -1,4 +1,4 @@
--- Two lists that each are in order, as one.
+-- Two lists, each in order, as one.
 use Rattle.std.proofs.Common.{ap, arith, cond, false, List, ltb, map, refl, sym, true, ℕ, [], ◌++◌}
 use Rattle.std.proofs.Common.{◌<◌, ◌∙◌, ◌∷◌, ◌≡◌, ◌≤◌}
 use Rattle.std.proofs.lemmas.Bool.{le-ltb, lt-ltb, ltb-false, ltb-true}
@@ -26,7 +26,7 @@ module _ {A : Type 0} (key : A → ℕ) where
   merged_own t ts [] le = refl
   merged_own t ts (u ∷ us) le = rw (le-ltb (key u) (key t) le) refl
 
-  -- and so does one of the others that is before the first list
+  -- one of the others that is before the first list comes first
   pub merged_other : (ts : List A) (u : A) (us : List A) → IsFirstAfter key (key u) ts
       → merged_list key ts (u ∷ us) ≡ u ∷ merged_list key ts us
   unfolding merged_list
@@ -38,7 +38,7 @@ module _ {A : Type 0} (key : A → ℕ) where
   rises_after at from [] rises lt = tt
   rises_after at from (t ∷ ts) rises lt = omega (arith, rises.0, lt)
 
-  -- what is at or after a place is put after the entry there
+  -- an entry at or before both lists is put before them
   put_before : (t : A) (ts us : List A) → RisesBy key (key t) ts → RisesBy key (key t) us
       → ordered_insert key t (merged_list key ts us) ≡ t ∷ merged_list key ts us
   unfolding merged_list
@@ -53,7 +53,7 @@ module _ {A : Type 0} (key : A → ℕ) where
         | false ↦ rw (le-ltb (key s) (key t) rises.0) refl
       ]
 
-  -- entries that rise from a number on do from any lesser one
+  -- entries that rise from a number on rise from any lesser one
   pub rises_from : (from to : ℕ) (ts : List A) → from ≤ to → RisesBy key to ts → RisesBy key from ts
   rises_from from to [] le rises = tt
   rises_from from to (t ∷ ts) le rises = (omega (arith, le, rises.0), rises.1)
@@ -79,7 +79,7 @@ module _ {A : Type 0} (key : A → ℕ) where
         | false ↦ λ is. put_before t ts (u ∷ us) rises (ltb-false (key u) (key t) is, up.1)
       ] refl
 
-  -- ---- two lists that each are in order
+  -- ---- two lists, each in order
 
   ordered_same : (ts : List A) (from : ℕ) → RisesBy key from ts → ordered_list key ts ≡ ts
   unfolding ordered_list
@@ -87,7 +87,7 @@ module _ {A : Type 0} (key : A → ℕ) where
   ordered_same (t ∷ ts) from rises =
       ap (ordered_insert key t) (ordered_same ts (key t) rises.1) ∙ put_first t ts rises.1
 
-  -- two lists that rise, put in order one after the other, are merged
+  -- two lists that rise, joined and put in order, are merged
   pub ordered_both : (ts us : List A) (from to : ℕ) → RisesBy key from ts → RisesBy key to us
       → ordered_list key (ts ++ us) ≡ merged_list key ts us
   unfolding ordered_list merged_list
@@ -96,7 +96,7 @@ module _ {A : Type 0} (key : A → ℕ) where
       ap (ordered_insert key t) (ordered_both ts us (key t) to rises.1 up)
       ∙ put_merged t ts us to rises.1 up
 
--- ---- entries by what is made of them
+-- ---- entries compared by what is made of them
 
 module _ {A B : Type 0} (key : B → ℕ) (f : A → B) (at : ℕ) where
   -- what is made of entries after an offset is after it
@@ -105,7 +105,7 @@ module _ {A B : Type 0} (key : B → ℕ) (f : A → B) (at : ℕ) where
   after_map [] after = tt
   after_map (t ∷ ts) after = after
 
-  -- and of those from an offset on, from it on
+  -- what is made of entries from an offset on is from it on
   pub from_map : (ts : List A) → IsFirstFrom (λ t. key (f t)) at ts → IsFirstFrom key at (map f ts)
   from_map [] from = tt
   from_map (t ∷ ts) from = from

@@ -1,4 +1,4 @@
--- The main data of the frames so far are where they may be, whatever is told of the file.
+-- The main data of the frames so far are where they may be, whatever is known of the file.
 use Rattle.std.proofs.Common.{ap, ap₂, arith, false, length, List, map, None, not, Ok, Option}
 use Rattle.std.proofs.Common.{option_map, refl, slice_get, Some, subst, suc, sum_by, sym, take}
 use Rattle.std.proofs.{Common.{zero, ℕ, [], ◌++◌, ◌+◌, ◌<◌, ◌∙◌, ◌∷◌, ◌≡◌}, lemmas.Bool.not-false}
@@ -31,9 +31,9 @@ use Rattle.sync_survey.specs.declared.runs.Region.TheVariants.{Stream}
 class-sound : (c d : ClassFields) → not (same_class c d) ≡ false → c ≡ d
 class-sound c d e = same_class-is c d (not-false (same_class c d) e)
 
--- ---- one frame more
+-- ---- one more frame
 
--- the frames so far are well placed, and the two numbers are place and end after them
+-- the frames so far are well placed, and the two numbers are the place and the end after them
 pub record ArePlacedTo (head : Option Head) (class : ClassFields) (rows : List Row)
     (place_now ended : ℕ) : Type 0 where
   pub frames : AreWellPlaced head class rows
@@ -56,7 +56,7 @@ placed_same head class old new before behind same stays placed =
     subst (λ (b : ReservoirState). ArePlacedTo head class new b.place b.ended) (sym stays)
     (subst (λ rows. ArePlacedTo head class rows before.place before.ended) (sym same) placed)
 
--- by place and end
+-- a frame is well placed, given place and end
 pub placed_by : (head : Option Head) (class : ClassFields) (rows : List Row) (i : ℕ) (r : Row)
     (place_now ended : ℕ) → place_now ≡ place head rows i → ended ≡ data_end_before head rows i
     → IsHeader r.header → class_of r.header ≡ class → SideFits class r.side
@@ -70,7 +70,7 @@ placed_by head class rows i r place_now ended at ends known same fits mark none 
   sound = sym (ap₂ (λ m n. data_faults m n r) at ends) ∙ none;
 }
 
--- those before stay
+-- frames before more are still well placed
 placed_before : (head : Option Head) (class : ClassFields) (rows more : List Row) (i : ℕ) (r : Row)
     → i < length rows → IsWellPlaced head class rows i r
     → IsWellPlaced head class (rows ++ more) i r
@@ -156,7 +156,7 @@ module _ (head : Option Head) (rows : List Row) where
   get-marked (suc i) n (x ∷ xs) = get-marked i (n + 1) xs
       ∙ ap (λ m. option_map (marked_row head rows m) (slice_get xs i)) (omega arith)
 
-  -- the place of a frame is the same
+  -- marks don't change the place of a frame
   pub place-marked : (i : ℕ) → place head (marked_rows head rows) i ≡ place head rows i
   unfolding place marked_rows
   place-marked i = ap (λ m. head_area head + m) (areas-marked i 0 rows)
@@ -173,7 +173,7 @@ module _ (head : Option Head) (rows : List Row) where
   behind-marked i m n None = refl
   behind-marked i m n (Some r) = refl
 
-  -- the end before a frame is the same
+  -- marks don't change the end before a frame
   pub end-marked : (i : ℕ)
       → data_end_before head (marked_rows head rows) i ≡ data_end_before head rows i
   unfolding data_end_before

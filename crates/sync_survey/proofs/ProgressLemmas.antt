@@ -1,5 +1,5 @@
--- How far a survey has come: the frames and blocks before
--- an offset were met, and the frames have no fault.
+-- How far a survey has come: the frames and blocks before an offset were met, and the frames have
+-- no fault.
 use Rattle.std.proofs.Common.{ap, append-nil, append_assoc, ap₂, drop, Err, length, List, None, Ok}
 use Rattle.std.proofs.Common.{Option, refl, Some, sym, ℕ, [], ◌++◌, ◌+◌, ◌∙◌, ◌∷◌, ◌≡◌, ◌≤◌}
 use Rattle.std.proofs.lemmas.List.{drop_all}
@@ -47,7 +47,7 @@ pub record IsMarkedTo (file : List ℕ) (start : Start) (head : Option Head) (al
   pub marks : rows ≡ marked_rows head frames
   pub surveyed : IsSurveyedTo file start head allowed frames blocks place_now ended at
 
--- the stream of the file begins so
+-- the stream of the file begins like this
 pub record IsBegun (file : List ℕ) (start : Start) (head : Option Head) : Type 0 where
   pub start_is : start_of file ≡ Ok start
   pub head_is : head ≡ head_of file start.first
@@ -111,7 +111,7 @@ module _ (file : List ℕ) (start : Start) (head : Option Head) (allowed : ℕ) 
     ended_is = so_far.ended_is;
   }
 
-  -- a frame's faults are by the numbers that go on from frame to frame
+  -- the numbers that are kept from frame to frame give a frame's faults
   frame_by : (r : Row)
       → faults_at (stored_crc (drop r.offset file)) class allowed place_now ended (length rows) r
       ≡ faults_of file head class allowed rows (length rows) r
@@ -187,7 +187,7 @@ module _ (file : List ℕ) (start : Start) (head : Option Head) (allowed : ℕ) 
         ap (λ l. first_of (all_faults file head class allowed l)) (sym (all_met none).0)
         ∙ ap first_of so_far.none
 
-    -- what isn't whole stops the walk
+    -- an item that isn't whole stops the walk
     pub stopped_fault : (fault : SurveyFault) → whole_item_at Stream file at ≡ None
         → fault_at at (item_at file at) ≡ Some fault → survey_fields file allowed ≡ Err fault
     stopped_fault fault none is =
@@ -207,7 +207,7 @@ module _ (file : List ℕ) (start : Start) (head : Option Head) (allowed : ℕ) 
     frames_cases (p ∷ ps) are o none =
         ((λ empty. absurd cc), (λ some. ap (end_fault file (p ∷ ps)) none))
 
-    -- no frame was met before the end of the file
+    -- if no frame was met before the end of the file, that is the fault
     pub no_frame : length file ≤ at → rows ≡ []
         → survey_fields file allowed ≡ Err (NoFrame (length file))
     no_frame past empty =
@@ -216,7 +216,7 @@ module _ (file : List ℕ) (start : Start) (head : Option Head) (allowed : ℕ) 
         (NoFrame (length file)) (none_of_all none)
         ((frames_cases _ (all_met none).0 _ (ended_at past)).0 empty)
 
-    -- the whole file has no fault
+    -- if a frame was met before the end of the file, the file has this survey
     pub whole : length file ≤ at → (rows ≡ [] → ⊥)
         → survey_fields file allowed ≡ Ok (told_by file start head rows blocks)
     whole past some =

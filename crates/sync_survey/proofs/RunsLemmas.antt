@@ -1,4 +1,4 @@
--- Items that follow end to end: one item more, and what they are together.
+-- Items that follow end to end: one more item, and what they are together.
 use Rattle.std.proofs.Common.{ap, append-nil, append_assoc, arith, Bool, cond, drop, false, length}
 use Rattle.std.proofs.Common.{List, None, Option, option_to_list, refl, Some, subst, suc, sym, true}
 use Rattle.std.proofs.Common.{zero, ℕ, [], ◌++◌, ◌+◌, ◌-◌, ◌<◌, ◌∙◌, ◌∷◌, ◌≡◌, ◌≤◌}
@@ -22,7 +22,7 @@ pub record IsItemOf (part : Region) (file : List ℕ) (at : ℕ) (item : Item) :
   pub within : at + size_of item ≤ length file
   pub some : 0 < size_of item
 
--- what is given only where it is whole is whole and the item
+-- what is given only if it is whole is whole, and is the item
 pub whole_cases : (b : Bool) (i j : Item) → cond b (Some i) None ≡ Some j → (b ≡ true) × (i ≡ j)
 whole_cases true i j e = (refl, cc)
 whole_cases false i j e = absurd cc
@@ -55,7 +55,7 @@ whole_item : (part : Region) (file : List ℕ) (at : ℕ) (item found : Item) �
 whole_item part file at item found is belongs item_fits =
     ap (item_if_whole part file at) is ∙ rw (belongs, item_fits) refl
 
--- and a whole one at an offset is that item
+-- a whole item of the part at an offset is the item there
 pub item_of-whole : (part : Region) (file : List ℕ) (at : ℕ) (item : Item) → item_at file at ≡ item
     → belongs part item ≡ true → at + size_of item ≤ length file
     → whole_item_at part file at ≡ Some item
@@ -91,7 +91,7 @@ none_more : (part : Region) (file : List ℕ) (at : ℕ) → run_up_to zero part
 unfolding run_up_to
 none_more part file at = refl
 
--- past the end any bound gives the same
+-- past the end any bound gives the same run
 past : (n : ℕ) (part : Region) (file : List ℕ) (at : ℕ) → length file ≤ at
     → run_up_to n part file at ≡ stopped_run at
 past zero part file at le = none_more part file at
@@ -114,7 +114,7 @@ enough (suc m) (suc n) part file at le le' =
     (omega (arith, le', here.some)))
     ∙ sym (one_more n part file at)
 
--- a run takes the item at its offset, and goes on behind it
+-- a run takes the item at its offset, and continues after it
 pub run-step : (part : Region) (file : List ℕ) (at : ℕ)
     → item_run part file at ≡ run_onward at (item_run part file) (whole_item_at part file at)
 unfolding item_run
@@ -122,13 +122,13 @@ run-step part file at =
     enough (length file) (suc (length file)) part file at (omega arith) (omega arith)
     ∙ one_more (length file) part file at
 
--- an item is at the offset
+-- if an item is at the offset, the run begins with it
 pub run-next : (part : Region) (file : List ℕ) (at : ℕ) (item : Item) → whole_item_at part file at
     ≡ Some item
     → item_run part file at ≡ run_with_item at item (item_run part file (at + size_of item))
 run-next part file at item is = run-step part file at ∙ ap (run_onward at (item_run part file)) is
 
--- none is there
+-- if none is there, the run stops
 pub run-stopped : (part : Region) (file : List ℕ) (at : ℕ) → whole_item_at part file at ≡ None
     → item_run part file at ≡ stopped_run at
 run-stopped part file at is = run-step part file at ∙ ap (run_onward at (item_run part file)) is
@@ -155,7 +155,7 @@ pub run-ends : (part : Region) (file : List ℕ) (from : ℕ)
 unfolding item_run
 run-ends part file from = ends_up_to (length file) part file from
 
--- none is after them: there are no more items than bytes
+-- no item is after them: there are no more items than bytes
 last_onward : (part : Region) (file : List ℕ) (at : ℕ) (next : ℕ → ItemRun) (o : Option Item)
     → whole_item_at part file at ≡ o → ((item : Item) → o ≡ Some item
     → whole_item_at part file (next (at + size_of item)).stop ≡ None)
@@ -173,7 +173,7 @@ last_up_to (suc n) part file at le =
     (λ item is. last_up_to n part file (at + size_of item)
     (omega (arith, le, (item_of-is part file at item is).some)))
 
--- where a run stops no further item begins
+-- no further item begins where a run stops
 pub run-last : (part : Region) (file : List ℕ) (from : ℕ)
     → whole_item_at part file (item_run part file from).stop ≡ None
 unfolding item_run
@@ -190,8 +190,8 @@ run-only part file from (p ∷ ps) to ends none =
     ∙ ap (run_with_item p.offset p.item)
     (run-only part file (p.offset + size_of p.item) ps to ends.2 none)
 
--- items that follow end to end are, with the bytes
--- after them, the file's bytes from their beginning on
+-- items that follow end to end and the bytes after them are the file's bytes from their beginning
+-- on
 pub bytes-ends : (part : Region) (file : List ℕ) (from : ℕ) (ps : List PlacedItem) (to : ℕ)
     → AreEndToEnd part file from ps to → bytes_of_items file ps ++ drop to file ≡ drop from file
 bytes-ends part file from [] to ends = ap (λ at. drop at file) (sym ends)
@@ -205,7 +205,7 @@ bytes-ends part file from (p ∷ ps) to ends =
 
 -- ---- frames and blocks among the items of a run
 
--- an item that may be there comes in front of the others
+-- an item that may be there comes before the others
 pub cons_list : {X : Type 0} (o : Option X) (xs : List X)
     → cons_option o xs ≡ option_to_list o ++ xs
 cons_list None xs = refl
@@ -230,12 +230,12 @@ front_up_to zero file at = refl
 front_up_to (suc n) file at = front_onward file at (λ later. run_up_to n Front file later)
     (whole_item_at Front file at) refl (λ later. front_up_to n file later)
 
--- before the first frame there are none
+-- there are no frames in the front
 pub front-frames : (file : List ℕ) (from : ℕ) → frames_of (item_run Front file from).items ≡ []
 unfolding item_run
 front-frames file from = front_up_to (length file) file from
 
--- what a frame, or a block, adds
+-- the frame, if any, at the offset comes first of the frames
 pub frames-next : (part : Region) (file : List ℕ) (at : ℕ) (item : Item)
     → whole_item_at part file at ≡ Some item →
     frames_of (item_run part file at).items
@@ -244,7 +244,7 @@ pub frames-next : (part : Region) (file : List ℕ) (at : ℕ) (item : Item)
 frames-next part file at item is = ap (λ r. frames_of r.items) (run-next part file at item is)
     ∙ cons_list (frame_of_item at item) (frames_of (item_run part file (at + size_of item)).items)
 
--- a block that is at the offset comes first of the blocks
+-- the block, if any, at the offset comes first of the blocks
 pub blocks-next : (part : Region) (file : List ℕ) (at : ℕ) (item : Item)
     → whole_item_at part file at ≡ Some item →
     blocks_of (item_run part file at).items
@@ -253,18 +253,18 @@ pub blocks-next : (part : Region) (file : List ℕ) (at : ℕ) (item : Item)
 blocks-next part file at item is = ap (λ r. blocks_of r.items) (run-next part file at item is)
     ∙ cons_list (block_of_item at item) (blocks_of (item_run part file (at + size_of item)).items)
 
--- one item more was kept
+-- one more item was kept
 pub kept_more : {X : Type 0} (old here kept rest later item_if_whole : List X) → kept ≡ old ++ here
     → rest ≡ here ++ later → old ++ rest ≡ item_if_whole → kept ++ later ≡ item_if_whole
 kept_more old here kept rest later item_if_whole e e' e'' =
     ap (λ k. k ++ later) e ∙ append_assoc old here later ∙ ap (λ r. old ++ r) (sym e') ∙ e''
 
--- nothing more was left to keep
+-- if nothing is left to keep, all was kept
 pub kept_whole : {X : Type 0} (kept rest item_if_whole : List X) → rest ≡ []
     → kept ++ rest ≡ item_if_whole → kept ≡ item_if_whole
 kept_whole kept rest item_if_whole nothing e =
     sym (append-nil kept) ∙ ap (λ r. kept ++ r) (sym nothing) ∙ e
 
--- the frames of items and more items are those of the one and then of the other
+-- the frames of two joined lists of items are those of the first and then those of the second
 pub frames-append : (ps qs : List PlacedItem) → frames_of (ps ++ qs) ≡ frames_of ps ++ frames_of qs
 frames-append ps qs = filter_map-append (λ (p : PlacedItem). frame_of_item p.offset p.item) ps qs

@@ -1,4 +1,4 @@
--- A frame that is the same from two bytes before its area on is a head as before.
+-- A frame that is the same from two bytes before its area on is still a head, or still none.
 use Rattle.std.proofs.Common.{ap, arith, codes, drop, List, None, Option, option_map, refl, Some}
 use Rattle.std.proofs.Common.{sym, take, ℕ, ◌+◌, ◌-◌, ◌||◌, ◌∙◌, ◌≡◌, ◌≤◌}
 use Rattle.std.{proofs.lemmas.List.{drop-drop, drop-take}, specs.Str.bytes_eq}
@@ -10,7 +10,7 @@ use Rattle.sync_survey.{proofs.ItemListLemmas.nearer_frame, specs.MainData.{area
 use Rattle.sync_survey.specs.{Walk.{frame_bytes, head_of}, declared.places.Head.Head}
 use Rattle.sync_survey.specs.declared.places.PlacedFrame.{PlacedFrame}
 
--- what is the same from one place on is so from each later one
+-- what is the same from one place on is the same from each later one
 drop_later : (place from : ℕ) (xs ys : List ℕ) → from ≤ place → drop from xs ≡ drop from ys
     → drop place xs ≡ drop place ys
 drop_later place from xs ys within same =
@@ -48,7 +48,7 @@ text-same h xs ys same =
     (text_same (low_place h) xs ys (drop_later (low_place h) from xs ys (places h).0 same))
     (text_same (high_place h) xs ys (drop_later (high_place h) from xs ys (places h).1 same))
 
--- a head, so many bytes nearer to the beginning of the file
+-- a head, `gap` bytes nearer to the beginning of the file
 abbrev pub nearer_head : ℕ → Head → Head
 nearer_head gap head = record head { offset = head.offset - gap }
 
@@ -59,8 +59,8 @@ placed : (gap : ℕ) (p : PlacedFrame) (o : Option ℕ)
 placed gap p (Some at) = refl
 placed gap p None = refl
 
--- a frame that is so many bytes nearer to the beginning of another
--- file, and is the same there from two bytes before its area on
+-- a frame that is `gap` bytes nearer to the beginning of another file, and is the same there from
+-- two bytes before its area on, is a head there exactly if it was one
 pub head_of-nearer : (old file : List ℕ) (gap : ℕ) (p : PlacedFrame) → drop
     (overhead_of (class_of p.header) p.header.protected - 2) (frame_bytes file (nearer_frame gap p))
     ≡ drop (overhead_of (class_of p.header) p.header.protected - 2) (frame_bytes old p)
@@ -82,8 +82,8 @@ area_placed : (old file : List ℕ) (gap : ℕ) (p : PlacedFrame) (o : Option �
 area_placed old file gap p (Some at) same = same
 area_placed old file gap p None same = refl
 
--- a head's area, if the frame's area is the same so
--- many bytes nearer to the beginning of another file
+-- a head's area is unchanged if the frame's area is the same `gap` bytes nearer to the beginning of
+-- another file
 pub head_bytes-nearer : (old file : List ℕ) (gap : ℕ) (p : PlacedFrame)
     → area_bytes file (p.offset - gap) p.header ≡ area_bytes old p.offset p.header
     → head_bytes file (option_map (nearer_head gap) (head_of old p))
@@ -92,7 +92,7 @@ unfolding head_of
 head_bytes-nearer old file gap p same =
     area_placed old file gap p (head_text_of p.header (frame_bytes old p)) same
 
--- the area of a frame is what is after its side information
+-- the area of a frame is what follows its side information
 pub area-frame : (file : List ℕ) (p : PlacedFrame)
     → overhead_of (class_of p.header) p.header.protected
     ≤ length_of (class_of p.header) p.header.slot → area_bytes file p.offset p.header

@@ -17,9 +17,9 @@ use Rattle.sync_survey.specs.declared.places.{PlacedFrame.PlacedFrame, Start.Sta
 use Rattle.sync_survey.specs.declared.runs.Region.TheVariants.{Stream}
 use Rattle.sync_survey.specs.declared.survey_fault.SurveyFault.{SurveyFault}
 
--- ---- the first of so many offsets
+-- ---- the first of `count` offsets
 
--- what is at the first of so many offsets, from one on, at which there is something
+-- what is at the first of `count` offsets, from `from` on, at which there is something
 abbrev pub first_of : (ℕ → Option PlacedFrame) → ℕ → ℕ → Option PlacedFrame
 first_of stands count from = slice_get (filter_map stands (range_with_len from count)) 0
 
@@ -28,7 +28,7 @@ nothing_here : (o : Option PlacedFrame) (rest : List PlacedFrame) → o ≡ None
     → slice_get (cons_option o rest) 0 ≡ slice_get rest 0
 nothing_here o rest none = ap (λ x. slice_get (cons_option x rest) 0) none
 
--- where nothing is found at any offset, there is no first
+-- if nothing is found at any offset, there is no first
 pub first_of-none : (stands : ℕ → Option PlacedFrame) (count from : ℕ)
     → ((at : ℕ) → from ≤ at → at < from + count → stands at ≡ None)
     → first_of stands count from ≡ None
@@ -39,7 +39,7 @@ first_of-none stands (suc n) from none =
     ∙ first_of-none stands n (from + 1)
     (λ at low high. none at (omega (arith, low)) (omega (arith, high)))
 
--- this is at an offset, and nothing at an earlier one
+-- this is at an offset, and there is nothing at an earlier one
 pub record IsFirstAt (stands : ℕ → Option PlacedFrame) (from to at : ℕ)
     (p : PlacedFrame) : Type 0 where
   pub low : from ≤ at
@@ -74,7 +74,7 @@ first_of-some stands zero from at p first = absurd (omega (arith, first.low, fir
 first_of-some stands (suc n) from at p first =
     first_cases stands n from at p (stands from) refl first (first_of-some stands n (from + 1) at p)
 
--- where nothing was found, there is nothing
+-- if nothing was found, there is nothing
 is_nothing : (stands : ℕ → Option PlacedFrame) (n from at : ℕ) (o : Option PlacedFrame)
     → stands from ≡ o
     → slice_get (cons_option o (filter_map stands (range_with_len (from + 1) n))) 0 ≡ None →
@@ -87,7 +87,7 @@ is_nothing stands n from at None is found behind (Some p) here low high =
     λ same. let some : stands from ≡ Some p = ap stands (sym same) ∙ here in absurd cc in
     behind found (omega (arith, low, contra)) (omega (arith, high))
 
--- where there is no first, nothing is at any offset
+-- if there is no first, there is nothing at any offset
 pub first_of-nothing : (stands : ℕ → Option PlacedFrame) (count from : ℕ)
     → first_of stands count from ≡ None → (at : ℕ) → from ≤ at → at < from + count
     → stands at ≡ None
@@ -185,13 +185,13 @@ pub first_anchored-none : (count : ℕ) (file : List ℕ) (from : ℕ)
 unfolding first_anchored
 first_anchored-none count file from none = first_of-none (anchored_frame file) count from none
 
--- the frame at the smallest offset of the range at
--- which there is an anchored one; none if there is none
+-- the frame at the smallest offset of the range at which there is an anchored one; none if there is
+-- none
 abbrev IsFirstAnchored : List ℕ → ℕ → ℕ → Option PlacedFrame → Type 0
 IsFirstAnchored file from to r = MatchOption r ((at : ℕ) → from ≤ at → at < to
     → is_anchored file at ≡ false) (λ p. IsLeastOffset (is_anchored file) from to p.offset)
 
--- and it is at the smallest offset
+-- the first anchored frame is at the smallest offset
 least_at : (file : List ℕ) (from to at : ℕ) (p : PlacedFrame)
     → IsFirstAt (anchored_frame file) from to at p → IsLeastOffset (is_anchored file) from to at
 least_at file from to at p first = (
@@ -213,7 +213,7 @@ first_anchored-least count file from (Some p) found =
     (sym (anchored_frame-is file first.0 p first.1.here).offset)
     (least_at file from (from + count) first.0 p first.1)
 
--- it is a whole frame of the stream
+-- the first anchored frame is a whole frame of the stream
 pub first_anchored-frame : (count : ℕ) (file : List ℕ) (from : ℕ) (p : PlacedFrame)
     → first_anchored count file from ≡ Some p → IsItemOf Stream file p.offset (Frame p.header)
 unfolding first_anchored
@@ -285,7 +285,7 @@ front_cases file at Free s e = absurd cc
 front_cases file at (Block b) s e = absurd cc
 front_cases file at _ s e = front_behind at _ s e
 
--- the start has where the front of the file ends
+-- the start says where the front of the file ends
 pub start-front : (file : List ℕ) (s : Start) → start_of file ≡ Ok s
     → s.front_end ≡ front_end_of file
 unfolding start_of
@@ -303,13 +303,13 @@ module _ (file : List ℕ) (at : ℕ) (front : List ℕ) (left : ℕ)
       ∙ ap (λ b. cond b (Some (record { offset = at; header = h })) None) (without h refl)
   none_by _ is without = ap (anchored_item file at) is
 
-  -- no frame is here
+  -- if no frame is here, none is anchored
   pub shown_none : (item : Item) → item ≡ item_front front
       → ((h : HeaderFields) → item ≡ Frame h → ⊥) → anchored_frame file at ≡ None
   shown_none item is none = none_by item (sym (item_at-shown file at front left shows) ∙ sym is)
       (λ h e. absurd (none h e))
 
-  -- one that isn't whole
+  -- a frame that isn't whole isn't anchored
   pub shown_over : (h : HeaderFields) → item_front front ≡ Frame h
       → left < length_of (class_of h) h.slot → anchored_frame file at ≡ None
   shown_over h is past =
@@ -320,7 +320,7 @@ module _ (file : List ℕ) (at : ℕ) (front : List ℕ) (left : ℕ)
       subst (λ x. has_anchor file at x ≡ false) same (ap (λ b. b
       && is_anchor (class_of h) (item_at file (at + length_of (class_of h) h.slot))) over))
 
-  -- one with this after it
+  -- a whole frame with this item after it
   anchor_by : (h : HeaderFields) (behind : Item) → length_of (class_of h) h.slot ≤ left
       → length_of (class_of h) h.slot ≤ 4064
       → behind ≡ item_front (drop (length_of (class_of h) h.slot) front)
@@ -332,7 +332,7 @@ module _ (file : List ℕ) (at : ℕ) (front : List ℕ) (left : ℕ)
       ap (λ b. b && is_anchor (class_of h) (item_at file (at + size))) fit
       ∙ ap (is_anchor (class_of h)) (sym (is ∙ item_at-behind file at front left shows size few))
 
-  -- a frame without an anchor behind it isn't anchored
+  -- a frame without an anchor after it isn't anchored
   pub shown_apart : (h : HeaderFields) (behind : Item) → item_front front ≡ Frame h
       → length_of (class_of h) h.slot ≤ left → length_of (class_of h) h.slot ≤ 4064
       → behind ≡ item_front (drop (length_of (class_of h) h.slot) front)
@@ -342,7 +342,7 @@ module _ (file : List ℕ) (at : ℕ) (front : List ℕ) (left : ℕ)
       let same : h ≡ g = cc in
       subst (λ x. has_anchor file at x ≡ false) same (anchor_by h behind within few end ∙ apart))
 
-  -- with one it is
+  -- a frame with an anchor after it is anchored
   pub shown_anchored : (h : HeaderFields) (behind : Item) → item_front front ≡ Frame h
       → length_of (class_of h) h.slot ≤ left → length_of (class_of h) h.slot ≤ 4064
       → behind ≡ item_front (drop (length_of (class_of h) h.slot) front)
@@ -379,7 +379,7 @@ none_anchored file size from to is end none =
     first_anchored-none longest_junk file from (λ at low high. none_by_end file from to at none low
     (λ behind. omega (arith, is, end, behind, high)) (leb to at) refl)
 
--- ---- the start, by what is where the front ends
+-- ---- the start, given what is where the front ends
 
 -- the start of a file is found from the item with which its front ends
 pub start_is : (file : List ℕ) (at : ℕ) (item : Item) → at ≡ front_end_of file

@@ -1,4 +1,4 @@
--- One item more is judged and kept.
+-- One more item is judged and kept.
 use Rattle.std.proofs.Common.{ap, append-nil, ap₂, arith, drop, Err, false, inl, inr, length}
 use Rattle.std.proofs.Common.{length-append, List, min, None, Option, option_to_list, refl, Some}
 use Rattle.std.proofs.Common.{subst, sym, ℕ, [], ◌++◌, ◌+◌, ◌<◌, ◌==◌, ◌∙◌, ◌∷◌, ◌≡◌, ◌≤◌}
@@ -39,12 +39,12 @@ pub item_header : (front : List ℕ) (item : Item) → item ≡ item_front front
 item_header front item is h frame =
     header_front-in_range front h (subst (IsItemFront front) (sym is ∙ frame) (stands front))
 
--- what is before its area is within the frame
+-- what precedes a frame's area is within the frame
 pub overhead_few : (front : List ℕ) (item : Item) (h : HeaderFields) → item ≡ item_front front
     → item ≡ Frame h → overhead_of (class_of h) h.protected ≤ length_of (class_of h) h.slot
 overhead_few front item h is frame = overhead-within h (item_header front item is h frame)
 
--- a look at the file shows all that is before the area
+-- a look at the file shows all that precedes the area
 pub shown_room : (front : List ℕ) (item : Item) (h : HeaderFields) (size left : ℕ) → item
     ≡ item_front front → item ≡ Frame h → size_of item ≤ 1441 → size_of item ≤ size → size ≤ left
     → length front ≡ min look_size left → overhead_of (class_of h) h.protected ≤ length front
@@ -55,7 +55,7 @@ shown_room front item h size left is frame few least within many =
 
 module _ (file : List ℕ) (at : ℕ) (front : List ℕ) (left : ℕ) (shows : Shows file at front left)
     (h : HeaderFields) (few : overhead_of (class_of h) h.protected ≤ look_size) where
-  -- the row of a frame that is read from a look is that of the file
+  -- the row of a frame that is read from a look is the row of the file
   pub row_shown : row_in at h front ≡ row_of file (record { offset = at; header = h })
   row_shown = ap (λ s. record { offset = at; header = h; side = s; lost = false })
       (ap (side_in h) shows.front_is ∙ side_in-take h look_size (drop at file) few)
@@ -70,7 +70,7 @@ module _ (file : List ℕ) (at : ℕ) (front : List ℕ) (left : ℕ) (shows : S
   faults_shown class allowed place ended count = ap₂
       (λ said r. first_of (faults_at said class allowed place ended count r)) word_shown row_shown
 
--- ---- one item more
+-- ---- one more item
 
 abbrev few_before : Item → Type 0
 few_before (Frame h) = overhead_of (class_of h) h.protected ≤ look_size
@@ -129,7 +129,7 @@ module _ (file : List ℕ) (start : Start) (head : Option Head) (allowed : ℕ) 
       (passed_zeros file start head allowed frames
       old.pieces.items old.before.place old.before.ended at so_far.surveyed size passes))
 
-  -- the frame is kept with the mark of its number
+  -- the frame is kept with the mark that its number gives
   mark_is : (r : Row) → record r { lost = lacks_data old.before.place old.before.ended r }
       ≡ marked_row head frames (length frames) r
   mark_is r = ap₂ (λ m n. record r { lost = lacks_data m n r })
@@ -159,7 +159,7 @@ module _ (file : List ℕ) (start : Start) (head : Option Head) (allowed : ℕ) 
       keeps.place
       (keeps.ended ∙ ap (λ r. data_end_after old.before.place old.before.ended (Some r)) row))
 
-  -- what is neither a frame nor a block is passed as a zero byte is
+  -- what is neither a frame nor a block is passed like a zero byte
   as_zero : (item : Item) (size : ℕ) → Passes Stream file at item size → frame_of_item at item
       ≡ None → block_of_item at item ≡ None → Passes Stream file at Zero size
   as_zero item size passes no_frame no_block = record {
@@ -216,7 +216,7 @@ fault_rightly class allowed at _ front old fault is = absurd is
 
 -- ---- where frames and blocks are
 
--- one frame more is behind those before it
+-- one more frame follows those before it
 pub laid_push : (from : ℕ) (rows : List Row) (to later : ℕ) (r : Row) → FramesAreLaid from rows to
     → SideFits (class_of r.header) r.side → to ≤ r.offset
     → r.offset + length_of (class_of r.header) r.header.slot ≤ later
@@ -244,7 +244,7 @@ pub area_within : (h : HeaderFields) → own_area h ≤ length_of (class_of h) h
 unfolding area_of
 area_within h = omega arith
 
--- what is known of the frames and blocks, whatever is told of the file
+-- what is known of the frames and blocks, whatever is known of the file
 pub record IsLaidTo (head : Option Head) (class : ClassFields) (first : ℕ) (found : SurveySoFar)
     (at : ℕ) : Type 0 where
   pub rows : FramesAreLaid first found.rows.items at
@@ -267,7 +267,7 @@ module _ (head : Option Head) (first : ℕ) (class : ClassFields) (allowed at : 
         old.rows.items new.rows.items old.before new.before keeps.rows keeps.before laid.placed;
   }
 
-  -- and what is kept is behind what was there before
+  -- what is kept follows what was there before
   pub laid_more : (item : Item) → ((h : HeaderFields) → item ≡ Frame h → IsHeader h) → size_of item
       ≤ size → KeepsItem class allowed at item front old new
       → IsLaidTo head class first new (at + size)

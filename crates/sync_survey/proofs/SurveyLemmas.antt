@@ -17,9 +17,9 @@ use Rattle.sync_survey.specs.{Walk.walk_from, declared.places.{Head.Head, Piece.
 use Rattle.sync_survey.specs.declared.places.{PlacedFrame.PlacedFrame, Start.Start}
 use Rattle.sync_survey.specs.declared.survey_fault.SurveyFault.{SurveyFault}
 
--- ---- a frame is longer than what is before its area
+-- ---- a frame is longer than what precedes its area
 
--- what is before the area is within the frame
+-- what precedes a frame's area is within the frame
 pub overhead-within : (h : HeaderFields) → IsHeader h
     → overhead_of (class_of h) h.protected ≤ length_of (class_of h) h.slot
 overhead-within h fields = omega (
@@ -30,7 +30,7 @@ overhead-within h fields = omega (
 
 -- ---- the survey
 
--- what a survey tells that found these frames and blocks
+-- what a survey that found these frames and blocks says
 abbrev pub told_by : List ℕ → Start → Option Head → List Row → List Piece → SurveyFields
 told_by file start head rows blocks = record {
   frames = marked_rows head rows;
@@ -69,7 +69,7 @@ module _ (file : List ℕ) (allowed : ℕ) (start : Start) (head : Option Head)
   fields-are = ap (λ w. told_by file start w.head (rows_of file w.frames) w.blocks)
       (walk-is file start head frames blocks stop found)
 
-  -- a frame is at fault
+  -- if a frame is at fault, its first fault is the file's
   pub survey-frame : (fault : SurveyFault) → first_of of_frames ≡ Some fault
       → survey_fields file allowed ≡ Err fault
   survey-frame fault is =
@@ -83,14 +83,15 @@ module _ (file : List ℕ) (allowed : ℕ) (start : Start) (head : Option Head)
       ap first_of (faults-are ∙ ap₂ (λ (xs : List SurveyFault) (e : Option SurveyFault). xs
       ++ option_to_list e) (none-of of_frames none) is)
 
-  -- the walk stops before the end, or has no frame
+  -- if no frame is at fault, but the walk stops before the end or has no frame, that is the file's
+  -- fault
   pub survey-stopped : (fault : SurveyFault) → first_of of_frames ≡ None → end ≡ Some fault
       → survey_fields file allowed ≡ Err fault
   survey-stopped fault none is =
       survey-by file allowed (Ok start) found.start_is
       ∙ ap (λ o. fault_or_survey o (fields_from file start)) (last-fault none (Some fault) is)
 
-  -- nothing is at fault
+  -- if nothing is at fault, the file has this survey
   pub survey-whole : first_of of_frames ≡ None → end ≡ None → survey_fields file allowed ≡ Ok fields
   survey-whole none is =
       survey-by file allowed (Ok start) found.start_is
@@ -98,7 +99,7 @@ module _ (file : List ℕ) (allowed : ℕ) (start : Start) (head : Option Head)
 
 -- ---- what a survey says of its file
 
--- the start of the stream, and that nothing is at fault
+-- the start of the stream, and that there is no fault
 pub record IsSurveyed (file : List ℕ) (allowed : ℕ) (s : SurveyFields) : Type 0 where
   pub start : Start
   pub begins : start_of file ≡ Ok start
@@ -118,7 +119,7 @@ start_cases file allowed s (Err fault) begins e = absurd cc
 start_cases file allowed s (Ok start) begins e =
     fields_cases file allowed start s (first_of (faults_from file allowed start)) begins refl e
 
--- a survey without fault has a start, and nothing at fault
+-- a survey without fault has a start, and no fault from there on
 pub surveyed-is : (file : List ℕ) (allowed : ℕ) (s : SurveyFields)
     → survey_fields file allowed ≡ Ok s → IsSurveyed file allowed s
 unfolding survey_fields
@@ -130,7 +131,7 @@ last_none [] None e = refl
 last_none [] (Some fault) e = absurd cc
 last_none (x ∷ xs) o e = absurd cc
 
--- the frames and the head that the survey tells are those of the walk, which goes to the file's end
+-- the frames and the head of the survey are those of the walk, which reaches the file's end
 pub record IsWalked (file : List ℕ) (s : SurveyFields) (start : Start) : Type 0 where
   pub head_is : s.head ≡ head_of file start.first
   pub frames_are : s.frames
@@ -161,7 +162,7 @@ end_none : (file : List ℕ) (allowed : ℕ) (start : Start)
 unfolding faults_from
 end_none file allowed start none = last_none _ _ none
 
--- its frames and head are those of the walk
+-- the frames and the head of a survey without fault are those of the walk
 pub walked : (file : List ℕ) (allowed : ℕ) (s : SurveyFields) (is : IsSurveyed file allowed s)
     → IsWalked file s is.start
 walked file allowed s is = subst (λ t. IsWalked file t is.start) is.fields_are

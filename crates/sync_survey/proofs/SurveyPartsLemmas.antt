@@ -1,5 +1,5 @@
--- What a survey without fault says of a file: where its
--- stream starts, and that nothing is at fault from there on.
+-- What a survey without fault says of a file: where its stream starts, and that nothing is at fault
+-- from there on.
 use Rattle.std.proofs.Common.{ap, ap₂, arith, Bool, cond, drop, false, flat_map, length, List, None}
 use Rattle.std.proofs.Common.{not, Ok, Option, option_to_list, refl, slice_get, Some, suc, sym}
 use Rattle.std.proofs.Common.{true, zero, zero-add, ℕ, [], ◌++◌, ◌+◌, ◌<◌, ◌==◌, ◌∙◌, ◌∷◌, ◌≡◌, ◌≤◌}
@@ -25,7 +25,7 @@ use Rattle.sync_survey.specs.declared.places.{PlacedFrame.PlacedFrame, Start.Sta
 use Rattle.sync_survey.specs.declared.runs.Region.TheVariants.{Stream}
 use Rattle.sync_survey.specs.declared.survey_fault.SurveyFault.{SurveyFault}
 
--- ---- a survey by its start
+-- ---- a survey, given its start
 
 -- the frames that are numbered in a file with this start
 abbrev pub frames_from : List ℕ → Start → List PlacedFrame
@@ -45,7 +45,7 @@ pub record IsRead (file : List ℕ) (allowed : ℕ) (start : Start) : Type 0 whe
   pub end : end_fault file (frames_from file start)
       (fault_at (stream_run file start).stop (item_at file (stream_run file start).stop)) ≡ None
 
--- a file without fault has the survey that its start tells
+-- a file without fault has the survey that its start gives
 pub surveyed-told : (file : List ℕ) (allowed : ℕ) (start : Start) → IsRead file allowed start
     → survey_fields file allowed ≡ Ok (told_from file start)
 surveyed-told file allowed start read =
@@ -79,7 +79,7 @@ is_read file allowed start is none =
     let parts = empty_parts _ _ none in
     record { start_is = is; frames = parts.0; end = no_last _ parts.1 }
 
--- what a survey says
+-- a survey without fault has a start and is the survey that this gives
 pub surveyed-parts : (file : List ℕ) (allowed : ℕ) (s : SurveyFields)
     → survey_fields file allowed ≡ Ok s
     → (start : Start) × IsRead file allowed start × (told_from file start ≡ s)
@@ -108,8 +108,8 @@ pub record StandWell (place ended : ℕ) (r : Row) : Type 0 where
   pub apart : overlaps place ended r ≡ false
   pub within : overruns place r ≡ false
 
--- it is of the class, its check word is right, its main data
--- are where they may or it is lost, and it isn't one too many
+-- the frame is of the class, its check word is right, its main data are where they may be or it is
+-- lost, and it isn't one too many
 pub record IsSound (said : ℕ) (class : ClassFields) (allowed place ended count : ℕ)
     (r : Row) : Type 0 where
   pub same : not (same_class (class_of r.header) class) ≡ false
@@ -170,7 +170,7 @@ module _ (said : ℕ) (class : ClassFields) (allowed place ended count : ℕ) (r
       (λ is. well-no_own place ended r (sound.main is))))
       (nothing_false _ _ sound.few)
 
-  -- nor is its main data at fault
+  -- the main data of a sound frame have no fault
   pub sound-no_data : IsSound said class allowed place ended count r
       → data_faults place ended r ≡ []
   sound-no_data sound =
@@ -190,12 +190,12 @@ abbrev pub IsSoundAt : List ℕ → Option Head → ClassFields → ℕ → List
 IsSoundAt file head class allowed rows i r = IsSound (stored_crc (drop r.offset file)) class allowed
     (place head rows i) (data_end_before head rows i) i r
 
--- so is each
+-- each of these frames is without fault
 abbrev pub AreSound : List ℕ → Option Head → ClassFields → ℕ → List Row → Type 0
 AreSound file head class allowed rows =
     (i : ℕ) (r : Row) → slice_get rows i ≡ Some r → IsSoundAt file head class allowed rows i r
 
--- what is made of each in turn is nothing
+-- if the lists made of all of these are empty, each of them is
 none_each : (each : ℕ → Row → List SurveyFault) (n : ℕ) (rows : List Row)
     → flat_map (λ (p : ℕ × Row). each p.0 p.1) (enumerate_from n rows) ≡ [] → (i : ℕ) (r : Row)
     → slice_get rows i ≡ Some r → each (n + i) r ≡ []
@@ -238,7 +238,7 @@ module _ (file : List ℕ) (head : Option Head) (class : ClassFields) (allowed :
 
 -- ---- however many frames are allowed
 
--- sound frames are so with any allowed number that isn't below their own
+-- sound frames are sound for any allowed number that isn't below their own
 pub sound_allowed : (file : List ℕ) (head : Option Head) (class : ClassFields) (allowed other : ℕ)
     (rows : List Row) → length rows ≤ other → AreSound file head class allowed rows
     → AreSound file head class other rows
@@ -272,8 +272,8 @@ numbered-few file start is =
       ends-within Stream file first stream.items stream.stop ends (omega (arith, frame.within)),
     )
 
--- a file without fault has none whatever number of
--- frames, greater than that of its bytes, is allowed
+-- a file without fault has none if any number of frames greater than the number of its bytes is
+-- allowed
 pub surveyed-allowed : (file : List ℕ) (allowed other : ℕ) (s : SurveyFields) → length file < other
     → survey_fields file allowed ≡ Ok s → survey_fields file other ≡ Ok s
 surveyed-allowed file allowed other s many e =
@@ -292,7 +292,7 @@ surveyed-allowed file allowed other s many e =
     })
     ∙ ap Ok parts.2
 
--- a file without fault is well-formed, and holds the stream that its survey tells
+-- a file without fault is well-formed, and holds the stream that its survey gives
 pub surveyed-stream : (file : List ℕ) (allowed : ℕ) (s : SurveyFields)
     → survey_fields file allowed ≡ Ok s → HoldsStream file (stream_of_survey file s)
 unfolding stream_of
@@ -308,7 +308,7 @@ some_frames file (p ∷ ps) o e = omega arith
 some_frames file [] None e = absurd cc
 some_frames file [] (Some fault) e = absurd cc
 
--- its stream has as many frames as its survey
+-- the stream of a survey has as many frames as the survey
 pub stream-length : (file : List ℕ) (s : SurveyFields)
     → length (stream_of_survey file s) ≡ length s.frames
 unfolding stream_of_survey stream_frames

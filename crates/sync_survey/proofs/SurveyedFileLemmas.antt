@@ -19,7 +19,7 @@ unfolding survey_of
 survey_of-parts file allowed s e =
     long_cases (ltb longest_file (length file)) file (survey_fields file allowed) _ s refl e
 
--- so it is well-formed
+-- a surveyed file is well-formed
 pub survey_of-sound : (file : List ℕ) (allowed : ℕ) (s : SurveyFields)
     → survey_of file allowed ≡ Ok s → IsWellFormed file
 survey_of-sound file allowed s e = (

@@ -96,7 +96,7 @@ at_end : (rest : List ℕ) (at : ℕ) (item : Item) → IsItemFront rest item �
 at_end rest at End here e = here
 at_end rest at _ here e = absurd cc
 
--- a file without a fault at its end has none where the walk stops
+-- a file without fault at its end has none where the walk stops
 pub no_fault : (file : List ℕ) (frames : List PlacedFrame) (o : Option SurveyFault)
     → end_fault file frames o ≡ None → o ≡ None
 no_fault file frames None e = refl
@@ -113,19 +113,19 @@ pub stop_is : (bytes : List ℕ) (at : ℕ) (r d : SurveyFault) → 0 < length b
     → r ≡ unwrap_or (fault_at at (item_front bytes)) d → fault_at at (item_front bytes) ≡ Some r
 stop_is bytes at r d some is = stop_by bytes at (item_front bytes) r d (stands bytes) some is
 
--- where nothing is at fault, nothing is left
+-- if nothing is at fault, nothing is left
 pub nothing_left : (file : List ℕ) (stop : ℕ) → fault_at stop (item_at file stop) ≡ None
     → drop stop file ≡ []
 nothing_left file stop none = at_end (drop stop file) stop (item_at file stop)
     (stands-at file stop (item_at file stop) refl) none
 
--- the items from the first frame on, one after the
--- other, are the file's bytes from there to this offset
+-- the items from the first frame on, joined in order, are the file's bytes from there to this
+-- offset
 abbrev pub ReachesTo : List ℕ → Start → ℕ → Type 0
 ReachesTo file start to =
     bytes_of_items file (stream_run file start).items ++ drop to file ≡ drop start.first.offset file
 
--- where nothing is at fault, they reach to the end of the file
+-- if nothing is at fault, they reach to the end of the file
 pub reach-end : (file : List ℕ) (start : Start) (frames : List PlacedFrame) (stop : ℕ)
     → stop ≡ (stream_run file start).stop
     → end_fault file frames (fault_at stop (item_at file stop)) ≡ None

@@ -1,6 +1,6 @@
--- Frames that are lost when the head is set apart. By the standard the head's area is main
--- data as every other area is (main_data_begin, ISO/IEC 11172-3 and 13818-3, 2.4.2.7). But
--- players leave the head out, so none of them has main data that begin in it.
+-- Frames that are lost when the head is set apart. By the standard the head's area is main data
+-- like every other area (main_data_begin, ISO/IEC 11172-3 and 13818-3, 2.4.2.7), but players leave
+-- the head out, so they have no main data that begin in it.
 use Rattle.std.specs.List.{enumerate_from}
 use Rattle.std.specs.Prelude.{false, if◌then◌else◌, List, map, None, Option, Some, ℕ, ◌||◌}
 use Rattle.side_info.specs.Side.{no_side}
@@ -13,11 +13,11 @@ use Rattle.sync_survey.specs.declared.places.Head.{Head}
 abbrev pub apart_row : List Row → ℕ → Row → Row
 apart_row rows i r = record r { lost = r.lost || is_lost None rows i r }
 
--- all frames
+-- all frames, each marked as lost also if it is lost without a head
 unfoldable pub apart_rows : List Row → List Row
 apart_rows rows = map (λ (p : ℕ × Row). apart_row rows p.0 p.1) (enumerate_from 0 rows)
 
--- without a head all stay
+-- the frames once the head is set apart; without a head they are unchanged
 abbrev pub rows_set_apart : Option Head → List Row → List Row
 rows_set_apart None rows = rows
 rows_set_apart (Some head) rows = apart_rows rows
@@ -28,7 +28,7 @@ head_apart s = record s { frames = rows_set_apart s.head s.frames }
 
 -- ---- the frames as they are written
 
--- a lost frame as one without main data, with side information that is all 0
+-- a frame, which, if it is lost, becomes one without main data, with side information that is all 0
 abbrev pub emptied_row : Row → Row
 emptied_row r = if r.lost then record r { side = no_side; lost = false } else r
 

@@ -16,8 +16,8 @@ use Rattle.sync_survey.specs.declared.{places.Start.Start, runs.Region.Region}
 abbrev pub OneItemStands : Type 0
 OneItemStands = (bytes : List ℕ) (item : Item) → IsItemFront bytes item ↔ (item ≡ item_front bytes)
 
--- The items of a run are whole and follow end to end, and none is after them; with the
--- bytes after them they are the file's bytes; and no other items of the part are so.
+-- The items of a run are whole and follow end to end, and none is after them; with the bytes after
+-- them they are the file's bytes; and they are the only such items of the part.
 pub record IsOnlyRun (part : Region) (file : List ℕ) (from : ℕ) : Type 0 where
   pub items : AreEndToEnd part file from
       (item_run part file from).items (item_run part file from).stop
@@ -29,18 +29,18 @@ pub record IsOnlyRun (part : Region) (file : List ℕ) (from : ℕ) : Type 0 whe
       → whole_item_at part file stop ≡ None
       → item_run part file from ≡ record { items = others; stop = stop }
 
--- so is every run
+-- this holds for every run
 abbrev pub RunsAreOnly : Type 0
 RunsAreOnly = (part : Region) (file : List ℕ) (from : ℕ) → IsOnlyRun part file from
 
--- The first frame of a stream is whole. It is where the front ends, or
--- after junk at the smallest offset at which an anchored frame begins.
+-- The first frame of a stream is whole. It is where the front ends, or, after junk, at the smallest
+-- offset at which an anchored frame begins.
 pub record IsFirstOfStream (file : List ℕ) (start : Start) : Type 0 where
   pub item : item_at file start.first.offset ≡ Frame start.first.header
   pub whole : start.first.offset + size_of (Frame start.first.header) ≤ length file
   pub least : IsLeastStart file start
 
--- so is the start of every file
+-- this holds for the start of every file
 abbrev pub StartsAreLeast : Type 0
 StartsAreLeast =
     (file : List ℕ) (start : Start) → start_of file ≡ Ok start → IsFirstOfStream file start
@@ -50,15 +50,15 @@ abbrev pub AreSilentOrLost : Option Head → List Row → ℕ → Type 0
 AreSilentOrLost head rows i = (j : ℕ) (q : Row) → j < i → slice_get rows j ≡ Some q
     → (is_silent q ≡ true) ⊎ (is_lost head rows j q ≡ true)
 
--- lost are exactly the frames whose main data begin before the
--- stream and before which there are only silent and lost frames
+-- the lost frames are exactly those whose main data begin before the stream and that have only
+-- silent and lost frames before them
 abbrev pub LostFramesLead : Type 0
 LostFramesLead =
     (head : Option Head) (rows : List Row) (i : ℕ) (r : Row) → (is_lost head rows i r ≡ true)
     ↔ ((points_too_far (place head rows i) r ≡ true) × AreSilentOrLost head rows i)
 
--- a file without fault holds the stream that its survey tells,
--- and is well-formed whatever number of frames was allowed
+-- a file without fault holds the stream that its survey gives, and is well-formed whatever number
+-- of frames was allowed
 abbrev pub SurveysHoldStreams : Type 0
 SurveysHoldStreams = (file : List ℕ) (allowed : ℕ) (s : SurveyFields)
     → survey_fields file allowed ≡ Ok s → HoldsStream file (stream_of_survey file s)
@@ -68,33 +68,34 @@ abbrev pub SurveysArePlaced : Type 0
 SurveysArePlaced = (file : List ℕ) (allowed : ℕ) (s : SurveyFields)
     → survey_fields file allowed ≡ Ok s → AreWellPlaced s.head s.class s.frames
 
--- In a file without fault a frame whose main_data_begin is greater than the sum
--- of the areas of the frames before it, the head's left out, is lost where the
--- head is set apart: every frame before it is silent or lost in this sense.
+-- In a file without fault, a frame whose main_data_begin is greater than the sum of the areas of
+-- the frames before it, not counting the head's, is lost when the head is set apart: every frame
+-- before it is silent or lost in this sense.
 abbrev pub ApartFramesLead : Type 0
 ApartFramesLead =
     (head : Option Head) (class : ClassFields) (rows : List Row) → AreWellPlaced head class rows
     → (i : ℕ) (r : Row) → slice_get rows i ≡ Some r → points_too_far (place None rows i) r ≡ true
     → (is_lost None rows i r ≡ true) × AreSilentOrLost None rows i
 
--- where the head of a file without fault is set apart, the main data of the
--- frames are where they may be in a file of the same frames without a head
+-- when the head of a file without fault is set apart, the main data of the frames are where they
+-- may be in a file of the same frames without a head
 abbrev pub HeadsApartArePlaced : Type 0
 HeadsApartArePlaced = (head : Option Head) (class : ClassFields) (rows : List Row)
     → AreWellPlaced head class rows → AreWellPlaced None class (rows_set_apart head rows)
 
--- with lost frames as empty ones they are where they may be in
--- a file with the head, too, and all else is laid out as it was
+-- when the head is set apart and lost frames are empty ones, the main data are also where they may
+-- be in a file with the head, and all else is laid out as it was
 abbrev pub HeadsApartAreLaid : Type 0
 HeadsApartAreLaid =
     (s : SurveyFields) → IsSurveyLaidOut s → IsSurveyLaidOut (emptied_survey (head_apart s))
 
--- the main data of each frame begin within the areas of the frames before it, the head's left out
+-- the main data of each frame begin within the areas of the frames before it, not counting the
+-- head's
 abbrev pub AreNear : List Row → Type 0
 AreNear rows =
     (i : ℕ) (r : Row) → slice_get rows i ≡ Some r → r.side.main_data_begin ≤ place None rows i
 
--- then no frame is lost where the head is set apart
+-- if they do, no frame is lost when the head is set apart
 abbrev pub NearFramesStay : Type 0
 NearFramesStay =
     (head : Option Head) (rows : List Row) → AreNear rows → rows_set_apart head rows ≡ rows

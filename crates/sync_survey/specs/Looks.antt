@@ -17,18 +17,18 @@ use Rattle.sync_survey.specs.declared.{rows.ReservoirState.ReservoirState, runs.
 use Rattle.sync_survey.specs.declared.runs.{Region.TheVariants.Stream, Step.Step}
 use Rattle.sync_survey.specs.declared.survey_fault.SurveyFault.{SurveyFault, TheVariants.Memory}
 
--- how many bytes a look shows, 4,096 if the file has them: more than a frame and the 32 bytes after
--- it, by which the next item is known
+-- how many bytes a look shows: 4,096 if the file has them, which is more than a frame and the 32
+-- bytes after it that decide the next item
 abbrev pub look_size : ℕ
 look_size = 4096
 
--- a look at an offset of the file shows these bytes, and so many are left there
+-- a look at an offset of the file shows these bytes, and `left` bytes are left there
 pub record Shows (file : List ℕ) (at : ℕ) (front : List ℕ) (left : ℕ) : Type 0 where
   pub front_is : front ≡ take look_size (drop at file)
   pub left_is : left ≡ length file - at
 
--- the items of the part that follow end to end from the offset on are
--- this one and those so many bytes later, except zero bytes between them
+-- the items of the part that follow end to end from the offset on are this one and those from
+-- `size` bytes later on, except for zero bytes between them
 pub record Passes (part : Region) (file : List ℕ) (at : ℕ) (item : Item) (size : ℕ) : Type 0 where
   pub frames : frames_of (item_run part file at).items
       ≡ option_to_list (frame_of_item at item) ++ frames_of (item_run part file (at + size)).items
@@ -36,9 +36,9 @@ pub record Passes (part : Region) (file : List ℕ) (at : ℕ) (item : Item) (si
       ≡ option_to_list (block_of_item at item) ++ blocks_of (item_run part file (at + size)).items
   pub stop : (item_run part file at).stop ≡ (item_run part file (at + size)).stop
 
--- An item that is passed, by the bytes of a look and how many are left: it
--- is the one with which they begin, and is whole. The bytes that are passed
--- with it are its own, or after a zero byte all zero bytes that were seen.
+-- An item that is passed, given the bytes of a look and how many are left: it is the one with which
+-- they begin, and is whole. The bytes that are passed with it are its own, or for a zero byte all
+-- zero bytes that were seen.
 pub record PassesFront (front : List ℕ) (left : ℕ) (step : Step) : Type 0 where
   pub item : step.item ≡ item_front front
   pub zeros : step.item ≡ Zero → step.size ≡ prefix_len (λ b. b == 0) front
@@ -48,7 +48,7 @@ pub record PassesFront (front : List ℕ) (left : ℕ) (step : Step) : Type 0 wh
   pub some : 0 < step.size
   pub within : step.size ≤ left
 
--- this is passed at the offset, or no whole item of the part is there
+-- this step is passed at the offset, or no whole item of the part is there
 abbrev pub IsStep : Region → List ℕ → ℕ → Option Step → Type 0
 IsStep part file at None = whole_item_at part file at ≡ None
 IsStep part file at (Some step) = Passes part file at step.item step.size
@@ -59,19 +59,19 @@ IsStep part file at (Some step) = Passes part file at step.item step.size
 abbrev pub ReachArea : HeaderFields → List ℕ → Type 0
 ReachArea h bytes = overhead_of (class_of h) h.protected ≤ length bytes
 
--- the first fault of its main data
+-- the first fault of a frame's main data
 abbrev pub data_fault : ReservoirState → Row → Option SurveyFault
 data_fault b r = first_of (data_faults b.place b.ended r)
 
--- the first fault of a frame of the class, by its bytes and how many frames are before it
+-- the first fault of a frame of the class, given its bytes and how many frames are before it
 abbrev pub frame_fault : List ℕ → ℕ → ReservoirState → ℕ → Row → Option SurveyFault
 frame_fault bytes allowed b count r =
     first_of (later_faults (stored_crc bytes) allowed b.place b.ended count r)
 
 -- ---- what is kept of an item
 
--- what is known after a frame without fault, by the place of its own area and where
--- the main data before it end: whether it is lost, and the areas before the next frame
+-- what is known after a frame without fault, given the place of its own area and where the main
+-- data before it end: whether it is lost, and the areas before the next frame
 pub record IsJudgedFrame (place_now ended_now : ℕ) (r : Row) (b : JudgedFrame) : Type 0 where
   pub lost : b.lost ≡ lacks_data place_now ended_now r
   pub place : b.before.place ≡ place_now + own_area r.header
@@ -95,7 +95,7 @@ pub record KeepsBlocks (blocks : List Piece) (old new : SurveySoFar) : Type 0 wh
   pub pieces : new.pieces.items ≡ old.pieces.items ++ blocks
   pub before : new.before ≡ old.before
 
--- what is kept of an item at an offset, by the bytes from there on
+-- what is kept of an item at an offset, given the bytes from there on
 abbrev pub KeepsItem : ClassFields → ℕ → ℕ → Item → List ℕ → SurveySoFar → SurveySoFar → Type 0
 KeepsItem class allowed offset (Frame h) bytes old new =
     KeepsFrame (stored_crc bytes) class allowed (row_in offset h bytes) old new
@@ -112,8 +112,8 @@ IsFrameFault class allowed offset _ bytes old fault = ⊥
 
 -- ---- an item that is passed
 
--- A whole item is passed, by the bytes of a look and how many are left: so
--- many bytes, and it is kept if it is a frame without fault or a block.
+-- A whole item is passed, given the bytes of a look and how many are left: `size` bytes, and it is
+-- kept if it is a frame without fault or a block.
 pub record PassesItem (class : ClassFields) (allowed offset : ℕ) (bytes : List ℕ) (left : ℕ)
     (old new : SurveySoFar) (size : ℕ) : Type 0 where
   pub passes : (file : List ℕ) → Shows file offset bytes left
@@ -121,7 +121,7 @@ pub record PassesItem (class : ClassFields) (allowed offset : ℕ) (bytes : List
   pub front : PassesFront bytes left (record { item = item_front bytes; size = size })
   pub keeps : KeepsItem class allowed offset (item_front bytes) bytes old new
 
--- a frame is passed that has a fault
+-- a frame that has a fault is passed
 pub record PassesFault (class : ClassFields) (allowed offset : ℕ) (bytes : List ℕ) (left : ℕ)
     (old : SurveySoFar) (fault : SurveyFault) : Type 0 where
   pub size : ℕ

@@ -1,7 +1,7 @@
--- Where the main data of the frames are in the file (main_data_begin, ISO/IEC
--- 11172-3 and 13818-3, 2.4.2.7). The areas of the head and of all frames, one
--- after the other, are the main data of the file. A frame's own begin as many
--- bytes before its own area as its main_data_begin says, counted in areas alone.
+-- Where the main data of the frames are in the file (main_data_begin, ISO/IEC 11172-3 and 13818-3,
+-- 2.4.2.7). The areas of the head and of all frames, joined in order, are the main data of the
+-- file. A frame's own main data begin main_data_begin bytes before its own area, counting bytes of
+-- areas alone.
 use Rattle.std.specs.List.{enumerate_from}
 use Rattle.std.specs.Prelude.{Bool, drop, false, flat_map, if◌then◌else◌, List, map, nat_lt, None}
 use Rattle.std.specs.Prelude.{Option, slice_get, Some, suc, sum_by, take, zero, ℕ, [], ◌&&◌, ◌*◌}
@@ -15,12 +15,12 @@ use Rattle.sync_survey.specs.{Row.Row, declared.places.{Head.Head, PlacedFrame.P
 
 -- ---- frames with their side information
 
--- a frame with the side information that is in these bytes, the first of which are
--- the frame's; whether it is lost depends on the frames before it (`marked_rows` below)
+-- a frame with the side information in these bytes, which begin with the frame's own; whether it is
+-- lost depends on the frames before it (`marked_rows` below)
 abbrev pub row_in : ℕ → HeaderFields → List ℕ → Row
 row_in offset h bytes = record { offset = offset; header = h; side = side_in h bytes; lost = false }
 
--- a frame of the file with the side information that is in it
+-- a frame of the file with its side information
 abbrev pub row_of : List ℕ → PlacedFrame → Row
 row_of file p = row_in p.offset p.header (drop p.offset file)
 
@@ -34,21 +34,21 @@ rows_of file ps = map (row_of file) ps
 abbrev pub own_area : HeaderFields → ℕ
 own_area h = area_of (class_of h) h.slot h.protected
 
--- the length in bytes of the head's area, 0 without a head
+-- the length in bytes of the head's area, or 0 without a head
 abbrev pub head_area : Option Head → ℕ
 head_area None = 0
 head_area (Some head) = own_area head.header
 
--- the place among the main data where the own area of frame
--- i begins: after the head's and those of the frames before
+-- the place among the main data where the own area of frame i begins: after the areas of the head
+-- and of the frames before it
 unfoldable pub place : Option Head → List Row → ℕ → ℕ
 place head rows i = head_area head + sum_by (λ (r : Row). own_area r.header) (take i rows)
 
--- the place where the main data of a frame begin, by the place of its own area
+-- the place where the main data of a frame begin, given the place of its own area
 abbrev pub start_of_data : ℕ → Row → ℕ
 start_of_data place r = place - r.side.main_data_begin
 
--- the place where they end
+-- the place where the main data of a frame end, given the place of its own area
 abbrev pub end_of_data : ℕ → Row → ℕ
 end_of_data place r = start_of_data place r + payload_bytes r.side
 
@@ -56,24 +56,24 @@ end_of_data place r = start_of_data place r + payload_bytes r.side
 abbrev pub is_silent : Row → Bool
 is_silent r = payload_bits r.side == 0
 
--- its main data begin before all areas, by the place of its own area
+-- the frame's main data begin before all areas, given the place of its own area
 abbrev pub points_too_far : ℕ → Row → Bool
 points_too_far place r = nat_lt place r.side.main_data_begin
 
--- so they do, and no main data are before them, which would end after 0:
--- what main_data_begin points to was before the stream, and was cut off
+-- the frame's main data begin before all areas, and there are no main data before them, which would
+-- end after 0: what main_data_begin points to was before the stream, and was cut off
 abbrev pub lacks_data : ℕ → ℕ → Row → Bool
 lacks_data place ended r = ended == 0 && points_too_far place r
 
--- where the main data end after a frame, by the place of its own area and
--- where those before it end: a silent or lost frame doesn't change it
+-- where the main data end after a frame, given the place of its own area and where the main data
+-- before it end: a silent or lost frame doesn't change this
 abbrev pub data_end_after : ℕ → ℕ → Option Row → ℕ
 data_end_after place ended None = ended
 data_end_after place ended (Some r) =
     if is_silent r || lacks_data place ended r then ended else end_of_data place r
 
--- the place where the main data end that are before frame i: those of the last
--- frame before it that is neither silent nor lost, or 0 where there is none
+-- the place where the main data before frame i end: the end of the main data of the last frame
+-- before it that is neither silent nor lost, or 0 if there is none
 unfoldable pub data_end_before : Option Head → List Row → ℕ → ℕ
 data_end_before head rows zero = 0
 data_end_before head rows (suc i) =
@@ -91,7 +91,7 @@ is_lost head rows i r = lacks_data (place head rows i) (data_end_before head row
 abbrev pub marked_row : Option Head → List Row → ℕ → Row → Row
 marked_row head rows i r = record r { lost = is_lost head rows i r }
 
--- all frames
+-- all frames, each marked if it is lost
 unfoldable pub marked_rows : Option Head → List Row → List Row
 marked_rows head rows = map (λ (p : ℕ × Row). marked_row head rows p.0 p.1) (enumerate_from 0 rows)
 
@@ -102,12 +102,12 @@ abbrev pub area_bytes : List ℕ → ℕ → HeaderFields → List ℕ
 area_bytes file offset h =
     take (own_area h) (drop (overhead_of (class_of h) h.protected) (drop offset file))
 
--- the area of the head, which counts as every other does; none without a head
+-- the area of the head, which counts like every other; none without a head
 abbrev pub head_bytes : List ℕ → Option Head → List ℕ
 head_bytes file None = []
 head_bytes file (Some head) = area_bytes file head.offset head.header
 
--- all areas, one after the other
+-- all areas, joined in order
 unfoldable pub main_bytes : List ℕ → Option Head → List Row → List ℕ
 main_bytes file head rows =
     head_bytes file head ++ flat_map (λ (r : Row). area_bytes file r.offset r.header) rows
@@ -116,7 +116,7 @@ main_bytes file head rows =
 abbrev pub payload_at : List ℕ → ℕ → Side → List ℕ
 payload_at main start s = take (payload_bits s) (drop (8 * start) (bits main))
 
--- bits in parts of these lengths, one after the other
+-- bits split into parts of these lengths, in order
 unfoldable pub split_bits : List ℕ → List ℕ → List (List ℕ)
 split_bits [] bs = []
 split_bits (n ∷ ns) bs = take n bs ∷ split_bits ns (drop n bs)
@@ -135,7 +135,7 @@ pub record StreamFrame : Type 0 where
 abbrev pub no_slot : SlotFields
 no_slot = record { rate_index = 0; padding = false }
 
--- the lengths in bits of the main data of each granule and channel, in their order
+-- the lengths in bits of the main data of each granule and channel, in order
 abbrev pub granule_lengths : HeaderFields → Side → List ℕ
 granule_lengths h s = map (λ (g : Granule). g.part2_3_length) (granules_in (class_of h) s)
 
@@ -143,7 +143,7 @@ granule_lengths h s = map (λ (g : Granule). g.part2_3_length) (granules_in (cla
 abbrev pub row_side : Row → Side
 row_side r = if r.lost then no_side else r.side
 
--- frame i
+-- frame i of the stream
 abbrev pub stream_frame : List ℕ → Option Head → List Row → ℕ → Row → StreamFrame
 stream_frame main head rows i r = record {
   header = record r.header { slot = no_slot };
@@ -152,7 +152,7 @@ stream_frame main head rows i r = record {
       (payload_at main (start_of_data (place head rows i) r) (row_side r));
 }
 
--- all frames
+-- all frames of the stream
 unfoldable pub stream_frames : List ℕ → Option Head → List Row → List StreamFrame
 stream_frames main head rows =
     map (λ (p : ℕ × Row). stream_frame main head rows p.0 p.1) (enumerate_from 0 rows)

@@ -9,17 +9,17 @@ module _ {A B : Type 0} where
   abbrev pub firsts_left : Merge A B → List A
   firsts_left m = drop m.next_first m.firsts.now
 
-  -- what it hasn't met yet of the second
+  -- what the walk hasn't met yet of the second list
   abbrev pub seconds_left : Merge A B → List B
   seconds_left m = drop m.next_second m.seconds.now
 
-  -- this was the next entry of the first list, and all else is as it was
+  -- this was the next entry of the first list, and nothing else changed
   pub record PassesFirst (a : A) (old new : Merge A B) : Type 0 where
     pub firsts : firsts_left old ≡ a ∷ firsts_left new
     pub seconds : seconds_left new ≡ seconds_left old
     pub number : new.next_second ≡ old.next_second
 
-  -- of the second list
+  -- this was the next entry of the second list, and nothing else changed
   pub record PassesSecond (b : B) (old new : Merge A B) : Type 0 where
     pub seconds : seconds_left old ≡ b ∷ seconds_left new
     pub firsts : firsts_left new ≡ firsts_left old
@@ -31,18 +31,18 @@ module _ {A B : Type 0} (first_at : A → ℕ) (second_at : B → ℕ) where
   entry_offset (First a) = first_at a
   entry_offset (Second b) = second_at b
 
-  -- the next entry isn't one of the second of these lists: none
-  -- of it is left, or the next of the first is at or before it
+  -- the next entry isn't one of the second of these lists: none of it is left, or the next of the
+  -- first is at or before its next
   abbrev pub IsNoSecondNext : List A → List B → Type 0
   IsNoSecondNext firsts [] = Unit {0}
   IsNoSecondNext firsts (b ∷ seconds) = IsFirstUntil first_at (second_at b) firsts
 
-  -- so it is in this walk
+  -- the next entry of this walk isn't one of the second list
   abbrev pub HasNoSecondNext : Merge A B → Type 0
   HasNoSecondNext m = IsNoSecondNext (firsts_left m) (seconds_left m)
 
-  -- the walk met the entry at the smallest offset, one of the first list before
-  -- one of the second; none where none is left, and then it stays as it was
+  -- the walk met the entry at the smallest offset, one of the first list before one of the second;
+  -- or none, if none is left, and then nothing changed
   abbrev pub Meets : Merge A B → Option (Entry A B) → Merge A B → Type 0
   Meets old None new = (firsts_left old ≡ []) × (seconds_left old ≡ []) × (new ≡ old)
   Meets old (Some (First a)) new =

@@ -3,8 +3,8 @@ use Rattle.std.specs.Prelude.{Bool, ℕ}
 use Rattle.frame_header.specs.Fields.{HeaderFields}
 use Rattle.side_info.specs.declared.side.Side.{Side}
 
--- the offset of its header in bytes, its header, whether it is lost, and its
--- side information, which is what is in the file also if the frame is lost
+-- the offset of its header in bytes, its header, whether it is lost, and its side information,
+-- which is what is in the file even if the frame is lost
 pub record Row : Type 0 where
   pub offset : ℕ
   pub header : HeaderFields

@@ -12,7 +12,7 @@ pub record PlacedItem : Type 0 where
   pub offset : ℕ
   pub item : Item
 
--- blocks and zero bytes may be before the first frame, from it on frames too
+-- blocks and zero bytes may be before the first frame, and from it on frames too
 abbrev pub belongs : Region → Item → Bool
 belongs part (Block b) = true
 belongs part Zero = true
@@ -51,7 +51,7 @@ abbrev pub run_onward : ℕ → (ℕ → ItemRun) → Option Item → ItemRun
 run_onward at next None = stopped_run at
 run_onward at next (Some item) = run_with_item at item (next (at + size_of item))
 
--- a run of at most so many items
+-- a run of at most this many items
 unfoldable pub run_up_to : ℕ → Region → List ℕ → ℕ → ItemRun
 run_up_to zero part file at = stopped_run at
 run_up_to (suc most) part file at =
@@ -74,7 +74,7 @@ AreEndToEnd part file from (p ∷ ps) to =
 abbrev pub item_bytes_in : List ℕ → PlacedItem → List ℕ
 item_bytes_in file p = take (size_of p.item) (drop p.offset file)
 
--- the bytes of these items, one after the other
+-- the bytes of these items, joined in order
 abbrev pub bytes_of_items : List ℕ → List PlacedItem → List ℕ
 bytes_of_items file ps = flat_map (item_bytes_in file) ps
 
@@ -98,10 +98,10 @@ block_of_item at Zero = None
 block_of_item at End = None
 block_of_item at Nothing = None
 
--- the frames among these items, in their order
+-- the frames among these items, in order
 abbrev pub frames_of : List PlacedItem → List PlacedFrame
 frames_of ps = filter_map (λ p. frame_of_item p.offset p.item) ps
 
--- the blocks among them
+-- the blocks among these items, in order
 abbrev pub blocks_of : List PlacedItem → List Piece
 blocks_of ps = filter_map (λ p. block_of_item p.offset p.item) ps

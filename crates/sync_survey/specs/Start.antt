@@ -54,17 +54,17 @@ is_anchored file at = is_some (anchored_frame file at)
 abbrev pub longest_junk : ℕ
 longest_junk = 65536
 
--- the anchored frame at the first of so many offsets, from one on, at which there is one
+-- the anchored frame at the first of `count` offsets, from `from` on, at which there is one
 unfoldable pub first_anchored : ℕ → List ℕ → ℕ → Option PlacedFrame
 first_anchored count file from =
     slice_get (filter_map (anchored_frame file) (range_with_len from count)) 0
 
--- the bytes from here on are junk up to the first frame, where there is one
+-- the bytes from here on are junk up to the first frame, if there is one
 abbrev pub start_after_junk : ℕ → Option PlacedFrame → Result Start SurveyFault
 start_after_junk front_end (Some frame) = Ok (record { front_end = front_end; first = frame })
 start_after_junk front_end None = Err (NoFrame front_end)
 
--- the start by the item at which the front ends; a header there needs no anchor
+-- the start, given the item at which the front ends; a header there needs no anchor
 abbrev pub start_at : List ℕ → ℕ → Item → Result Start SurveyFault
 start_at file at (Frame h) = if item_fits file at (Frame h) then Ok
     (record { front_end = at; first = record { offset = at; header = h } }) else Err (Truncated at)
@@ -89,8 +89,8 @@ abbrev pub IsLeastOffset : (ℕ → Bool) → ℕ → ℕ → ℕ → Type 0
 IsLeastOffset test from to at = (from ≤ at) × (at < to) × (test at ≡ true)
     × ((earlier : ℕ) → from ≤ earlier → earlier < at → test earlier ≡ false)
 
--- no junk is before the first frame, or it is at the smallest offset
--- after the first byte of junk at which there is an anchored frame
+-- there is no junk before the first frame, or the frame is at the smallest offset after the first
+-- byte of junk at which there is an anchored frame
 abbrev pub IsLeastStart : List ℕ → Start → Type 0
 IsLeastStart file s = (s.first.offset ≡ s.front_end)
     ⊎ IsLeastOffset (is_anchored file) (s.front_end + 1)

@@ -1,4 +1,4 @@
--- What a survey of a file of a folder answers.
+-- What a survey of a file of a folder returns.
 use Rattle.std.specs.Prelude.{Err, false, IfSome, if◌then◌else◌, length, List, nat_lt, Ok, OnOk}
 use Rattle.std.specs.Prelude.{Option, Result, slice_get, Some, ℕ, [], ◌+◌, ◌<◌, ◌∷◌, ◌≡◌, ◌≤◌}
 use Rattle.bit_fields.specs.Bits.{AreBytes}
@@ -16,23 +16,22 @@ use Rattle.sync_survey.specs.declared.{items.Item.TheVariants.Frame, places.Head
 use Rattle.sync_survey.specs.declared.places.{Piece.Piece, PlacedFrame.PlacedFrame, Start.Start}
 use Rattle.sync_survey.specs.declared.survey_fault.SurveyFault.{SurveyFault, TheVariants.TooLong}
 
--- the survey of a file with these bytes, or why there
--- is none: it is too long, or else its first fault
+-- the survey of a file with these bytes, or why there is none: it is too long, or its first fault
 unfoldable pub survey_of : List ℕ → ℕ → Result SurveyFields SurveyFault
 survey_of file allowed =
     if nat_lt longest_file (length file) then Err (TooLong (length file))
     else survey_fields file allowed
 
--- where the name's file is told, this is its survey
+-- where the content of the name's file is known, this is its survey
 abbrev pub IsSurveyOf : List ℕ → Files → ℕ → SurveyFields → Type 0
 IsSurveyOf name files allowed s =
     (bytes : List ℕ) → Holds files name bytes → survey_of bytes allowed ≡ Ok s
 
--- where it is told, it consists of bytes
+-- where its content is known, it consists of bytes
 abbrev pub HoldsOctets : List ℕ → Files → Type 0
 HoldsOctets name files = (bytes : List ℕ) → Holds files name bytes → AreBytes bytes
 
--- where it is told, no fault of its bytes is before this one
+-- where its content is known, no fault of its bytes is before this one
 abbrev pub IsFirstFault : List ℕ → Files → ℕ → SurveyFault → Type 0
 IsFirstFault name files allowed fault =
     (bytes : List ℕ) → Holds files name bytes → (start : Start) → start_of bytes ≡ Ok start
@@ -40,14 +39,15 @@ IsFirstFault name files allowed fault =
 
 -- ---- refusals
 
--- the file is there, its bytes are refused so, and nothing is counted
+-- the file is there, its bytes are refused with this fault, and nothing is counted
 pub record RefusesBytes (name : List ℕ) (files : Files) (allowed : ℕ) (before after : Counts)
     (fault : SurveyFault) : Type 0 where
   pub there : IsFileThere files name
   pub bytes : (bytes : List ℕ) → Holds files name bytes → survey_of bytes allowed ≡ Err fault
   pub counts : after ≡ before
 
--- of the file nothing is told, a read of it at this offset gave no byte, and no call failed
+-- the content of the file isn't known, a read of it at this offset returned no byte, and no call
+-- failed
 pub record HasShrunk (name : List ℕ) (place : ℕ) (files : Files)
     (before after : Counts) : Type 0 where
   pub nothing_told : is_told files ≡ false
@@ -60,8 +60,8 @@ pub record AsksForMemory (name : List ℕ) (files : Files) (before after : Count
   pub few : (bytes : List ℕ) → Holds files name bytes → length bytes ≤ longest_file
   pub counts : after ≡ before
 
--- why a file isn't read, by the fault's kind: it isn't there, could not be read,
--- became shorter and ended at this offset, there is no memory, or it is refused so
+-- why a file isn't read, by the fault's kind: it isn't there, could not be read, became shorter and
+-- ended at this offset, memory ran out, or it is refused
 abbrev pub IsUnreadBy : List ℕ → Files → Counts → Counts → ℕ → Type 0 → InputKind → Type 0
 IsUnreadBy name files before after place refused kind = by_kind
     (record {
@@ -78,46 +78,46 @@ abbrev pub IsSurveyFaultBy : List ℕ → Files → ℕ → Counts → Counts �
 IsSurveyFaultBy name files allowed before after fault kind = IsUnreadBy name files before after
     (shrunk_end fault) (RefusesBytes name files allowed before after fault) kind
 
--- why there is no survey, by the fault
+-- why there is no survey, given the fault
 abbrev pub IsSurveyFault : List ℕ → Files → ℕ → Counts → Counts → SurveyFault → Type 0
 IsSurveyFault name files allowed before after fault =
     IsSurveyFaultBy name files allowed before after fault (kind_of fault)
 
--- with the right numbers
+-- why there is no survey, given the fault, with the right numbers
 pub record IsSurveyRefusal (name : List ℕ) (files : Files) (allowed : ℕ) (before after : Counts)
     (fault : SurveyFault) : Type 0 where
   pub cause : IsSurveyFault name files allowed before after fault
   pub numbers : HasRightNumbers fault
 
--- refused so, whatever number of frames is allowed
+-- the file is refused with this fault, whatever number of frames is allowed
 abbrev pub IsEarlyRefusal : List ℕ → Seen → Seen → SurveyFault → Type 0
 IsEarlyRefusal name old new fault =
     (allowed : ℕ) → IsSurveyRefusal name old.files allowed old.counts new.counts fault
 
--- where the fault refuses the name's file, it is that of its length
+-- if the fault refuses the name's file, it is the fault of its length
 abbrev pub IsLengthFault : List ℕ → Files → SurveyFault → Type 0
 IsLengthFault name files fault = kind_of fault ≡ IsRefused → (bytes : List ℕ)
     → Holds files name bytes → fault ≡ TooLong (length bytes)
 
 -- ---- what is known of the file while it is read
 
--- where the name's file is told, this is the head that its frame is
+-- where the content of the name's file is known, this is the head that its frame is
 abbrev pub IsHeadOf : List ℕ → Files → PlacedFrame → Option Head → Type 0
 IsHeadOf name files p o = (bytes : List ℕ) → Holds files name bytes → o ≡ head_of bytes p
 
--- the name is there, with this length where it is told, and that isn't too long
+-- the name is there, with this length where its content is known, and the length isn't too great
 pub record HasLength (files : Files) (name : List ℕ) (size : ℕ) : Type 0 where
   pub there : IsFileThere files name
   pub long : (bytes : List ℕ) → Holds files name bytes → size ≡ length bytes
   pub few : size ≤ longest_file
 
--- a frame is whole within so many bytes, at an offset from this one on
+-- a frame is whole within `size` bytes, at an offset from `from` on
 pub record IsWholeFrom (from size : ℕ) (p : PlacedFrame) : Type 0 where
   pub behind : from ≤ p.offset
   pub within : p.offset + size_of (Frame p.header) ≤ size
 
--- What a call leaves that reads the name's file by a feed: the files stay, and the
--- feed is fed from them; only reads are counted, and nothing where it succeeds.
+-- What a call that reads the name's file by a feed leaves: the files are unchanged, and the feed is
+-- fed from them; only reads are counted, and nothing if it succeeds.
 pub record ReadsBy {T : Type 0} (feed : Fed) (name : List ℕ) (result : Result T SurveyFault)
     (old new : Seen) : Type 0 where
   pub done : OnOk result (new.counts ≡ old.counts)
@@ -125,22 +125,22 @@ pub record ReadsBy {T : Type 0} (feed : Fed) (name : List ℕ) (result : Result 
   pub files : new.files ≡ old.files
   pub counts : OnlyReads old.counts new.counts
 
--- ---- what every survey tells, whether the files are told or not
+-- ---- what every survey says, whether or not the content of the files is known
 
--- these frames follow one after the other from one offset
--- to another, and their side fields are within their bits
+-- these frames follow each other from one offset to another, and their side fields are within their
+-- bits
 abbrev pub FramesAreLaid : ℕ → List Row → ℕ → Type 0
 FramesAreLaid from [] to = from ≤ to
 FramesAreLaid from (r ∷ rows) to = (from ≤ r.offset) × SideFits (class_of r.header) r.side
     × FramesAreLaid (r.offset + length_of (class_of r.header) r.header.slot) rows to
 
--- so do these blocks
+-- these blocks follow each other from one offset to another
 abbrev pub BlocksAreLaid : ℕ → List Piece → ℕ → Type 0
 BlocksAreLaid from [] to = from ≤ to
 BlocksAreLaid from (b ∷ blocks) to =
     (from ≤ b.offset) × BlocksAreLaid (b.offset + b.block.length) blocks to
 
--- frame i of a stream of this class: its header is one of the standard's and of the class, its side
+-- frame i of a stream of this class: its header is one of the standard and of the class, its side
 -- fields are within their bits, its main data have no fault, and it is marked exactly if it is lost
 pub record IsWellPlaced (head : Option Head) (class : ClassFields) (rows : List Row) (i : ℕ)
     (r : Row) : Type 0 where
@@ -150,7 +150,7 @@ pub record IsWellPlaced (head : Option Head) (class : ClassFields) (rows : List 
   pub mark : r.lost ≡ is_lost head rows i r
   pub sound : data_faults (place head rows i) (data_end_before head rows i) r ≡ []
 
--- so is each frame
+-- each of these frames is well placed
 abbrev pub AreWellPlaced : Option Head → ClassFields → List Row → Type 0
 AreWellPlaced head class rows =
     (i : ℕ) (r : Row) → slice_get rows i ≡ Some r → IsWellPlaced head class rows i r
@@ -173,8 +173,8 @@ pub record IsSurveyLaidOut (s : SurveyFields) : Type 0 where
   pub few : s.length ≤ longest_file
   pub placed : AreWellPlaced s.head s.class s.frames
 
--- where the name's file is told, this is its survey; and whether it is
--- or not, all is laid out, and there are no more frames than allowed
+-- where the content of the name's file is known, this is its survey; and known or not, all is laid
+-- out, and there are no more frames than allowed
 pub record IsWholeSurvey (name : List ℕ) (files : Files) (allowed : ℕ)
     (s : SurveyFields) : Type 0 where
   pub exact : IsSurveyOf name files allowed s

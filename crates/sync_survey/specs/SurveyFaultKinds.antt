@@ -6,8 +6,8 @@ use Rattle.sync_survey.specs.{Faults.longest_file, declared.survey_fault.SurveyF
 use Rattle.sync_survey.specs.declared.survey_fault.SurveyFault.TheVariants.{Absent, Memory, Read}
 use Rattle.sync_survey.specs.declared.survey_fault.SurveyFault.TheVariants.{Shrunk, TooLong}
 
--- why a file has no survey: it is absent, a read failed, it became shorter, there is no memory, or
--- its bytes are refused
+-- why a file has no survey: it is absent, a read failed, it became shorter, memory ran out, or its
+-- bytes are refused
 pub data InputKind : Type 0 where
   -- the file isn't there
   IsAbsent : InputKind
@@ -15,7 +15,7 @@ pub data InputKind : Type 0 where
   IsUnread : InputKind
   -- it became shorter while it was read
   IsShorter : InputKind
-  -- want of memory
+  -- out of memory
   IsTooMuch : InputKind
   -- it is there, and its length or its bytes are refused
   IsRefused : InputKind
@@ -28,8 +28,8 @@ kind_of Read = IsUnread
 kind_of Memory = IsTooMuch
 kind_of _ = IsRefused
 
--- the numbers that a fault has, whatever is told of the file: a length is too long
--- only above the limit, and a file ended before the length with which it was found
+-- the numbers that a fault has, whatever is known of the file: a length is too long only above the
+-- limit, and a file ended before the length with which it was found
 abbrev pub HasRightNumbers : SurveyFault → Type 0
 HasRightNumbers (TooLong size) = longest_file < size
 HasRightNumbers (Shrunk first second) = second < first
@@ -40,11 +40,11 @@ abbrev pub shrunk_end : SurveyFault → ℕ
 shrunk_end (Shrunk first second) = second
 shrunk_end _ = 0
 
--- the file isn't refused: a call failed, the file became shorter, or there is no memory
+-- the file isn't refused: it is absent, a call failed, it became shorter, or memory ran out
 abbrev pub IsFromOutside : SurveyFault → Type 0
 IsFromOutside fault = kind_of fault ≡ IsRefused → ⊥
 
--- what there is for each kind
+-- a value for each kind
 pub record ByKind {ℓ} (A : Type ℓ) : Type ℓ where
   pub absent : A
   pub unread : A
@@ -52,7 +52,7 @@ pub record ByKind {ℓ} (A : Type ℓ) : Type ℓ where
   pub too_much : A
   pub refused : A
 
--- what there is for this kind
+-- the value for this kind
 abbrev pub by_kind {ℓ} : {A : Type ℓ} → ByKind A → InputKind → A
 by_kind k IsAbsent = k.absent
 by_kind k IsUnread = k.unread
@@ -64,7 +64,7 @@ by_kind k IsRefused = k.refused
 abbrev pub RefusesRightly : SurveyFault → Type 0
 RefusesRightly fault = (kind_of fault ≡ IsRefused) × HasRightNumbers fault
 
--- the fault of a file whose bytes aren't read
+-- the fault of a file whose bytes can't be read
 abbrev pub survey_fault_of : ReadFault → SurveyFault
 survey_fault_of Failed = Read
 survey_fault_of (ShrunkRead first second) = Shrunk first second

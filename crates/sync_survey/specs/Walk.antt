@@ -19,7 +19,7 @@ stream_run file start = item_run Stream file start.first.offset
 
 -- ---- the head
 
--- a frame's own bytes, out of those from its first on
+-- a frame's own bytes, out of the bytes that begin with it
 abbrev pub own_bytes : PlacedFrame → List ℕ → List ℕ
 own_bytes p bytes = take (length_of (class_of p.header) p.header.slot) bytes
 
@@ -41,8 +41,7 @@ head_of file p = head_in_bytes p (frame_bytes file p)
 abbrev pub IsFrameOf : PlacedFrame → Head → Type 0
 IsFrameOf p head = (head.offset ≡ p.offset) × (head.header ≡ p.header)
 
--- only the first frame can be a head, and it isn't
--- counted: all others are numbered from 0, in their order
+-- only the first frame can be a head, which isn't counted: all others are numbered from 0, in order
 abbrev pub numbered_frames : Option Head → List PlacedFrame → List PlacedFrame
 numbered_frames None frames = frames
 numbered_frames (Some head) frames = drop 1 frames
@@ -70,7 +69,7 @@ fault_at at Zero = Some (LostSync at)
 fault_at at End = None
 fault_at at Nothing = Some (LostSync at)
 
--- a walk that reaches the end of the file has to have a frame
+-- a walk that reaches the end of the file must have a frame
 abbrev pub end_fault : List ℕ → List PlacedFrame → Option SurveyFault → Option SurveyFault
 end_fault file frames (Some fault) = Some fault
 end_fault file (p ∷ ps) None = None
@@ -78,8 +77,8 @@ end_fault file [] None = Some (NoFrame (length file))
 
 -- ---- the walk
 
--- what is in a file with this start: the head, the frames of the stream, all blocks
--- by their offsets, and why the walk stops before the end of the file or has no frame
+-- what is in a file with this start: the head, the frames of the stream, all blocks in order of
+-- offset, and why the walk stops before the end of the file or has no frame
 pub record WalkFields : Type 0 where
   pub start : Start
   pub head : Option Head

@@ -13,7 +13,8 @@ pub record BeginsAsWalked (bytes : List ℕ) (w : Walk) : Type 0 where
   pub kept : w.pieces.items ≡ blocks_of (item_run Front bytes 0).items
 
 -- What is known of the name's file: its first frame is within its length, the blocks and the junk
--- are before it, and the head is that frame; where the file is told, its bytes begin as this says.
+-- are before it, and the head is that frame; where the content of the file is known, its bytes
+-- begin as this says.
 pub record IsWalk (files : Files) (name : List ℕ) (w : Walk) : Type 0 where
   pub known : HasLength files name w.size
   pub whole : w.start.first.offset + size_of (Frame w.start.first.header) ≤ w.size

@@ -1,4 +1,5 @@
-//! Frames that are lost when the head is set apart, and lost frames as they are written.
+//! Frames that are lost when the head is set apart, and lost frames in the form in which they are
+//! written.
 ghost use Rattle.std.specs.Prelude.{◌≡◌, ◌≤◌, ◌||◌, false, map};
 ghost use Rattle.side_info.specs.Side.{no_side};
 ghost use Rattle.sync_survey.specs.Faults.{survey_view};
@@ -9,8 +10,9 @@ use crate::rows::Row;
 use crate::surveys::Survey;
 use side_info::{Extent, FrameFront, Side};
 
-/// Marks the frame as lost if its main data begin before areas of so many bytes. Answers whether they do or the frame is
-/// silent, so that a later frame may be lost too.
+/// Marks the frame as lost if its main_data_begin is greater than `areas`, the length in bytes of
+/// the areas before it. Returns whether it is or the frame is silent, so that a later frame may be
+/// lost too.
 fn mark_apart(areas: u64, row: &mut Row) -> bool
     ensures row { row.new ≡ record row.old { lost = row.old.lost || points_too_far areas row.old } }
     ensures empty { result ≡ (is_silent row.old || points_too_far areas row.old) }
@@ -33,13 +35,13 @@ fn mark_rows(rows: &mut [Row])
         if !mark_apart(areas, row) {
             break;
         }
-        // It doesn't matter that the sum stops at the greatest number: main data begin at most 511 bytes back.
+        // The sum may stop at the greatest number: main data begin at most 511 bytes back.
         areas = areas.saturating_add(u64::from(row.header().area()));
     }
 }
 
 /// Makes the frame an empty one.
-// It is apart, so that the loop over the frames is short.
+// A function of its own, so that the loop over the frames is short.
 #[inline(never)]
 fn empty_row(row: &mut Row)
     ensures { row.new ≡ record row.old { side = no_side; lost = false } }
@@ -67,9 +69,10 @@ fn empty_rows(rows: &mut [Row])
 }
 
 impl Survey {
-    /// Sets the head apart, as players do: marks as lost also each frame whose main data begin before the areas of the frames
-    /// before it, the head's left out, where each of these is silent or lost in this sense. Without a head no frame is
-    /// marked. All else stays, and it takes no memory.
+    /// Sets the head apart, as players do: also marks as lost each frame whose main data begin
+    /// before the areas of the frames before it, not counting the head's, if each of these frames
+    /// is silent or lost in this sense. Without a head no frame is marked. Nothing else changes,
+    /// and it takes no memory.
     pub fn head_apart(&mut self)
         ensures { survey_view self.new ≡ head_apart (survey_view self.old) }
     {
@@ -78,8 +81,9 @@ impl Survey {
         }
     }
 
-    /// Makes each lost frame one without main data, whose side information is all 0 and which isn't lost, so that the frames
-    /// can be laid with the head before them (`heads_apart_are_laid`). All else stays, and it takes no memory.
+    /// Makes each lost frame one without main data, whose side information is all 0 and which isn't
+    /// lost, so that the frames can be laid out with the head before them (`heads_apart_are_laid`).
+    /// Nothing else changes, and it takes no memory.
     pub fn empty_lost(&mut self)
         ensures { survey_view self.new ≡ emptied_survey (survey_view self.old) }
     {

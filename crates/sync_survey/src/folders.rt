@@ -33,7 +33,7 @@ pub(crate) struct Walk {
     pub(crate) pieces: Vec<Piece>,
 }
 
-/// The survey of a file of which this is known. Its frames are judged one after the other.
+/// Surveys a file of which this much is known: judges its frames in order.
 ///
 /// # Errors
 /// The first fault from the first frame on, or `Read`, `Shrunk` or `Memory`.
@@ -81,7 +81,7 @@ fn judge_frames<D: Folder>(
     })
 }
 
-/// The survey of a file, as `survey` has it.
+/// Surveys a file as `survey` does.
 fn survey_file<D: Folder>(
     alloc: Global,
     folder: &mut D,
@@ -105,18 +105,18 @@ fn survey_file<D: Folder>(
     judge_frames(alloc, &mut feed, folder, name, walk, allowed)
 }
 
-/// The survey of a file that may have `allowed` frames, not counting the head. The files stay.
+/// Surveys a file that may have `allowed` frames, not counting the head. The files are unchanged.
 ///
 /// # Errors
-/// - `Absent` where the file isn't there;
-/// - `TooLong` with its length, before any byte is read, where it has more than 1,073,741,824 bytes;
-/// - `Read` where a call failed;
-/// - `Shrunk` where a read gave no byte before the length with which the file was found, which comes only
-///   where the folder doesn't tell its files;
-/// - else the fault of its bytes that has the smallest offset, and of several at one offset the first in
-///   the order of `SurveyFault`: `NoFrame`, `LostSync`, `Truncated`, `FreeFormat`, and for a frame `Mixed`,
-///   `CheckWord`, `BackPointer`, `Overlap`, `Overrun`, `TooManyFrames`;
-/// - `Memory` where there is no memory, which may come once the length is known, before a fault of the
+/// - `Absent` if the file isn't there;
+/// - `TooLong` with its length, before any byte is read, if it has more than 1,073,741,824 bytes;
+/// - `Read` if a call failed;
+/// - `Shrunk` if a read returned no byte before the length with which the file was found, which
+///   happens only where the content of the files isn't known;
+/// - otherwise the fault of its bytes that has the smallest offset, and of several at one offset
+///   the first in the order of `SurveyFault`: `NoFrame`, `LostSync`, `Truncated`, `FreeFormat`, and
+///   for a frame `Mixed`, `CheckWord`, `BackPointer`, `Overlap`, `Overrun`, `TooManyFrames`;
+/// - `Memory` if memory runs out, which may happen once the length is known, before a fault of the
 ///   bytes is met.
 pub fn survey<D: Folder>(
     alloc: Global,

@@ -1,4 +1,4 @@
-//! What was found so far, and judged.
+//! What was found so far and judged.
 ghost use Rattle.std.specs.Prelude.{◌≡◌, ◌⊎◌, ◌^◌, ◌<◌, ◌≤◌, length, min, Ok, MatchResult};
 ghost use Rattle.frame_header.specs.Fields.{HeaderFields};
 ghost use Rattle.sync_survey.specs.Faults.{longest_file};
@@ -21,12 +21,13 @@ pub(crate) struct SurveySoFar {
 }
 
 impl SurveySoFar {
-    /// Judges the frame at the offset, and keeps it if it has no fault, marked if it is lost. The bytes
-    /// begin with the frame's own.
+    /// Judges the frame at the offset, and keeps it if it has no fault, marked if it is lost.
+    /// `bytes` begin with the frame's own.
     ///
     /// # Errors
-    /// The first fault of the frame; `Memory` where there is no memory.
-    // The walk is instantiated for each folder, and clang doesn't inline what has several callers.
+    /// The first fault of the frame; `Memory` if memory runs out.
+    // The walk is instantiated for each folder type, and clang doesn't inline what has several
+    // callers.
     #[inline(always)]
     fn judge(
         &mut self,
@@ -49,7 +50,7 @@ impl SurveySoFar {
             return Err(SurveyFault::Mixed(offset));
         }
         let count = self.rows.len();
-        // The row is judged where it stays, so that it is copied once.
+        // The row is judged in place, so that it is copied only once.
         self.rows
             .push(Row::read_in(class, offset as u32, &header, bytes))?;
         let row = &mut self.rows[count];
@@ -68,11 +69,11 @@ impl SurveySoFar {
         Ok(())
     }
 
-    /// Keeps the item at the offset, if it is a frame without fault or a block. The bytes begin with its
-    /// own.
+    /// Keeps the item at the offset if it is a frame without fault or a block. `bytes` begin with
+    /// the item's own.
     ///
     /// # Errors
-    /// The first fault of a frame; `Memory` where there is no memory.
+    /// The first fault of a frame; `Memory` if memory runs out.
     #[inline(always)]
     pub(crate) fn keep(
         &mut self,
@@ -99,11 +100,12 @@ impl SurveySoFar {
         Ok(())
     }
 
-    /// Passes the item of the stream at the offset, of which the bytes of a look there are these, and answers how many bytes
-    /// it has, or how many zero bytes were seen. `left` is how many bytes the file has from there on.
+    /// Passes the item of the stream at the offset, where a look shows these bytes, and returns how
+    /// many bytes it has, or how many zero bytes were seen. `left` is how many bytes the file has
+    /// from there on.
     ///
     /// # Errors
-    /// Why the walk stops there, where no whole item is there; else as those of `keep`.
+    /// Why the walk stops there, if no whole item is there; otherwise as for `keep`.
     #[inline(never)]
     fn pass_other(
         &mut self,
@@ -128,9 +130,10 @@ impl SurveySoFar {
         Ok(step.size)
     }
 
-    /// The same, faster for a frame of the class.
-    // The walk is instantiated for each folder, and clang doesn't inline what has several callers. What is read in another way
-    // stays apart, so that no register has to hold either.
+    /// As `pass_other`, but faster for a frame of the class.
+    // The walk is instantiated for each folder type, and clang doesn't inline what has several
+    // callers. Anything but a whole frame of the class is left to a function of its own, so that
+    // none of it takes up registers here.
     #[inline(always)]
     pub(crate) fn pass(
         &mut self,

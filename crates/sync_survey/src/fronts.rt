@@ -18,7 +18,7 @@ use std::alloc::AllocError;
 /// Keeps the item if it is a block.
 ///
 /// # Errors
-/// Where there is no memory.
+/// If memory runs out.
 pub(crate) fn keep_block(
     pieces: &mut Vec<Piece>,
     offset: u64,
@@ -33,11 +33,11 @@ pub(crate) fn keep_block(
     Ok(())
 }
 
-/// Goes past the front of the file, which is the blocks and zero bytes with which it begins, keeps the
-/// blocks, and answers the offset at which the front ends.
+/// Goes past the front of the file, which is the blocks and zero bytes with which it begins, keeps
+/// the blocks, and returns the offset at which the front ends.
 ///
 /// # Errors
-/// `Read` or `Shrunk` where the file can't be read, `Memory` where there is no memory.
+/// `Read` or `Shrunk` if the file can't be read, `Memory` if memory runs out.
 pub fn pass_front<D: Folder>(
     feed: &mut Feed,
     folder: &mut D,

@@ -16,9 +16,9 @@ use crate::survey_fault::SurveyFault;
 use info_header::head_text;
 use outside::{Feed, Folder};
 
-/// The head that the frame is, if it is one. The bytes begin with all of the frame's own.
+/// The head that the frame is, if it is one. `bytes` begin with all of the frame's own.
 pub fn head_in(frame: &PlacedFrame, bytes: &[u8]) -> Option<Head>
-    // Said here, where the header is known to be one of the standard's.
+    // Said here, where the header is known to be one of the standard.
     ensures most { length_of (class_of frame.now.header) frame.now.header.slot ≤ most_frame_length }
     ensures head { result ≡ head_in_bytes frame.now (own_bytes frame.now bytes.now) }
     ensures same { IfSome result (IsFrameOf frame.now) }
@@ -36,7 +36,7 @@ pub fn head_in(frame: &PlacedFrame, bytes: &[u8]) -> Option<Head>
 /// The head that the first frame is, if it is one.
 ///
 /// # Errors
-/// `Read` or `Shrunk` where the file can't be read.
+/// `Read` or `Shrunk` if the file can't be read.
 #[tactic(auto, unfolding(crate::specs::Walk::head_of))]
 pub fn find_head<D: Folder>(
     feed: &mut Feed,
@@ -49,7 +49,7 @@ pub fn find_head<D: Folder>(
     requires fed { IsFedFrom feed.old (D.seen folder.old).files name.now }
     requires whole { first.now.offset + size_of (Frame first.now.header) ≤ size }
     ensures head { IfOk result (IsHeadOf name.now (D.seen folder.old).files first.now) }
-    // Whether the files are told or not.
+    // Whether or not the content of the files is known.
     ensures same { IfOk result (λ o. IfSome o (IsFrameOf first.now)) }
     ensures reads { ReadsBy feed.new name.now result (D.seen folder.old) (D.seen folder.new) }
     ensures refused { IfErr result (IsEarlyRefusal name.now (D.seen folder.old)
@@ -60,7 +60,7 @@ pub fn find_head<D: Folder>(
     Ok(head_in(first, feed.bytes()))
 }
 
-/// The length of the head's area in bytes, 0 without a head. Main data may begin in it.
+/// The length of the head's area in bytes, or 0 without a head. Main data may begin in it.
 pub fn head_area(head: &Option<Head>) -> u64
     ensures area { result ≡ head_area head.now }
     ensures most { result ≤ most_frame_length }
@@ -71,8 +71,8 @@ pub fn head_area(head: &Option<Head>) -> u64
     }
 }
 
-/// The offset at which the numbered frames begin: that of the first frame, or the end of it if it is the
-/// head.
+/// The offset at which the numbered frames begin: the beginning of the first frame, or its end if
+/// it is the head.
 pub fn numbered_from(first: &PlacedFrame, head: &Option<Head>) -> u64
     requires { first.now.offset + size_of (Frame first.now.header) ≤ 2 ^ 62 }
     ensures at { result ≡ numbered_offset first.now head.now }

@@ -31,7 +31,7 @@ pub enum Item {
 /// The header with which the bytes begin.
 ///
 /// # Errors
-/// `Free` where it has bit rate index 0, `No` where there is none, as where the bytes are fewer than four.
+/// `Free` if it has bit rate index 0, `No` if there is none, or if there are fewer than four bytes.
 #[tactic(auto, unfolding(crate::specs::Items::header_front))]
 pub fn header_front(bytes: &[u8]) -> Result<Header, NotHeader>
     ensures { result ≡ header_front bytes.now }
@@ -76,7 +76,7 @@ pub fn item_front(bytes: &[u8]) -> Item
 }
 
 impl Item {
-    /// The length in bytes of a frame, a block or a zero byte; 0 for all else.
+    /// The length in bytes of a frame, a block or a zero byte; 0 for anything else.
     pub(crate) fn size(&self) -> u64
         ensures size { result ≡ size_of self.now }
         ensures most { (h : HeaderFields) → self.now ≡ Item.Frame h → result ≤ most_frame_length }
@@ -110,8 +110,8 @@ pub fn is_same_class(a: Class, b: Class) -> bool
     a.is_same(b)
 }
 
-/// Why the walk stops at an offset at which nothing of the stream begins whole. The bytes are those from
-/// there on, at least one.
+/// Why the walk stops at an offset at which no whole item of the stream begins. `bytes` are those
+/// from there on, at least one.
 pub(crate) fn stop_fault(bytes: &[u8], at: u64) -> SurveyFault
     requires { 0 < length bytes.now }
     ensures fault { fault_at at (item_front bytes.now) ≡ Some result }

@@ -1,5 +1,5 @@
-//! Finds what is where in a file: blocks of tags, junk, a head, and the frames of the stream; or what is first at fault in it. `Merge` walks
-//! two lists of such things in order of the offset that each has.
+//! Finds what is where in a file: blocks of tags, junk, a head, and the frames of the stream; or
+//! the first fault in it. `Merge` walks over two lists of such things in order of offset.
 #![tactic(auto)]
 
 mod apart;

@@ -13,13 +13,13 @@ use outside::{Feed, FindFault, Folder};
 /// The greatest length of an input in bytes.
 pub const LONGEST_FILE: u64 = 1_073_741_824;
 
-/// How many bytes a look is at.
+/// How many bytes a look shows.
 const LOOK_SIZE: u64 = 4096;
 
 /// The length of the file in bytes, at most 1,073,741,824.
 ///
 /// # Errors
-/// `Absent` where it isn't there, `TooLong` with its length where it is longer, `Read` where the call
+/// `Absent` if it isn't there, `TooLong` with its length if it is longer, `Read` if the call
 /// failed.
 pub fn find_length<D: Folder>(folder: &mut D, name: &str) -> Result<u64, SurveyFault>
     ensures found { IfOk result (HasLength (D.seen folder.old).files name.now) }
@@ -39,11 +39,12 @@ pub fn find_length<D: Folder>(folder: &mut D, name: &str) -> Result<u64, SurveyF
     }
 }
 
-/// Looks at the file, which was found with `size` bytes, from the offset `at` on, and answers how many
-/// bytes are left from there to its end. The feed gives 4,096 of them, or all where there are fewer.
+/// Looks at the file, which was found with `size` bytes, from the offset `at` on, and returns how
+/// many bytes are left from there to its end. The feed gives 4,096 of them, or all if there are
+/// fewer.
 ///
 /// # Errors
-/// `Read` where a read failed, `Shrunk` where the file has ended before `size`.
+/// `Read` if a read failed, `Shrunk` if the file ended before `size`.
 pub fn look<D: Folder>(
     feed: &mut Feed,
     folder: &mut D,

@@ -20,7 +20,7 @@ pub enum Entry<A, B> {
 }
 
 /// The entries of two lists, each in order of offset, that a walk over both hasn't met yet. Of
-/// entries at one offset those of the first list come first.
+/// entries at the same offset, those of the first list come first.
 #[derive(Drop)]
 pub struct Merge<'a, A, B> {
     firsts: &'a [A],
@@ -65,7 +65,7 @@ impl<'a, A: HasOffset + Copy, B: HasOffset + Copy> Merge<'a, A, B> {
     }
 
     /// The next entry of the first list, if it is at or before this offset, whatever is left of the
-    /// second.
+    /// second list.
     pub fn next_first_until(&mut self, offset: u64) -> Option<&'a A>
         ensures met { IfSome result (λ a. PassesFirst a.now self.old self.new) }
         ensures until { IfSome result (λ a. A.offset_of a.now ≤ offset) }
@@ -97,7 +97,7 @@ impl<'a, A: HasOffset + Copy, B: HasOffset + Copy> Merge<'a, A, B> {
         Some(second)
     }
 
-    /// The next entry, in order of offset; none once all were met.
+    /// The next entry, in order of offset; `None` once all were met.
     pub fn next(&mut self) -> Option<Entry<A, B>>
         ensures { Meets A.offset_of B.offset_of self.old result self.new }
     {

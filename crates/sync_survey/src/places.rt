@@ -26,20 +26,20 @@ impl HasOffset for Piece {
     }
 }
 
-/// A head: a first frame that has counts and a seek table of the file in place of main data.
+/// A head: a first frame that has counts and a seek table of the file instead of main data.
 #[derive(Clone, Copy, Debug, PartialEq, Eq)]
 pub struct Head {
     pub offset: u64,
     pub header: Header,
-    /// The place of `Xing` or `Info`, in bytes from the frame's first.
+    /// The offset of `Xing` or `Info` from the frame's first byte, in bytes.
     pub text_at: u32,
 }
 
 /// Where the stream begins.
 #[derive(Clone, Copy, Debug, PartialEq, Eq)]
 pub struct Start {
-    /// Where the front of the file ends: its blocks and zero bytes before all else. The bytes from here to
-    /// the first frame, of which there may be none, are junk.
+    /// Where the front of the file ends: its blocks and zero bytes before anything else. The bytes
+    /// from here to the first frame, if there are any, are junk.
     pub front_end: u64,
     /// The first frame, which may be a head.
     pub first: PlacedFrame,

@@ -15,8 +15,8 @@ use frame_header::{Class, Header};
 use side_info::{Extent, FrameFront, Side, stored_crc};
 use std::marker::Model;
 
-/// A frame of the stream: the offset of its header in bytes, its header and its side information as the bytes that stand
-/// in the file, and whether it is lost. It takes 44 bytes.
+/// A frame of the stream: the offset of its header in bytes, its header and side information as the
+/// bytes in the file, and whether it is lost. It takes 44 bytes.
 #[derive(Clone, Copy, Debug, PartialEq, Eq)]
 pub struct Row {
     offset: u32,
@@ -61,7 +61,8 @@ impl Row {
         }
     }
 
-    /// The frame at this offset whose header is this, as if it weren't lost. The bytes begin with its own.
+    /// The frame with this header at this offset, as if it weren't lost. `bytes` begin with the
+    /// frame's own.
     #[inline(always)]
     pub fn read(offset: u32, header: &Header, bytes: &[u8]) -> Row
         requires heads { header_front bytes.now ≡ Ok header.now }
@@ -72,7 +73,7 @@ impl Row {
         Row::read_in(header.class(), offset, header, bytes)
     }
 
-    /// The same, where the class of the header is known.
+    /// As `read`, where the class of the header is known.
     #[inline(always)]
     pub fn read_in(class: Class, offset: u32, header: &Header, bytes: &[u8]) -> Row
         requires class { class ≡ class_of header.now }
@@ -84,7 +85,7 @@ impl Row {
         Row::new(offset, false, FrameFront::read_in(class, header, bytes))
     }
 
-    /// The offset of its header in bytes. Less than 2^30, since a longer file is refused.
+    /// The offset of its header in bytes, less than 2^30, since a longer file is refused.
     #[inline(always)]
     pub fn offset(&self) -> u32
         ensures { result ≡ self.now.offset }
@@ -100,8 +101,9 @@ impl Row {
         self.front.header()
     }
 
-    /// Whether the frame is lost: its main data begin before the stream, and every frame before it is silent or lost. They
-    /// were cut off with earlier frames, so no main data of it are there.
+    /// Whether the frame is lost: its main data begin before the stream, and every frame before it
+    /// is silent or lost. They were cut off with earlier frames, so the frame counts as having
+    /// none.
     #[inline(always)]
     pub fn lost(&self) -> bool
         ensures { result ≡ self.now.lost }
@@ -109,7 +111,7 @@ impl Row {
         self.lost
     }
 
-    /// The side information: what is in the file, also if the frame is lost.
+    /// The side information as it is in the file, even if the frame is lost.
     #[inline(always)]
     pub fn side(&self) -> Side
         ensures side { result ≡ self.now.side }
@@ -118,7 +120,7 @@ impl Row {
         self.front.side()
     }
 
-    /// The header and the side information as they stand in the file.
+    /// The header and the side information as they are in the file.
     #[inline(always)]
     pub fn front(&self) -> &FrameFront
         ensures { result.now ≡ record { header = self.now.header; side = self.now.side } }
@@ -144,13 +146,13 @@ impl Row {
     }
 }
 
-/// The areas before a frame, the head's among them, and the main data in them.
+/// The areas before a frame, including the head's, and the main data in them.
 #[derive(Clone, Copy)]
 pub struct ReservoirState {
-    /// How many bytes they are: the place among all areas at which the frame's own begins.
+    /// How many bytes they have: the place among all areas at which the frame's own begins.
     pub place: u64,
-    /// The place among all areas at which the main data end of the last frame that is neither silent nor
-    /// lost; 0 if there is none.
+    /// The place among all areas at which the main data of the last frame that is neither silent
+    /// nor lost end; 0 if there is none.
     pub ended: u64,
 }
 
@@ -161,7 +163,7 @@ pub struct JudgedFrame {
     pub before: ReservoirState,
 }
 
-/// The fault of a protected frame's check word, if it isn't the right one.
+/// The fault of a protected frame's check word, if it is wrong.
 fn crc_fault(header: &Header, row: &Row, bytes: &[u8]) -> Option<SurveyFault>
     requires same { header.now ≡ row.now.header }
     requires room { ReachArea row.now.header bytes.now }
@@ -178,7 +180,7 @@ fn crc_fault(header: &Header, row: &Row, bytes: &[u8]) -> Option<SurveyFault>
     Some(SurveyFault::CheckWord(u64::from(row.offset), said, right))
 }
 
-/// The fault of a frame before which there are as many frames as are allowed.
+/// The fault of a frame that has `count` frames before it, if that is as many as are allowed.
 fn count_fault(row: &Row, count: u64, allowed: u64) -> Option<SurveyFault>
     ensures { result ≡ first_of (count_faults count allowed row.now) }
 {
@@ -203,12 +205,13 @@ impl ReservoirState {
         requires { begin ≡ row.now.side.main_data_begin }
         ensures { result ≡ lacks_data self.now.place self.now.ended row.now }
     {
-        // The row is there for the contract; the code needs its main_data_begin alone, which the caller has read.
+        // The row is here for the contract; the code needs only its main_data_begin, which the
+        // caller has read.
         let _ = row;
         self.ended == 0 && self.place < u64::from(begin)
     }
 
-    /// What is known after the frame, which has this header.
+    /// What is known after the frame with this header.
     ///
     /// # Errors
     /// The first fault of its main data: `BackPointer`, `Overlap` or `Overrun`. A lost frame has none.
@@ -223,10 +226,10 @@ impl ReservoirState {
         self.judge_frame_in(header.class(), header, row)
     }
 
-    /// The same, where the class of the header is known.
+    /// As `judge_frame`, where the class of the header is known.
     ///
     /// # Errors
-    /// As those of `judge_frame`.
+    /// As `judge_frame`.
     #[inline(always)]
     #[tactic(auto, unfolding(side_info::specs::Side::payload_bytes))]
     pub fn judge_frame_in(
@@ -247,7 +250,8 @@ impl ReservoirState {
         self.judge_extent(row, area, &extent, extent.bytes())
     }
 
-    /// The same, by the length of the frame's own area in bytes, the extent of its main data and their length in bytes.
+    /// As `judge_frame`, given the length in bytes of the frame's own area, the extent of its main
+    /// data, and their length in bytes.
     #[inline(always)]
     fn judge_extent(
         &self,
@@ -295,8 +299,8 @@ impl ReservoirState {
         })
     }
 
-    /// What is known after a frame with this header, which is of this class, where so many frames are before it. The bytes
-    /// begin with the frame's own.
+    /// What is known after a frame with this header, which is of this class, with `limit.count`
+    /// frames before it. `bytes` begin with the frame's own.
     ///
     /// # Errors
     /// The first fault of the frame.

@@ -7,12 +7,12 @@ ghost use Rattle.sync_survey.specs.Looks.{Shows, IsStep, PassesFront};
 
 use crate::items::{Item, item_front};
 
-/// A part of a file, by the items of which it consists.
+/// A part of a file, by the items that it consists of.
 #[derive(Clone, Copy, Debug, PartialEq, Eq)]
 pub enum Region {
-    /// The front, which is before the first frame: blocks and zero bytes.
+    /// The front, before the first frame: blocks and zero bytes.
     Front,
-    /// What is from the first frame on: frames, blocks and zero bytes.
+    /// Everything from the first frame on: frames, blocks and zero bytes.
     Stream,
 }
 
@@ -27,15 +27,15 @@ fn belongs(part: Region, item: &Item) -> bool
     }
 }
 
-/// A whole item, and how many bytes are passed with it: its own, or after a zero byte all zero bytes that
-/// were seen.
+/// A whole item, and how many bytes are passed with it: its own, or for a zero byte all zero bytes
+/// that were seen.
 #[derive(Clone, Copy)]
 pub struct Step {
     pub item: Item,
     pub size: u64,
 }
 
-/// With how many zero bytes the bytes begin.
+/// How many zero bytes the bytes begin with.
 fn zeros(bytes: &[u8]) -> usize
     ensures count { result ≡ prefix_len (λ b. b == 0) bytes.now }
     ensures within { result ≤ length bytes.now }
@@ -43,7 +43,7 @@ fn zeros(bytes: &[u8]) -> usize
     bytes.iter().take_while(|byte| **byte == 0).count()
 }
 
-/// How many bytes are passed with the item of this size, with which the bytes begin.
+/// How many bytes are passed with the item of this size with which the bytes begin.
 fn passed(item: &Item, size: u64, front: &[u8]) -> u64
     requires { size ≡ size_of item.now }
     ensures zeros { item.now ≡ Item.Zero → result ≡ prefix_len (λ b. b == 0) front.now }

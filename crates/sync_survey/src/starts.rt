@@ -37,9 +37,9 @@ pub fn bytes_from(bytes: &[u8], place: usize) -> &[u8]
     bytes.get(place..).unwrap_or(&[])
 }
 
-/// The anchored frame at the offset from which on a look has shown these bytes, where `left` bytes of the
-/// file are left: it is whole, and at its end there is a header of its class, the first byte of a block, or
-/// the end of the file.
+/// The anchored frame at the offset, if there is one, where a look shows these bytes and `left`
+/// bytes of the file are left. Such a frame is whole, and at its end there is a header of its
+/// class, the beginning of a block, or the end of the file.
 #[tactic(auto, unfolding(crate::specs::Start::anchored_frame))]
 pub fn anchored_frame(front: &[u8], offset: u64, left: u64) -> Option<PlacedFrame>
     ensures frame { (file : List ℕ) → Shows file offset front.now left
@@ -62,8 +62,8 @@ pub fn anchored_frame(front: &[u8], offset: u64, left: u64) -> Option<PlacedFram
     Some(PlacedFrame { offset, header })
 }
 
-/// The start by the item at an offset, where `left` bytes of the file are left, or its fault; `None` if
-/// junk begins there.
+/// The start, given the item at an offset where `left` bytes of the file are left, or its fault;
+/// `None` if junk begins there.
 fn start_here(item: &Item, offset: u64, left: u64) -> Option<Result<Start, SurveyFault>>
     ensures start { (file : List ℕ) → left ≡ length file - offset
         → MatchOption result (start_at file offset item.now ≡ start_after_junk offset
@@ -85,10 +85,10 @@ fn start_here(item: &Item, offset: u64, left: u64) -> Option<Result<Start, Surve
     }
 }
 
-/// The anchored frame at the first offset from `from` on, if there is one at one of 65,536 offsets.
+/// The first anchored frame at one of the 65,536 offsets from `from` on, if there is one.
 ///
 /// # Errors
-/// `Read` or `Shrunk` where the file can't be read.
+/// `Read` or `Shrunk` if the file can't be read.
 fn first_anchored<D: Folder>(
     feed: &mut Feed,
     folder: &mut D,
@@ -115,14 +115,14 @@ fn first_anchored<D: Folder>(
     Ok(None)
 }
 
-/// Where the stream of frames begins. `front_end` is where the front of the file ends. A frame there is the
-/// first one. Else the bytes from there on are junk, at most 65,536 of them, and the first frame is the
-/// anchored one at the smallest offset from the next byte on.
+/// Where the stream of frames begins. `front_end` is where the front of the file ends. A frame
+/// there is the first one. Otherwise the bytes from there on are junk, at most 65,536 of them, and
+/// the first frame is the anchored one at the smallest offset from the next byte on.
 ///
 /// # Errors
-/// `Truncated` where a block or a frame that begins there goes past the end of the file; `FreeFormat` where
-/// a header of free format is there; `NoFrame` where no anchored frame follows; `Read` or `Shrunk` where
-/// the file can't be read.
+/// `Truncated` if a block or a frame that begins there goes past the end of the file; `FreeFormat`
+/// if a header of free format is there; `NoFrame` if no anchored frame follows; `Read` or `Shrunk`
+/// if the file can't be read.
 #[tactic(auto, unfolding(crate::specs::Start::start_of))]
 pub(crate) fn find_start<D: Folder>(
     feed: &mut Feed,

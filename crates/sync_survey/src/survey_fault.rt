@@ -10,10 +10,10 @@ use std::alloc::{AllocError, AllocFailed};
 pub enum SurveyFault {
     /// The file isn't there.
     Absent,
-    /// The file is longer than 1,073,741,824 bytes: its length.
+    /// The file has this many bytes, more than 1,073,741,824.
     TooLong(u64),
-    /// No frame begins where the front of the file ends, nor after junk; or, with the file's length, the
-    /// only frame is a head.
+    /// No frame begins where the front of the file ends, nor after junk; or, with the file's
+    /// length, the only frame is a head.
     NoFrame(u64),
     /// Neither a frame nor a block nor a zero byte begins here.
     LostSync(u64),
@@ -21,15 +21,15 @@ pub enum SurveyFault {
     Truncated(u64),
     /// A header of free format begins here.
     FreeFormat(u64),
-    /// The frame here is of another class than the first frame: version, sampling frequency or number of
-    /// channels differ.
+    /// The frame here is of another class than the first frame: its version, sampling frequency or
+    /// number of channels differs.
     Mixed(u64),
-    /// The check word of the frame here is wrong: the word that is there, and the one that is right.
+    /// The check word of the frame here is wrong: the word that is there, and the right one.
     CheckWord(u64, u16, u16),
     /// The main data of the frame here begin before all areas of the file, and an earlier frame has main
     /// data, so that the frame isn't lost: its main_data_begin, and how many bytes of areas are before it.
     BackPointer(u64, u32, u64),
-    /// The main data of the frame here begin before those of an earlier frame end.
+    /// The main data of the frame here begin before the main data of an earlier frame end.
     Overlap(u64),
     /// The main data of the frame here go past the end of its own area: how many bits they have, and how
     /// many bits there are for them.
@@ -40,7 +40,7 @@ pub enum SurveyFault {
     Shrunk(u64, u64),
     /// The file could not be read.
     Read,
-    /// There was no memory left.
+    /// Memory ran out.
     Memory,
 }
 

@@ -1,4 +1,4 @@
-//! What a survey tells of a file.
+//! What a survey says of a file.
 ghost use Rattle.std.specs.Prelude.{◌≡◌, ◌-◌};
 ghost use Rattle.sync_survey.specs.Faults.{survey_view};
 
@@ -17,29 +17,29 @@ pub struct Survey {
 }
 
 impl Survey {
-    /// The frames of the stream in their order, without the head.
+    /// The frames of the stream in order, without the head.
     pub fn frames(&self) -> &[Row]
         ensures { result.now ≡ (survey_view self.now).frames }
     {
         &self.frames
     }
 
-    /// The blocks by their offsets.
+    /// The blocks in order of offset.
     pub fn blocks(&self) -> &[Piece]
         ensures { result.now ≡ (survey_view self.now).blocks }
     {
         &self.blocks
     }
 
-    /// The head, where the first frame is one.
+    /// The head, if the first frame is one.
     pub fn head(&self) -> Option<Head>
         ensures { result ≡ (survey_view self.now).head }
     {
         self.head
     }
 
-    /// The offset and the length of the junk before the first frame. Without junk the offset is that of
-    /// the first frame or head, and the length 0.
+    /// The offset and the length of the junk before the first frame. Without junk, the offset is
+    /// where the first frame or head begins, and the length is 0.
     pub fn junk(&self) -> (u64, u64)
         ensures { result ≡ ((survey_view self.now).junk, (survey_view self.now).first - (survey_view self.now).junk) }
     {

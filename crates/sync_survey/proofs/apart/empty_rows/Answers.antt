@@ -1,4 +1,4 @@
--- A frame more is an empty one, or stays.
+-- One more frame becomes an empty one, or is unchanged.
 use Rattle.std.proofs.Common.{arith, length, ◌<◌}
 use Rattle.sync_survey.proofs.ApartRowLemmas.{emptied-step}
 use Rattle.sync_survey.proofs.apart.empty_rows.Goals as goal

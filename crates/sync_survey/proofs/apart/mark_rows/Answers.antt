@@ -1,4 +1,4 @@
--- A frame more is marked; after the last one that may be lost the others stay.
+-- One more frame is marked; after the last one that may be lost, the others are unchanged.
 use Rattle.std.proofs.Common.{ap, arith, length, min, sym, ◌+◌, ◌-◌, ◌<◌, ◌^◌, ◌∙◌, ◌≤◌}
 use Rattle.sync_survey.proofs.ApartRowLemmas.{marked-all, marked-last, marked-next, marked-none}
 use Rattle.sync_survey.specs.{MainData.own_area, Row.Row}

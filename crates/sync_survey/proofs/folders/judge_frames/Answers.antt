@@ -1,4 +1,4 @@
--- One item more is judged and kept, until the file ends.
+-- One more item is judged and kept, until the file ends.
 use Rattle.std.proofs.Common.{ap, ap₂, arith, Err, IfSome, length, List, None, Ok, Option, refl}
 use Rattle.std.proofs.Common.{rules, Some, subst, sym, vec_len, ℕ, [], ◌+◌, ◌<◌, ◌∙◌, ◌∷◌, ◌≡◌, ◌≤◌}
 use Rattle.std.proofs.lemmas.Bool.{eq-eqb, eqb-true, true≢false}

@@ -1,4 +1,4 @@
--- What a file's survey is, clause by clause; and the fault that is told is the first.
+-- What a file's survey is, clause by clause; and the fault that is returned is the first.
 use Rattle.std.proofs.{Common.{length, rules, ◌≤◌}, lemmas.Result.IfOk-weaker}
 use Rattle.sync_survey.{proofs.FirstFaultLemmas.refused_first, specs.Faults.survey_view}
 use Rattle.sync_survey.specs.Survey.{IsSurveyLaidOut, IsSurveyOf, IsWholeSurvey}

@@ -1,4 +1,4 @@
--- What a step refuses, the survey refuses, since the steps before left the files and all counts.
+-- The survey refuses what a step refuses, since the steps before left the files and all counts.
 use Rattle.std.proofs.Common.{arith, rules, subst, sym, ◌∙◌, ◌≡◌}
 use Rattle.outside.{proofs.BufferOutputLemmas.err_at, specs.{Counts.OnlyReads, Files.Holds}}
 use Rattle.sync_survey.{proofs.FoldersLemmas.refusal_later, specs.Survey.{BlocksAreLaid, HasLength}}
@@ -80,7 +80,7 @@ returns g c = record {
       c.judge_frames.ensures.counts;
 }
 
--- what was found before the frames is what they are judged by
+-- the frames are judged by what was found before them
 pub judge_frames-requires-clause-walk : goal.judge_frames-requires-clause-walk
 judge_frames-requires-clause-walk g c =
     let seen = g.D.Folder.seen in

@@ -1,4 +1,4 @@
--- One item more, or none.
+-- One more item, or none.
 use Rattle.std.proofs.Common.{arith, subst, sym}
 use Rattle.outside.proofs.BufferOutputLemmas.{err_at}
 use Rattle.sync_survey.proofs.FoldersLemmas.{none_read, read_more, refusal_after, still_held}

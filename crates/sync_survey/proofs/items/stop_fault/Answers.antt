@@ -1,4 +1,4 @@
--- Bytes don't end the file.
+-- Where there are bytes, the file doesn't end.
 use Rattle.std.proofs.Common.{ap, unwrap_or, ◌∙◌}
 use Rattle.sync_survey.{proofs.WalkLemmas.stop_is, specs.Walk.fault_at}
 use Rattle.sync_survey.specs.declared.survey_fault.SurveyFault.TheVariants.{LostSync}

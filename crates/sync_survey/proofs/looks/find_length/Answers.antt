@@ -1,4 +1,4 @@
--- A file that is too long is refused so, and what is told of any other are bytes.
+-- A file that is too long is refused for its length, and what is known of any other file are bytes.
 use Rattle.sync_survey.proofs.FoldersLemmas.{long_refusal, octets_bytes}
 use Rattle.sync_survey.proofs.looks.find_length.Goals as goal
 

@@ -1,4 +1,4 @@
--- The start is by the item at which the front ends.
+-- The start, given the item at which the front ends.
 use Rattle.std.proofs.Common.{ap, List, refl, subst, sym, ℕ, ◌∙◌, ◌≡◌}
 use Rattle.outside.{proofs.BufferOutputLemmas.err_at, specs.Files.Holds}
 use Rattle.sync_survey.proofs.FoldersLemmas.{none_read, read_more, refusal_after, start_err}
@@ -9,13 +9,13 @@ use Rattle.sync_survey.specs.Start.{front_end_of, start_after_junk, start_at, st
 use Rattle.sync_survey.proofs.starts.find_start.Given as given
 use Rattle.sync_survey.proofs.starts.find_start.Goals as goal
 
--- so many bytes are left, and what is shown begins with this item
+-- `left` bytes are left, and what is shown begins with this item
 started : (file front : List ℕ) (at left : ℕ) → at ≡ front_end_of file → Shows file at front left
     → start_of file ≡ start_at file at (item_front front)
 started file front at left end shows =
     start_is file at (item_front front) end (sym (item_at-shown file at front left shows))
 
--- so the start is by the item that was shown
+-- the start, given the item that was shown
 module _ (g : given.Over) (c : After-item_front g) where
   left_is : (bytes : List ℕ) → Holds (g.D.Folder.seen c.args.folder.now).files c.args.name.now bytes
       → Shows bytes c.args.front_end c.look.new.feed.given c.in_ok-left.left

@@ -1,4 +1,4 @@
--- No anchored frame is at an offset before.
+-- There is no anchored frame at an earlier offset.
 use Rattle.std.proofs.Common.{List, None, ℕ, ◌<◌, ◌≡◌, ◌≤◌}
 use Rattle.outside.specs.Files.{Holds}
 use Rattle.sync_survey.{proofs.FoldersLemmas.HasRead, specs.Start.anchored_frame}

@@ -1,4 +1,4 @@
--- A frame of the class is judged by its later faults, in its row.
+-- The later faults of a frame of the class decide on its row.
 use Rattle.std.proofs.Common.{ap, ap₂, arith, false, get_or, inr, length, List, refl, slice_set}
 use Rattle.std.proofs.Common.{Some, subst, sym, true, [], ◌++◌, ◌+◌, ◌∙◌, ◌∷◌, ◌≡◌}
 use Rattle.std.proofs.lemmas.Result.{err_from_is_err_and}

@@ -1,4 +1,4 @@
--- The first of all faults, one kind after another.
+-- The first of all faults, kind by kind.
 use Rattle.std.proofs.{Common.{sym, ◌∙◌}, lemmas.Result.err_from_is_err_and}
 use Rattle.side_info.specs.Frame.{stored_crc}
 use Rattle.sync_survey.proofs.FaultsLemmas.{first-count, first-data, first-word}

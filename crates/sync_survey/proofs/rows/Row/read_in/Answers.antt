@@ -1,4 +1,4 @@
--- A header that was read is that of the first four bytes.
+-- A header that was read is the header of the first four bytes.
 use Rattle.sync_survey.proofs.ItemsLemmas.{header_at-front}
 use Rattle.sync_survey.proofs.rows.Row.read_in.Goals as goal
 
