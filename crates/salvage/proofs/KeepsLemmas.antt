@@ -1,4 +1,4 @@
--- Of a file without fault all is read that its survey tells.
+-- Everything in the survey of a file without fault is read.
 use Rattle.std.proofs.Common.{ap, append-nil, ap₂, arith, Bool, cond, drop, Err, false, is_some}
 use Rattle.std.proofs.Common.{length, length-drop, List, map, None, not, Ok, Option}
 use Rattle.std.proofs.Common.{option_and_then, option_to_list, refl, slice_get, Some, subst, suc}
@@ -79,7 +79,7 @@ usable_all file class (p ∷ ps) sound = (
   usable_all file class ps (λ i r is. sound (suc i) r is),
 )
 
--- ---- its items are all that is read
+-- ---- the items of the survey are all that is read
 
 abbrev as_thing : PlacedItem → PlacedThing
 as_thing p = record { offset = p.offset; thing = IsItem p.item }
@@ -137,7 +137,7 @@ one_run (p ∷ ps) =
     frame_run (frame_of_item p.offset p.item) (runs_of (map as_thing ps)) (frames_of ps)
     (one_run ps)
 
--- ---- its marks are the same
+-- ---- the marks of the survey are the same
 
 sound_well : (place ended : ℕ) (r : Row) → StandWell place ended r → is_sound place ended r ≡ true
 sound_well place ended r well = ap₂ (λ (a b : Bool). a && b)
@@ -215,7 +215,7 @@ judged-marked file head class allowed rows sound =
     (λ i r is. let same : i ≡ 0 + i = omega arith in subst (λ m. judged_row head rows m r
     ≡ marked_row head rows m r) same (row_same file head class allowed rows sound i r is))
 
--- ---- its first frame is the first that is read
+-- ---- the first frame of the survey is the first that is read
 
 head_seen : (file : List ℕ) (p : PlacedFrame) (head : Head) → head_of file p ≡ Some head
     → is_head p (drop p.offset file) ≡ true
@@ -330,7 +330,7 @@ damaged_first : (file : List ℕ) (first : PlacedFrame)
 unfolding damaged_fields
 damaged_first file first is = ap (damaged_by file (front_end_of file)) is
 
--- what a survey tells is read, and the junk is a gap
+-- what a survey says is read, and the junk is a gap
 abbrev with_junk : SurveyFields → DamagedFields
 with_junk s = record { survey = s; gaps = gap_between s.junk s.first }
 
@@ -375,7 +375,7 @@ length_rows : (file : List ℕ) (ps : List PlacedFrame) → length (rows_of file
 length_rows file [] = refl
 length_rows file (p ∷ ps) = ap suc (length_rows file ps)
 
--- of a file without fault all is read that its survey tells
+-- everything in the survey of a file without fault is read
 pub keeps_streams : SalvageKeepsStreams
 keeps_streams = λ file allowed s is few.
     let parts = surveyed-parts file allowed s is in

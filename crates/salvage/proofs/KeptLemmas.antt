@@ -1,4 +1,4 @@
--- The main data of the frames that are kept are where they may be among those of all runs.
+-- The main data of the frames that are kept are where they may be among the main data of all runs.
 use Rattle.std.proofs.Common.{ap, ap₂, arith, Bool, cond, false, length, List, not, Option, refl}
 use Rattle.std.proofs.Common.{true, ℕ, [], ◌&&◌, ◌++◌, ◌+◌, ◌-◌, ◌||◌, ◌∙◌, ◌∷◌, ◌≡◌, ◌≤◌}
 use Rattle.std.proofs.lemmas.Bool.{and_parts, le-ltb, ltb-false, not-false, not-true}
@@ -35,7 +35,7 @@ within_sound place ended r is =
     (ap not (le-ltb (place + own_area r.header)
     ((place - r.side.main_data_begin) + payload_bytes r.side) is.within))
 
--- ---- one frame more
+-- ---- one more frame
 
 module _ (head : Option Head) where
   kept_ends : IsRuled head kept_end (end_of_kept head)
@@ -53,7 +53,7 @@ module _ (head : Option Head) where
     within = omega arith;
   }
 
-  -- after a gap the frames kept so far are the same, and no areas are before the next one
+  -- after a gap the frames kept so far are the same, and the next run begins without areas
   pub kept_gap : (rows : List Row) (b : ReservoirState) → AreKeptTo head rows b
       → AreKeptTo head rows empty_state
   kept_gap rows b kept = record {
@@ -117,7 +117,7 @@ module _ (head : Option Head) where
           sound = last_kept;
         })
 
-    -- with the next frame the frames kept so far are one more
+    -- the next frame is added to the frames kept so far
     pub kept_frame : AreKeptTo head (rows ++ marked_one ∷ []) (state_after_frame b r)
     kept_frame =
         let ends = end_by kept.base (place head rows (length rows))

@@ -38,7 +38,7 @@ use Rattle.sync_survey.specs.declared.{rows.ReservoirState.ReservoirState, runs.
 use Rattle.sync_survey.specs.declared.runs.Region.TheVariants.{Front, Stream}
 use Rattle.sync_survey.specs.declared.survey_fault.SurveyFault.{SurveyFault, TheVariants.TooLong}
 
--- ---- in order from an earlier offset too
+-- ---- things in order from an earlier offset too
 
 rows-earlier : (from later : ℕ) (rows : List Row) (to : ℕ) → from ≤ later
     → FramesAreLaid later rows to → FramesAreLaid from rows to
@@ -57,7 +57,7 @@ gaps-earlier from later (g ∷ gaps) to low laid = (omega (arith, low, laid.0), 
 
 -- ---- a thing that is met
 
--- a usable frame is of the class
+-- an item that is read passes the test of what is read
 read-by : (file : List ℕ) (role : Role) (at : ℕ) (o : Option Item) (item : Item)
     → item_if_read file role at o ≡ Some item → is_item_read file role at item ≡ true
 read-by file role at None item e = absurd cc
@@ -77,7 +77,7 @@ frame-known file class at h e = header_front-in_range (drop at file) h
     (stands-at file at (Frame h) (item_read-is file (Later class) at (Frame h) e).is)
 
 module _ (file : List ℕ) (class : ClassFields) where
-  -- it is read there, or is a gap
+  -- the item is read there, or a gap begins there
   abbrev IsMet : ℕ → ItemOrGap → Type 0
   IsMet at (IsItem item) = item_read file (Later class) at ≡ Some item
   IsMet at (IsGap n) = IsGapTo file at (at + n)
@@ -159,7 +159,7 @@ module _ (file : List ℕ) (class : ClassFields) where
               (kept_frame head rows b kept row));
         }
 
-    -- an item that is neither frame nor block
+    -- an item that is neither a frame nor a block
     order-other : (item : Item)
         → ((b : ReservoirState) → rows_left file b (with_thing (IsItem item)) ≡ rows_left file b ts)
         → blocks_of_things (with_thing (IsItem item)) ≡ blocks_of_things ts
@@ -262,7 +262,7 @@ first-by file at (Some (Frame h)) next first is follows e =
 first-by file at _ next first is follows e = let found = follows first e in
     record { low = omega (arith, found.low); frame = found.frame }
 
--- it is whole in the file, not before the front's end
+-- the first frame is whole in the file, and not before the end of the front
 pub first_frame-is : (file : List ℕ) (at : ℕ) (first : PlacedFrame)
     → first_frame file at ≡ Some first → IsNext file at first
 unfolding first_frame
@@ -270,7 +270,7 @@ first_frame-is file at first e =
     first-by file at (item_read file First at) (next_usable_frame file First
     (at + 1)) first (item_read-is file First at) (next_usable-is file First (at + 1)) e
 
--- so is a head, which is the first frame, and what is numbered is behind it
+-- a head is whole in the file and is the first frame, and the numbered frames begin after it
 record IsBehindHead (file : List ℕ) (first : PlacedFrame) (head : Option Head) : Type 0 where
   whole : IfSome head (IsWholeHead first.offset (class_of first.header) (length file))
   low : first.offset ≤ numbered_offset first head
@@ -412,7 +412,7 @@ damaged-laid file d e long =
     (subst (λ (c : DamagedFields). 0 < length c.survey.frames) (sym is.same) is.some)
     (subst (λ (c : DamagedFields). length c.survey.frames ≤ most_frames) (sym is.same) is.few))
 
--- ---- by the length
+-- ---- files by length
 
 length-by : (b : Bool) (n : ℕ) (r : Result DamagedFields SurveyFault) (d : DamagedFields)
     → cond b (Err (TooLong n)) r ≡ Ok d → (b ≡ false) × (r ≡ Ok d)
@@ -463,7 +463,7 @@ pub record HasFrames (file : List ℕ) : Type 0 where
   pub some : 0 < length (frames_of_things (things_from file first))
   pub few : length (frames_of_things (things_from file first)) ≤ most_frames
 
--- if something is read there is a first frame, and frames from it on, not too many
+-- if something is read, there is a first frame, and there are frames from it on, but not too many
 pub read-frames : (file : List ℕ) (d : DamagedFields) → damaged_of file ≡ Ok d → HasFrames file
 read-frames file d e =
     let read = damaged_of-is file d e in
@@ -485,7 +485,7 @@ first-read : (file : List ℕ) (first : PlacedFrame) → first_frame file (front
 unfolding damaged_fields
 first-read file first is = ap (damaged_by file (front_end_of file)) is
 
--- and if there are, that is what is read
+-- if there are such frames, they are what is read
 pub frames-read : (file : List ℕ) (is : HasFrames file)
     → damaged_of file ≡ Ok (damaged_from file (front_end_of file) is.first)
 frames-read file is =

@@ -1,5 +1,5 @@
--- With its emptied frames as frames without main data, what is
--- read of a damaged file is laid out as a file without fault.
+-- With its emptied frames as frames without main data, what is read of a damaged file is laid out
+-- like a file without fault.
 use Rattle.std.proofs.Common.{ap, ap₂, arith, Bool, cond, false, length, List, map, None, Option}
 use Rattle.std.proofs.Common.{option_to_list, refl, slice_get, Some, subst, suc, sym, true, zero, ℕ}
 use Rattle.std.proofs.{Common.{[], ◌++◌, ◌+◌, ◌||◌, ◌∙◌, ◌∷◌, ◌≡◌, ◌≤◌}, lemmas.List.length-map}
@@ -24,7 +24,7 @@ fits_at from to (q ∷ rows) zero r laid found = let same : q ≡ r = cc in
 fits_at from to (q ∷ rows) (suc i) r laid found =
     fits_at (q.offset + length_of (class_of q.header) q.header.slot) to rows i r laid.2 found
 
--- its header is of the standard and of the class
+-- the header of a frame is of the standard and of the class
 class_at : (class : ClassFields) (rows : List Row) (i : ℕ) (r : Row) → RowsAreOfClass class rows
     → slice_get rows i ≡ Some r → IsHeader r.header × (class_of r.header ≡ class)
 class_at class [] i r are found = absurd cc
@@ -72,7 +72,7 @@ module _ (d : DamagedFields) (laid : IsDamagedLaidOut d) where
     placed = placed-kept head d.survey.class rows (end_of_kept head rows) kept_at;
   }
 
--- ---- where none becomes an empty one
+-- ---- if none becomes an empty one
 
 none_lost : (number : ℕ) (r : Row) (rest : List Emptied) (b : Bool) → r.lost ≡ b
     → option_to_list (emptied_frame number r) ++ rest ≡ [] → (r.lost ≡ false) × (rest ≡ [])
@@ -86,7 +86,7 @@ none_lost number r rest false is e = (
       ++ rest) (sym is) ∙ e,
 )
 
--- the frames stay
+-- if no frame becomes an empty one, all frames are unchanged
 pub mended_none : (number : ℕ) (rows : List Row) → emptied_from number rows ≡ []
     → map emptied_row rows ≡ rows
 mended_none number [] none = refl

@@ -1,4 +1,4 @@
--- One thing more is read.
+-- One more thing is read.
 use Rattle.std.proofs.Common.{ap, append-nil, ap₂, arith, Bool, cond, drop, Err, false, IfSome}
 use Rattle.std.proofs.Common.{length, List, ltb, None, Ok, Option, option_to_list, refl, slice_get}
 use Rattle.std.proofs.Common.{Some, subst, sym, true, ℕ, [], ◌++◌, ◌+◌, ◌-◌, ◌<◌, ◌==◌, ◌∙◌, ◌∷◌}
@@ -92,7 +92,7 @@ module _ (file : List ℕ) (b : Begun) (old new : DamagedSoFar) where
       left shows h (omega (arith, overhead-few (class_of h) h.protected)))
   before_shown _ front left shows = refl
 
-  -- an item that is read is one more, with its frame or block kept
+  -- an item that is read is one more thing, whose frame or block is kept
   pub item_more : (item : Item) (size : ℕ) (front : List ℕ) (left : ℕ) → IsReadTo file b old
       → Shows file old.at front left → item_read file (Later (begun_class b)) old.at ≡ Some item
       → (item ≡ Zero → size ≡ prefix_len (λ b. b == 0) front)
@@ -133,7 +133,7 @@ pub record IsReadWhole (file : List ℕ) (b : Begun) (found : DamagedSoFar) : Ty
   pub blocks : found.pieces.items ≡ (whole_damaged file b).survey.blocks
   pub gaps : found.gaps.items ≡ (whole_damaged file b).gaps
 
--- at the end of the file it was read whole
+-- at the end of the file, it was read whole
 pub read_whole : (file : List ℕ) (b : Begun) (found : DamagedSoFar) → IsReadTo file b found
     → length file ≤ found.at → IsReadWhole file b found
 read_whole file b found so_far end =
@@ -170,7 +170,7 @@ same_items : {X : Type 0} (P : List X → Type 0) (old new : List X) → new ≡
 same_items P old new same holds = subst P (sym (same ∙ append-nil old)) holds
 
 module _ (b : Begun) (old new : DamagedSoFar) (laid : IsLaidTo b old) where
-  -- a gap that is added is behind all that was read before it
+  -- a gap that is added is after all that was read before it
   pub gap_laid : (to : ℕ) → old.at < to → to ≤ b.size → AddsGap to old new → IsLaidTo b new
   gap_laid to some within adds =
       let here : new.at ≡ to = adds.at in
@@ -253,7 +253,7 @@ module _ (b : Begun) (old new : DamagedSoFar) (laid : IsLaidTo b old) where
             (kept_frame b.head old.rows.items old.before laid.kept (row_in old.at h front)));
       }
 
-  -- whatever item it is that is kept
+  -- any item that is kept is after all that was read before it
   pub item_laid : (item : Item) (size : ℕ) (front : List ℕ)
       → (length old.rows.items ≤ most_frames → length new.rows.items ≤ most_frames)
       → item ≡ item_front front → admits_item (Later (begun_class b)) old.at item front ≡ true
@@ -288,7 +288,7 @@ many_counted : (front_end : ℕ) (rows : List Row) (d : DamagedFields) (r : Row)
 many_counted front_end [] d r is = absurd cc
 many_counted front_end (q ∷ rows) d r is = ap (λ o. excess_or_damaged o d) is
 
--- a frame more than there may be is the fault of the file
+-- a frame past the number that there may be is the fault of the file
 pub past_most : (file : List ℕ) (b : Begun) (found : DamagedSoFar) (item : Item)
     (fault : SurveyFault) → BeginsAsRead file b → length file ≤ longest_file → IsReadTo file b found
     → item_read file (Later (begun_class b)) found.at ≡ Some item → IsPastMost item found fault
@@ -309,7 +309,7 @@ past_most file b found (Frame h) fault begins few so_far is past =
     ∙ ap Err (sym past.0)
 past_most file b found _ fault begins few so_far is past = absurd past
 
--- no frame besides the head
+-- rows without a frame besides the head have that fault
 none_counted : (front_end : ℕ) (rows : List Row) (d : DamagedFields) → rows ≡ []
     → no_frame_or_damaged front_end rows d ≡ Err (NoFrame front_end)
 none_counted front_end rows d is = ap (λ l. no_frame_or_damaged front_end l d) is
@@ -322,27 +322,27 @@ no_frames file b found begins few read none =
     damaged_of-short file few ∙ damaged_is file b begins ∙ none_counted b.start.front_end
     (whole_damaged file b).survey.frames (whole_damaged file b) (sym read.rows ∙ none)
 
--- no first frame
+-- a file without a first frame has that fault
 first_none : (file : List ℕ) (front_end : ℕ) → front_end ≡ front_end_of file
     → first_frame file front_end ≡ None → damaged_fields file ≡ Err (NoFrame front_end)
 unfolding damaged_fields
 first_none file front_end front none = ap (λ n. damaged_by file n (first_frame file n)) (sym front)
     ∙ ap (damaged_by file front_end) none
 
--- so it is without a first frame
+-- a file without a first frame is refused where its front ends
 pub no_first : (file : List ℕ) (front_end : ℕ) → front_end ≡ front_end_of file → length file
     ≤ longest_file → first_frame file front_end ≡ None → damaged_of file ≡ Err (NoFrame front_end)
 no_first file front_end front few none =
     damaged_of-short file few ∙ first_none file front_end front none
 
--- frames that are some, and not too many, are counted without fault
+-- frames that are some, and not too many, have no fault by their number
 pub few_counted : (front_end : ℕ) (rows : List Row) (d : DamagedFields) → (rows ≡ [] → ⊥)
     → length rows ≤ most_frames → no_frame_or_damaged front_end rows d ≡ Ok d
 few_counted front_end [] d some few = absurd (some refl)
 few_counted front_end (r ∷ rows) d some few =
     ap (λ o. excess_or_damaged o d) (slice_get_past (r ∷ rows) most_frames few)
 
--- what the code tells is what is read
+-- what the code returns is what is read
 told_is : (file : List ℕ) (b : Begun) (found : DamagedSoFar) → BeginsAsRead file b
     → length file ≡ b.size → IsReadWhole file b found → whole_damaged file b ≡ found_view b found
 unfolding damaged_from
@@ -379,14 +379,14 @@ past_rightly _ found fault past = absurd past
 
 -- ---- where the reading begins
 
--- nothing was found yet
+-- no frame was found yet, and no gap but the one before the first frame
 pub record IsFirst (b : Begun) (found : DamagedSoFar) : Type 0 where
   pub rows : found.rows.items ≡ []
   pub gaps : found.gaps.items ≡ gap_between b.start.front_end b.start.first.offset
   pub before : found.before ≡ record { place = head_area b.head; ended = 0 }
   pub at : found.at ≡ numbered_offset b.start.first b.head
 
--- at the first frame the blocks of the front were read
+-- where the reading begins, the blocks of the front were read
 pub begun_read : (file : List ℕ) (b : Begun) (found : DamagedSoFar) → BeginsAsRead file b
     → IsFirst b found → found.pieces.items ≡ blocks_of (item_run Front file 0).items
     → IsReadTo file b found
@@ -418,7 +418,7 @@ between_laid from to at true is low high =
     (omega arith, omega (arith, ltb-true from to is), omega (arith, low, high))
 between_laid from to at false is low high = omega arith
 
--- and they are in order before it
+-- what was found where the reading begins is in order
 pub begun_laid : (b : Begun) (found : DamagedSoFar) → IsFirst b found
     → b.start.front_end ≤ b.start.first.offset
     → BlocksAreLaid 0 found.pieces.items b.start.front_end → found.before.place ≤ 1441

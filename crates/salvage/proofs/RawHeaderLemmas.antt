@@ -153,7 +153,7 @@ module _ (a b c d : ℕ) (rest : List ℕ) (a_few : a < 256) (b_few : b < 256) (
 abbrev pub AreFew : List ℕ → Type 0
 AreFew bytes = (i : ℕ) → get_or bytes i 0 < 256
 
--- what is left of bytes are bytes
+-- bytes without their first ones are bytes
 pub few_behind : (xs : List ℕ) (k : ℕ) → AreFew xs → AreFew (drop k xs)
 few_behind xs k few = λ i. subst (λ n. n < 256) (sym (get_or-drop k xs i 0)) (few (k + i))
 
@@ -169,7 +169,7 @@ header_says bytes h few e =
     let read = header_four bytes h e in
     says bytes h few read.0 read.1
 
--- where a header stands, it may begin
+-- where there is a header, one may begin
 pub header_begins : (bytes : List ℕ) (h : HeaderFields) → AreFew bytes → header_front bytes ≡ Ok h
     → may_begin_header (get_or bytes 0 0) (get_or bytes 1 0) ≡ true
 header_begins bytes h few e =
@@ -193,7 +193,7 @@ length_of_header : (h : HeaderFields) → length_of (class_of h) h.slot
 length_of_header h =
     any_channels h.version h.frequency_index (class_of h).channels h.slot.rate_index h.slot.padding
 
--- the length that the second and third byte of a header say is the frame's
+-- the length that the second and third bytes of a header give is the frame's
 pub length_is : (bytes : List ℕ) (h : HeaderFields) → AreFew bytes → header_front bytes ≡ Ok h
     → length_of (class_of h) h.slot ≡ raw_frame_length (get_or bytes 1 0) (get_or bytes 2 0)
 unfolding raw_frame_length
@@ -226,7 +226,7 @@ unfolding length_of rate_of frequency_of
 padded v f r (suc (suc n)) few = absurd (omega (arith, few))
 padded v f r _ few = omega arith
 
--- the table of 256 lengths tells this length
+-- the table of 256 lengths gives this length
 pub length_told : (second third : ℕ) → second < 256 → third < 256
     → get_or LENGTHS (second / 8 % 4 * 64 + third / 4) 0 + third / 2 % 2
     ≡ raw_frame_length second third
@@ -321,7 +321,8 @@ not_same : (own next : List ℕ) (h g : HeaderFields) → Says own h → Says ne
 not_same own next h g o n bare true e = absurd (false≢true (sym bare ∙ follows own next h g o n e))
 not_same own next h g o n bare false e = refl
 
--- neither a header of the class nor a block begins with these bytes, and they aren't none
+-- there is no anchor if neither a header of the class nor a block begins with these bytes, and
+-- there are some
 pub not_anchor : (own next : List ℕ) (h : HeaderFields) → AreFew own → AreFew next → 4 ≤ length next
     → header_front own ≡ Ok h → may_follow_header own next ≡ false
     → may_begin_block (get_or next 0 0) (get_or next 1 0) (get_or next 2 0) ≡ false
@@ -454,7 +455,7 @@ module _ (front : List ℕ) (k size : ℕ) (few : AreFew (drop k front))
       → size ≡ length_of (class_of h) h.slot
   same h is = said ∙ sym (length_is (drop k front) h few (here h is))
 
-  -- a place where no frame has an anchor behind it is passed
+  -- a place where no frame has an anchor at its end is ruled out
   pub plain_unanchored : ((h : HeaderFields) → header_front (drop k front) ≡ Ok h
       → is_anchor (class_of h) (item_front (drop size (drop k front))) ≡ false)
       → IsRuledOut front k
@@ -465,7 +466,7 @@ module _ (front : List ℕ) (k size : ℕ) (few : AreFew (drop k front))
         ∙ none h (here h is)),
   )
 
-  -- so is one where the frame isn't usable
+  -- a place where the frame isn't usable is ruled out
   pub plain_unusable : IsUnusable (drop k front) → IsRuledOut front k
   plain_unusable none = λ role offset h is.
       (omega (arith, near, same h is), inr (none role (offset + k) h (here h is)))

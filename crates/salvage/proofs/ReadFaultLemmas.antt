@@ -24,7 +24,7 @@ module _ (name : List ℕ) (files : Files) (before after : Counts) (fault : Surv
   cause_by IsRefused is refused = refused refl
   cause_by _ is refused = is
 
-  -- a call failed, the file became shorter, or there is no memory
+  -- the file is refused if a call failed, it became shorter, or memory ran out
   pub outside_refusal : IsSurveyRefusal name files 0 before after fault → IsFromOutside fault
       → IsDamagedRefusal name files before after fault
   outside_refusal is outside = record {
@@ -32,7 +32,7 @@ module _ (name : List ℕ) (files : Files) (before after : Counts) (fault : Surv
     numbers = is.numbers;
   }
 
-  -- the bytes are refused
+  -- the file is refused if its bytes are
   pub bytes_refusal : (size : ℕ) → HasLength files name size → after ≡ before → RefusesRightly fault
       → ((bytes : List ℕ) → Holds files name bytes → damaged_of bytes ≡ Err fault)
       → IsDamagedRefusal name files before after fault
@@ -42,7 +42,7 @@ module _ (name : List ℕ) (files : Files) (before after : Counts) (fault : Surv
     numbers = rightly.1;
   }
 
--- want of memory may refuse any file
+-- any file may be refused when out of memory
 pub memory_refusal : (name : List ℕ) (files : Files) (before after : Counts) (size : ℕ)
     → HasLength files name size → after ≡ before → IsDamagedRefusal name files before after Memory
 memory_refusal name files before after size known same = record {
@@ -62,11 +62,11 @@ pub look_refusal : {feed : Fed} {name : List ℕ} {files mid : Files} {before be
 look_refusal {name = name} {files = files} {before = before} {after = after} {fault = fault} read is
     outside = outside_refusal name files before after fault (refusal_after read is) outside
 
--- files and counts are the same
+-- equal files and equal counts are all that is seen
 pub seen_same : {now was : Seen} → now.files ≡ was.files → now.counts ≡ was.counts → now ≡ was
 seen_same files counts = λ i. record { files = files i; counts = counts i }
 
--- ---- by the length
+-- ---- files by length
 
 long-too : (file : List ℕ) → longest_file < length file
     → damaged_of file ≡ Err (TooLong (length file))
@@ -74,7 +74,7 @@ unfolding damaged_of
 long-too file long = let more : ltb longest_file (length file) ≡ true =
     lt-ltb longest_file (length file) long in rw more refl
 
--- what is read of a file that isn't too long is read of its bytes
+-- what is read of a file that isn't too long is read from its bytes
 pub damaged_of-short : (file : List ℕ) → length file ≤ longest_file
     → damaged_of file ≡ damaged_fields file
 unfolding damaged_of
@@ -86,7 +86,7 @@ refused_long : (file : List ℕ) (fault : SurveyFault) → fault ≡ TooLong (le
 refused_long file fault is numbers =
     long-too file (subst HasRightNumbers is numbers) ∙ ap Err (sym is)
 
--- the file isn't found, or is too long
+-- the file is refused if it isn't found or is too long
 pub find_refusal : (name : List ℕ) (files : Files) (before after : Counts) (fault : SurveyFault)
     → IsSurveyRefusal name files 0 before after fault → IsLengthFault name files fault
     → IsDamagedRefusal name files before after fault

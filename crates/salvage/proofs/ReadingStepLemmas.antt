@@ -1,4 +1,4 @@
--- How a damaged file is read on, by an item that is read at the offset that was reached.
+-- How reading a damaged file continues with an item that is read at the offset that was reached.
 use Rattle.std.proofs.Common.{arith, inl, inr, length, List, MatchResult, OnOk, Result, Some, subst}
 use Rattle.std.proofs.Common.{sym, true, ℕ, ◌+◌, ◌≡◌, ◌≤◌, ◌⊎◌}
 use Rattle.outside.specs.{Feed.Fed, Files.Holds, Seen.Seen}
@@ -21,7 +21,7 @@ module _ (was now : Seen) (name : List ℕ) (begun : Begun) (old : DamagedSoFar)
     → item_read bytes (Later (begun_class begun)) old.at ≡ Some item)
     (begins : IsBegunFile was.files name begun)
     (reading : IsDamagedReading was.files name begun old) where
-  -- there is no memory, or the item is a frame too many
+  -- the file is refused if memory ran out, or if the item is a frame too many
   keep_refused : now.counts ≡ was.counts → (fault : SurveyFault) → (fault ≡ Memory)
       ⊎ IsPastMost item old fault → IsDamagedRefusal name was.files was.counts now.counts fault
   keep_refused same fault is =

@@ -36,7 +36,7 @@ get_drop (x ∷ xs) (suc k) i =
     let next : suc (k + i) ≡ suc k + i = omega arith in
     get_drop xs k i ∙ ap (λ n. get_or (x ∷ xs) n 0) next
 
--- where none may begin, none does
+-- where no header may begin, no frame does
 pub bare_at : (front : List ℕ) → ((i : ℕ) → get_or front i 0 < 256) → (k : ℕ)
     → may_begin_header (get_or front k 0) (get_or front (k + 1) 0) ≡ false → (h : HeaderFields)
     → item_front (drop k front) ≡ Frame h → ⊥
@@ -51,7 +51,7 @@ bare_at front few k bare h is =
 
 -- ---- where there is no anchored frame
 
--- a header other than this one isn't here
+-- the header of a frame here is this one
 pub header_same : (bytes : List ℕ) (h g : HeaderFields) → header_front bytes ≡ Ok h
     → item_front bytes ≡ Frame g → h ≡ g
 header_same bytes h g read is =
@@ -63,11 +63,11 @@ pub header_of : (bytes : List ℕ) (g : HeaderFields) → item_front bytes ≡ F
     → header_front bytes ≡ Ok g
 header_of bytes g is = subst (IsItemFront bytes) is (stands bytes)
 
--- the frame at this place has no anchor, or isn't usable
+-- the frame at this place has no anchor, or isn't usable:
 module _ (role : Role) (offset : ℕ) (front : List ℕ) (k : ℕ) (g : HeaderFields)
     (here : header_front (drop k front) ≡ Ok g)
     (near : k + length_of (class_of g) g.slot ≤ 4064) where
-  -- without an anchor none usable begins here
+  -- a frame without an anchor isn't a usable anchored one
   pub bare_unanchored : is_anchor (class_of g)
       (item_front (drop (k + length_of (class_of g) g.slot) front)) ≡ false
       → HasNoUsableFrame role offset front k
@@ -79,7 +79,7 @@ module _ (role : Role) (offset : ℕ) (front : List ℕ) (k : ℕ) (g : HeaderFi
       ⊎ (is_usable role (record { offset = offset + k; header = f }) (drop k front) ≡ false)))
       (header_same (drop k front) g h here is) (near, inl none)
 
-  -- nor does one if the frame isn't usable
+  -- a frame that isn't usable isn't a usable anchored one
   pub bare_unusable : is_usable role (record { offset = offset + k; header = g }) (drop k front)
       ≡ false → HasNoUsableFrame role offset front k
   bare_unusable none = λ h is.
@@ -110,7 +110,7 @@ bare_joined P from mid to before behind k low high = by_place (leb mid k) refl
     by_place true is = behind k (leb-true mid k is) high
     by_place false is = before k low (leb-false mid k is)
 
--- a frame that isn't usable is none, anchored or not
+-- a frame that isn't usable isn't found, anchored or not
 unusable : (file : List ℕ) (role : Role) (p : PlacedFrame) (b : Bool)
     → is_usable role p (drop p.offset file) ≡ false
     → frame_if_usable file role (cond b (Some p) None) ≡ None
@@ -157,7 +157,7 @@ module _ (file : List ℕ) (at : ℕ) (front : List ℕ) (left : ℕ)
       ap (λ i. frame_if_usable file role (anchored_item file (at + k) i))
       (sym (item_at-behind file at front left shows k near)) ∙ bare_by role k item refl bare
 
-  -- none is at the offsets that are passed
+  -- there is no usable frame at the offsets that are passed
   pub passed_bare : (role : Role) (n earlier : ℕ) → n ≤ 4064
       → ((k : ℕ) → 0 < k → k < n → HasNoUsableFrame role at front k) → at < earlier
       → earlier < at + n → usable_frame_at file role earlier ≡ None
@@ -167,7 +167,7 @@ module _ (file : List ℕ) (at : ℕ) (front : List ℕ) (left : ℕ)
       subst (λ m. usable_frame_at file role m ≡ None) same (bare_usable role k
       (omega (arith, near, high, low)) (bare k (omega (arith, low)) (omega (arith, high, low))))
 
--- none is before a later offset
+-- there is no usable frame before a later offset
 pub none_later : (file : List ℕ) (role : Role) (from at later earlier : ℕ)
     → ((k : ℕ) → from ≤ k → k < at → usable_frame_at file role k ≡ None)
     → usable_frame_at file role at ≡ None
@@ -186,7 +186,7 @@ none_later file role from at later earlier before here behind low high =
 
 -- ---- the search
 
--- a usable frame before which there is none is the next
+-- a usable frame with none before it is the next one
 pub next_usable-some : (file : List ℕ) (role : Role) (from at : ℕ) (p : PlacedFrame) → from ≤ at
     → at < length file → usable_frame_at file role at ≡ Some p
     → ((k : ℕ) → from ≤ k → k < at → usable_frame_at file role k ≡ None)
@@ -203,7 +203,7 @@ none_by_end file role from to at end none low true e =
     not_usable file role at (anchored_frame-past file at (omega (arith, end, leb-true to at e)))
 none_by_end file role from to at end none low false e = none at low (leb-false to at e)
 
--- without one before the end of the file there is no next
+-- if there is no usable frame before the end of the file, there is no next one
 pub next_usable-none : (file : List ℕ) (role : Role) (from to : ℕ) → length file ≤ to
     → ((k : ℕ) → from ≤ k → k < to → usable_frame_at file role k ≡ None)
     → next_usable_frame file role from ≡ None
@@ -222,7 +222,7 @@ unfolding first_frame
 first_here file front_end p here =
     ap (λ o. option_or o (next_usable_frame file First (front_end + 1))) here
 
--- if none is there, the first is the next usable one behind it
+-- if none is there, the first frame is the next usable one after it
 pub first_later : (file : List ℕ) (front_end : ℕ)
     → option_and_then (frame_of_item front_end) (item_read file First front_end) ≡ None
     → first_frame file front_end ≡ next_usable_frame file First (front_end + 1)
@@ -230,7 +230,7 @@ unfolding first_frame
 first_later file front_end none =
     ap (λ o. option_or o (next_usable_frame file First (front_end + 1))) none
 
--- so what the search behind it finds is the first frame
+-- the first frame is what the search after it finds
 pub first_behind : (name : List ℕ) (files mid : Files) (front_end : ℕ)
     (r : Result (Option PlacedFrame) SurveyFault) → mid ≡ files
     → ((bytes : List ℕ) → Holds files name bytes

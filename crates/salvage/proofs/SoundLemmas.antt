@@ -1,4 +1,4 @@
--- The frames of all runs, judged one after the other.
+-- The frames of all runs, judged in order.
 use Rattle.std.proofs.Common.{ap, append_assoc, ap₂, arith, flat_map, length, length-append, List}
 use Rattle.std.proofs.Common.{map, None, not, Option, refl, sym, ℕ, [], ◌++◌, ◌+◌, ◌∙◌, ◌∷◌, ◌≡◌}
 use Rattle.std.specs.List.{enumerate_from}
@@ -15,7 +15,7 @@ use Rattle.sync_survey.specs.declared.rows.ReservoirState.{ReservoirState}
 
 -- ---- one run
 
--- the rows marked one after the other
+-- the rows marked in order
 abbrev pub judged_from : ReservoirState → List Row → List Row
 judged_from b [] = []
 judged_from b (r ∷ rows) = row_judged_in b r ∷ judged_from (state_after_frame b r) rows
@@ -81,7 +81,7 @@ runs-from : (file : List ℕ) (head : Option Head) (runs : FrameRuns) → judged
 runs-from file head runs = ap₂ (λ (a b : List Row). a ++ b)
     (judged-from head (rows_of file runs.first)) (later_same file runs.later)
 
--- one thing more before the others
+-- one more thing before the others
 thing_first : (file : List ℕ) (b : ReservoirState) (at : ℕ) (thing : ItemOrGap) (runs : FrameRuns)
     → runs_from file b (runs_with_thing at thing runs)
     ≡ thing_rows file b at thing ++ runs_from file (state_after_thing file b at thing) runs
@@ -95,7 +95,7 @@ all_things file b (t ∷ ts) = thing_first file b t.offset t.thing (runs_of ts)
     ∙ ap (λ l. thing_rows file b t.offset t.thing ++ l)
     (all_things file (state_after_thing file b t.offset t.thing) ts)
 
--- the frames of all runs are those that are met one after the other
+-- the frames of all runs are the frames that are met, in order
 pub runs-left : (file : List ℕ) (head : Option Head) (ts : List PlacedThing)
     → judged_runs file head (runs_of ts)
     ≡ rows_left file (record { place = head_area head; ended = 0 }) ts

@@ -1,4 +1,4 @@
--- The stream of what is read, run by run, is that of all frames as a survey tells of them.
+-- The stream of what is read, run by run, is the stream of all frames in the survey.
 use Rattle.std.proofs.Common.{ap, append_assoc, ap₂, arith, Bool, cond, drop, false, flat_map}
 use Rattle.std.proofs.Common.{IfSome, length, length-append, length-drop, length-take, List, map}
 use Rattle.std.proofs.Common.{None, not, Ok, Option, refl, Some, subst, suc, sym, take, true, ℕ, []}
@@ -29,9 +29,9 @@ use Rattle.sync_survey.specs.{Survey.{FramesAreLaid, IsWholeHead}, Walk.head_of}
 use Rattle.sync_survey.specs.declared.places.{Head.Head, PlacedFrame.PlacedFrame}
 use Rattle.sync_survey.specs.declared.rows.ReservoirState.{ReservoirState}
 
--- ---- frames one after the other
+-- ---- frames in order
 
--- a frame of the stream, by the place of its own area
+-- a frame of the stream, given the place of its own area
 abbrev frame_at : List ℕ → ℕ → Row → StreamFrame
 frame_at main place r = record {
   header = record r.header { slot = no_slot };
@@ -100,7 +100,7 @@ payload_among before main behind start s within =
     ∙ take-append-le n (drop (8 * start) (bits main)) (bits behind)
     (omega (arith, within, length-bits main, length-drop (8 * start) (bits main)))
 
--- the main data of a frame that is kept are among those of its run
+-- the main data of a frame that is kept are among the main data of its run
 abbrev Fits : ℕ → ℕ → Row → Type 0
 Fits size place r = (r.side.main_data_begin ≤ place)
     × (8 * (place - r.side.main_data_begin) + payload_bits r.side ≤ 8 * size)
@@ -332,7 +332,7 @@ told_stream file front_end first laid =
     (laid_whole file first.offset (judged_runs file (head_of file first)
     (runs_of (things_from file first))) (length file) (omega arith) laid.frames)
 
--- the stream of the file is the one that its frames and runs tell
+-- the stream of a file is the stream of its runs of frames
 pub stream-told : (file : List ℕ) (d : DamagedFields) → damaged_fields file ≡ Ok d
     → IsDamagedLaidOut d → stream_of_survey file d.survey ≡ salvaged_stream file
 stream-told file d e laid =
@@ -341,7 +341,7 @@ stream-told file d e laid =
     ∙ told_stream file (front_end_of file) is.first (subst IsDamagedLaidOut (sym is.same) laid)
     ∙ from_first file is.first is.first_is
 
--- the same of all that is read of a file
+-- the law for all that is read of a file
 pub tells_streams : SalvageTellsStreams
 tells_streams file d e = let read = damaged_of-is file d e in
     stream-told file d read.1 (read-laid file d e)

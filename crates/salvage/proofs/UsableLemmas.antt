@@ -25,7 +25,7 @@ use Rattle.sync_survey.specs.declared.items.Item.TheVariants.{Block, Frame, Zero
 use Rattle.sync_survey.specs.declared.places.PlacedFrame.{PlacedFrame}
 use Rattle.sync_survey.specs.declared.runs.Region.TheVariants.{Stream}
 
--- a header anywhere is that of a frame with few bytes
+-- a header anywhere is the header of a frame with few bytes
 pub length_few : (front : List ℕ) (h : HeaderFields) → item_front front ≡ Frame h
     → length_of (class_of h) h.slot ≤ 1441
 length_few front h is =
@@ -61,7 +61,7 @@ unfolding side_in side_part
 side_protected h bytes is = ap (λ p. side_at (class_of h)
     (bits (take (side_size_of (class_of h)) (drop (side_place p) bytes)))) is
 
--- ---- what is judged is seen by fewer bytes too
+-- ---- fewer bytes show what is judged, too
 
 word-take : (h : HeaderFields) (n : ℕ) (bytes : List ℕ) → 6 ≤ n
     → overhead_of (class_of h) h.protected ≤ n
@@ -86,7 +86,7 @@ usable-take (Later class) p n bytes six room few = ap
 
 module _ (file : List ℕ) (at : ℕ) (front : List ℕ) (left : ℕ)
     (shows : Shows file at front left) where
-  -- whether a frame is usable is seen from the look
+  -- the look shows whether a frame is usable
   pub usable_shown : (role : Role) (p : PlacedFrame) → p.offset ≡ at → item_front front
       ≡ Frame p.header → is_usable role p front ≡ is_usable role p (drop p.offset file)
   usable_shown role p here is =
@@ -97,7 +97,7 @@ module _ (file : List ℕ) (at : ℕ) (front : List ℕ) (left : ℕ)
       )) (omega (arith, length_few front p.header is))
       ∙ ap (λ n. is_usable role p (drop n file)) (sym here)
 
-  -- whether a frame is usable that is at a later place of the look, and ends within it
+  -- the look shows whether a frame that is at a later place of it, and ends within it, is usable
   pub usable_behind : (role : Role) (k : ℕ) (h : HeaderFields)
       → k + length_of (class_of h) h.slot ≤ 4064 → item_front (drop k front) ≡ Frame h
       → is_usable role (record { offset = at + k; header = h }) (drop k front)
@@ -120,7 +120,7 @@ module _ (file : List ℕ) (at : ℕ) (front : List ℕ) (left : ℕ)
   unfolding usable_frame_at
   usable_by role o is = ap (frame_if_usable file role) is
 
-  -- where no frame is anchored none is usable
+  -- if no frame is anchored, none is usable
   pub none_anchored : (role : Role) → None ≡ anchored_frame file at
       → None ≡ usable_frame_at file role at
   none_anchored role is = usable_by role None is
@@ -133,7 +133,7 @@ module _ (file : List ℕ) (at : ℕ) (front : List ℕ) (left : ℕ)
       sym (ap (λ b. cond b (Some p) None) (sym (usable_shown role p here is) ∙ usable))
       ∙ usable_by role (Some p) anchored
 
-  -- one that doesn't pass it isn't
+  -- an anchored frame that doesn't pass the test isn't usable
   pub frame_refused : (role : Role) (p : PlacedFrame) → Some p ≡ anchored_frame file at
       → p.offset ≡ at → item_front front ≡ Frame p.header → is_usable role p front ≡ false
       → None ≡ usable_frame_at file role at
@@ -148,7 +148,7 @@ module _ (file : List ℕ) (at : ℕ) (front : List ℕ) (left : ℕ)
   unfolding item_read
   read_by role o is = ap (item_if_read file role at) is
 
-  -- where no whole item is none is read
+  -- if no whole item is there, none is read
   pub none_read : (role : Role) → whole_item_at Stream file at ≡ None
       → item_read file role at ≡ None
   none_read role is = read_by role None is
@@ -176,14 +176,14 @@ module _ (file : List ℕ) (at : ℕ) (front : List ℕ) (left : ℕ)
       whole_by Zero size is refl (omega arith) least within
   step_whole _ size is own some least within = absurd (omega (arith, own (λ e. cc), some))
 
-  -- it is read, or not
+  -- a whole item that is admitted is read
   pub item_taken : (role : Role) (item : Item) → whole_item_at Stream file at ≡ Some item
       → item ≡ item_front front → admits_item role at item front ≡ true
       → item_read file role at ≡ Some item
   item_taken role item here is admits = read_by role (Some item) here
       ∙ ap (λ b. cond b (Some item) None) (sym (read_shown role item (sym is)) ∙ admits)
 
-  -- nor is one that isn't admitted
+  -- a whole item that isn't admitted isn't read
   pub item_refused : (role : Role) (item : Item) → whole_item_at Stream file at ≡ Some item → item
       ≡ item_front front → admits_item role at item front ≡ false → item_read file role at ≡ None
   item_refused role item here is admits = read_by role (Some item) here

@@ -53,12 +53,12 @@ unfolding usable_frame_at
 usable_anchored-is file role at p e =
     anchored_frame-is file at p (usable_by file role at (anchored_frame file at) p refl e)
 
--- it is within the file, not before where it is looked for
+-- a frame is within the file, and not before the offset from which it is looked for
 pub record IsNext (file : List ℕ) (from : ℕ) (p : PlacedFrame) : Type 0 where
   pub low : from ≤ p.offset
   pub frame : IsItemOf Stream file p.offset (Frame p.header)
 
--- the next usable frame is within the file, not before where it is looked for
+-- the next usable frame is within the file, and not before the offset from which it is looked for
 pub next_usable-is : (file : List ℕ) (role : Role) (from : ℕ) (p : PlacedFrame)
     → next_usable_frame file role from ≡ Some p → IsNext file from p
 unfolding next_usable_frame
@@ -69,7 +69,7 @@ next_usable-is file role from p e =
 
 -- ---- a gap
 
--- it has some bytes, and ends within the file
+-- a gap has some bytes, and ends within the file
 pub record IsGapTo (file : List ℕ) (at to : ℕ) : Type 0 where
   pub some : at < to
   pub within : to ≤ length file
@@ -81,20 +81,20 @@ gap_by file class at (Some p) before is =
     let next = next_usable-is file (Later class) (at + 1) p is in
     record { some = omega (arith, next.low); within = omega (arith, next.frame.within) }
 
--- a gap has at least a byte, and ends within the file
+-- a gap has at least one byte, and ends within the file
 pub gap_end-is : (file : List ℕ) (class : ClassFields) (at : ℕ) → at < length file
     → IsGapTo file at (gap_end file class at)
 unfolding gap_end
 gap_end-is file class at before =
     gap_by file class at (next_usable_frame file (Later class) (at + 1)) before refl
 
--- it ends at the next usable frame behind its first byte, or at the end of the file
+-- a gap ends at the next usable frame after its first byte, or at the end of the file
 pub gap_end-by : (file : List ℕ) (class : ClassFields) (at : ℕ)
     → offset_or_end file (next_usable_frame file (Later class) (at + 1)) ≡ gap_end file class at
 unfolding gap_end
 gap_end-by file class at = refl
 
--- ---- things one after the other
+-- ---- things in order
 
 module _ (file : List ℕ) (class : ClassFields) where
   thing_read : (at : ℕ) (o : Option Item) → item_read file (Later class) at ≡ o
@@ -169,7 +169,7 @@ module _ (file : List ℕ) (class : ClassFields) where
       things-step at ∙ ap (onward at (things file class)) (lt-ltb at (length file) before)
       ∙ ap (λ t. record { offset = at; thing = t } ∷ things file class (at + size_of_thing t)) is
 
-  -- where an item is read it is the first thing, and the others are behind it
+  -- where an item is read, it is the first thing, and the others follow it
   pub things-item : (at : ℕ) (item : Item) → item_read file (Later class) at ≡ Some item
       → things file class at
       ≡ record { offset = at; thing = IsItem item } ∷ things file class (at + size_of item)
@@ -178,7 +178,7 @@ module _ (file : List ℕ) (class : ClassFields) where
       things-next at (IsItem item) (omega (arith, here.within, here.some))
       (thing_read at (Some item) is)
 
-  -- where none is read a gap is the first thing, and the others are behind it
+  -- where none is read, a gap is the first thing, and the others follow it
   pub things-gap : (at : ℕ) → at < length file → item_read file (Later class) at ≡ None
       → things file class at ≡ record { offset = at; thing = IsGap (gap_end file class at - at) }
       ∷ things file class (gap_end file class at)
@@ -198,7 +198,7 @@ module _ (file : List ℕ) (class : ClassFields) where
 
   -- ---- what is passed with an item
 
-  -- an item of so many bytes is the first of what is left, and behind it are the others
+  -- an item is the first of what is left, and the others follow `size` bytes later
   pub record IsPassed (at : ℕ) (item : Item) (size : ℕ) : Type 0 where
     pub rows : (b : ReservoirState)
         → rows_left file b (things file class at) ≡ item_rows b at (drop at file) item
@@ -233,7 +233,7 @@ module _ (file : List ℕ) (class : ClassFields) where
         (λ bytes n zero. ap gaps_of (zero_next bytes n zero));
   }
 
-  -- an item that is read, with all zero bytes that are shown after a zero byte
+  -- an item that is read is passed, and with a zero byte all zero bytes that are shown
   pub item_passed : (at : ℕ) (front : List ℕ) (left : ℕ) (item : Item) (size : ℕ)
       → Shows file at front left → item_read file (Later class) at ≡ Some item
       → (item ≡ Zero → size ≡ prefix_len zero_test front)

@@ -1,4 +1,4 @@
--- What the walk over a damaged file answers.
+-- What the walk over a damaged file returns.
 use Rattle.std.specs.Prelude.{IfErr, IfOk, List, OnOk, Result, ℕ, ◌≡◌, ◌≤◌}
 use Rattle.outside.specs.{Counts.OnlyReads, Feed.Fed, Files.IsFileThere, Seen.Seen}
 use Rattle.salvage.specs.DamagedFiles.{damaged_view, IsDamagedFault, IsDamagedOf, IsDamagedRefusal}
@@ -8,7 +8,7 @@ use Rattle.salvage.specs.declared.found.DamagedSoFar.{DamagedSoFar}
 use Rattle.sync_survey.specs.{Survey.{HoldsOctets, ReadsBy}, SurveyFaultKinds.HasRightNumbers}
 use Rattle.sync_survey.specs.declared.survey_fault.SurveyFault.{SurveyFault}
 
--- One thing more was read, or why it could not be.
+-- One more thing was read, or why it could not be.
 pub record ThingAnswer (name : List ℕ) (begun : Begun) (was now : DamagedSoFar) (fed : Fed)
     (old new : Seen) (result : Result (Unit {0}) SurveyFault) : Type 0 where
   pub reading : OnOk result (ReadingAdvances old.files name begun was now)
@@ -25,12 +25,12 @@ pub record ThingsAnswer (name : List ℕ) (begun : Begun) (now : DamagedSoFar) (
   pub files : new.files ≡ old.files
   pub counts : OnlyReads old.counts new.counts
 
--- A damaged file was read, or the fault.
+-- A damaged file was read: what is read of it, or the fault.
 pub record DamagedAnswer (name : List ℕ) (old new : Seen)
     (result : Result Damaged SurveyFault) : Type 0 where
   pub exact : IfOk result (λ d. IsDamagedOf name old.files (damaged_view d))
-  -- whether the files are told or not: where head, frames,
-  -- blocks and gaps are, and that there is a frame
+  -- whether or not the content of the files is known: where head, frames, blocks and gaps are, and
+  -- that there is a frame
   pub laid : IfOk result (λ d. IsDamagedLaidOut (damaged_view d))
   pub there : OnOk result (IsFileThere old.files name)
   pub octets : OnOk result (HoldsOctets name old.files)

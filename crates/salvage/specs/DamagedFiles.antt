@@ -17,8 +17,8 @@ use Rattle.sync_survey.specs.declared.survey_fault.SurveyFault.{SurveyFault}
 use Rattle.sync_survey.specs.declared.survey_fault.SurveyFault.TheVariants.{NoFrame, TooLong}
 use Rattle.sync_survey.specs.declared.survey_fault.SurveyFault.TheVariants.{TooManyFrames}
 
--- What is read: the frames, of which those that become empty ones are marked, the
--- blocks outside of gaps, and the head, as a survey tells of them; and the gaps.
+-- What is read: the frames, with those marked that become empty ones, the blocks outside gaps, and
+-- the head, as a survey; and the gaps.
 pub record DamagedFields : Type 0 where
   pub survey : SurveyFields
   pub gaps : List Gap
@@ -33,7 +33,7 @@ abbrev pub things_from : List ℕ → PlacedFrame → List PlacedThing
 things_from file first =
     things file (class_of first.header) (numbered_offset first (head_of file first))
 
--- what is read of a file whose front ends and whose first frame is there
+-- what is read of a file whose front ends at this offset and that has this first frame
 unfoldable pub damaged_from : List ℕ → ℕ → PlacedFrame → DamagedFields
 damaged_from file front_end first =
     let head = head_of file first in
@@ -50,12 +50,13 @@ damaged_from file front_end first =
       gaps = gap_between front_end first.offset ++ gaps_of found;
     }
 
--- the first frame past the number that a file may have is refused
+-- what is read, unless there is a first frame past the number that a file may have, which is
+-- refused
 abbrev pub excess_or_damaged : Option Row → DamagedFields → Result DamagedFields SurveyFault
 excess_or_damaged None d = Ok d
 excess_or_damaged (Some r) d = Err (TooManyFrames r.offset)
 
--- there has to be a frame besides the head
+-- what is read, if there is a frame besides the head
 abbrev pub no_frame_or_damaged : ℕ → List Row → DamagedFields → Result DamagedFields SurveyFault
 no_frame_or_damaged front_end [] d = Err (NoFrame front_end)
 no_frame_or_damaged front_end (r ∷ rows) d = excess_or_damaged (slice_get (r ∷ rows) most_frames) d
@@ -64,7 +65,7 @@ no_frame_or_damaged front_end (r ∷ rows) d = excess_or_damaged (slice_get (r �
 abbrev pub damaged_with_count : ℕ → DamagedFields → Result DamagedFields SurveyFault
 damaged_with_count front_end d = no_frame_or_damaged front_end d.survey.frames d
 
--- what is read of a file by its first frame, of which there has to be one
+-- what is read of a file, given its first frame, which there must be
 abbrev pub damaged_by : List ℕ → ℕ → Option PlacedFrame → Result DamagedFields SurveyFault
 damaged_by file front_end None = Err (NoFrame front_end)
 damaged_by file front_end (Some first) =
@@ -79,11 +80,11 @@ unfoldable pub damaged_of : List ℕ → Result DamagedFields SurveyFault
 damaged_of file =
     if nat_lt longest_file (length file) then Err (TooLong (length file)) else damaged_fields file
 
--- what the code tells
+-- what the code says is read
 abbrev pub damaged_view : Damaged → DamagedFields
 damaged_view d = record { survey = survey_view d.survey; gaps = d.gaps.items }
 
--- where the name's file is told, this is what is read of it
+-- where the content of the name's file is known, this is what is read of it
 abbrev pub IsDamagedOf : List ℕ → Files → DamagedFields → Type 0
 IsDamagedOf name files d = (bytes : List ℕ) → Holds files name bytes → damaged_of bytes ≡ Ok d
 
@@ -101,7 +102,7 @@ abbrev pub IsDamagedFault : List ℕ → Files → Counts → Counts → SurveyF
 IsDamagedFault name files before after fault = IsUnreadBy name files before after (shrunk_end fault)
     (RefusesDamaged name files before after fault) (kind_of fault)
 
--- with the right numbers
+-- why nothing is read, with the right numbers
 pub record IsDamagedRefusal (name : List ℕ) (files : Files) (before after : Counts)
     (fault : SurveyFault) : Type 0 where
   pub cause : IsDamagedFault name files before after fault

@@ -9,7 +9,7 @@ abbrev pub emptied_frame : ℕ → Row → Option Emptied
 emptied_frame number r =
     if r.lost then Some (record { number = number; offset = r.offset }) else None
 
--- those among these frames, which are counted from a number on
+-- the frames among these that become empty ones, counted from a number on
 abbrev pub emptied_from : ℕ → List Row → List Emptied
 emptied_from number rows =
     filter_map (λ (p : ℕ × Row). emptied_frame p.0 p.1) (enumerate_from number rows)

@@ -4,16 +4,16 @@ use Rattle.salvage.specs.DamagedFiles.{damaged_fields, damaged_of, DamagedFields
 use Rattle.salvage.specs.{DamagedFiles.most_frames, Stream.salvaged_stream}
 use Rattle.sync_survey.specs.Faults.{stream_of_survey, survey_fields, SurveyFields}
 
--- of a file without fault all is read that its survey tells,
--- and nothing is missing except the junk before the first frame
+-- everything in the survey of a file without fault is read, and nothing is missing except the junk
+-- before the first frame
 abbrev pub SalvageKeepsStreams : Type 0
 SalvageKeepsStreams =
     (file : List ℕ) (allowed : ℕ) (s : SurveyFields) → survey_fields file allowed ≡ Ok s
     → length s.frames ≤ most_frames
     → damaged_fields file ≡ Ok (record { survey = s; gaps = gap_between s.junk s.first })
 
--- The stream that the survey of what is read tells is that of the runs of frames between gaps: the
--- main data of each frame that is kept are those of its run, and each other one is an empty frame.
+-- The stream of the survey of what is read is the stream of the runs of frames between gaps: the
+-- main data of each frame that is kept are those of its run, and every other one is an empty frame.
 abbrev pub SalvageTellsStreams : Type 0
 SalvageTellsStreams = (file : List ℕ) (d : DamagedFields) → damaged_of file ≡ Ok d
     → stream_of_survey file d.survey ≡ salvaged_stream file

@@ -21,8 +21,8 @@ pub record BeginsAsRead (file : List ℕ) (b : Begun) : Type 0 where
   pub first : first_frame file b.start.front_end ≡ Some b.start.first
   pub head : b.head ≡ head_of file b.start.first
 
--- What is known of the name's file: its first frame is within its length, and is
--- the head if there is one; where the file is told, its bytes begin as this says.
+-- What is known of the name's file: its first frame is within its length, and is the head if there
+-- is one; where the content of the file is known, its bytes begin as this says.
 pub record IsBegunFile (files : Files) (name : List ℕ) (b : Begun) : Type 0 where
   pub known : HasLength files name b.size
   pub whole : b.start.first.offset + size_of (Frame b.start.first.header) ≤ b.size
@@ -34,7 +34,7 @@ pub record IsBegunFile (files : Files) (name : List ℕ) (b : Begun) : Type 0 wh
 abbrev pub whole_damaged : List ℕ → Begun → DamagedFields
 whole_damaged file b = damaged_from file b.start.front_end b.start.first
 
--- what the code tells of a file that begins so, if this was found in it
+-- what the code returns for a file that begins like this, if this was found in it
 abbrev pub found_view : Begun → DamagedSoFar → DamagedFields
 found_view b found = record {
   survey = record {
@@ -49,7 +49,7 @@ found_view b found = record {
   gaps = found.gaps.items;
 }
 
--- what was found, and after it what the walk has left, is all that is read
+-- what was found, and what the walk has left after it, are all that is read
 pub record IsReadTo (file : List ℕ) (b : Begun) (found : DamagedSoFar) : Type 0 where
   pub rows : found.rows.items ++ rows_left file found.before (things file (begun_class b) found.at)
       ≡ (whole_damaged file b).survey.frames
@@ -62,9 +62,9 @@ pub record IsReadTo (file : List ℕ) (b : Begun) (found : DamagedSoFar) : Type 
 abbrev pub AreReadTo : Files → List ℕ → Begun → DamagedSoFar → Type 0
 AreReadTo files name b found = (bytes : List ℕ) → Holds files name bytes → IsReadTo bytes b found
 
--- ---- what is known, whatever is told of the file
+-- ---- what holds, whatever is known of the file
 
--- these gaps follow one after the other from one offset to another, and none is empty
+-- these gaps follow each other from one offset to another, and none is empty
 abbrev pub GapsAreLaid : ℕ → List Gap → ℕ → Type 0
 GapsAreLaid from [] to = from ≤ to
 GapsAreLaid from (g ∷ gaps) to =
@@ -93,7 +93,7 @@ pub record IsDamagedReading (files : Files) (name : List ℕ) (b : Begun)
   pub told : AreReadTo files name b found
   pub laid : IsLaidTo b found
 
--- after a call the reading is as before it, at a later offset
+-- a call takes the reading to a later offset
 pub record ReadingAdvances (files : Files) (name : List ℕ) (b : Begun)
     (old new : DamagedSoFar) : Type 0 where
   pub reading : IsDamagedReading files name b new

@@ -11,7 +11,7 @@ use Rattle.sync_survey.specs.declared.places.PlacedFrame.{PlacedFrame}
 
 -- ---- runs of frames
 
--- a run of frames: one begins with the first frame, and one after each gap
+-- the runs of frames: one begins with the first frame, and one after each gap
 pub record FrameRuns : Type 0 where
   pub first : List PlacedFrame
   pub later : List (List PlacedFrame)
@@ -29,35 +29,35 @@ runs_of (t ∷ ts) = runs_with_thing t.offset t.thing (runs_of ts)
 
 -- ---- sound frames
 
--- The main data of a frame begin neither before all areas of its run nor
--- before the end of those before it, and end within its own area: by the place
--- of its own area among the areas of the run, and where those before it end.
+-- The main data of a frame begin neither before all areas of its run nor before the end of the main
+-- data before them, and end within its own area, given the place of its own area among the areas of
+-- the run, and where the main data before it end.
 abbrev pub is_sound : ℕ → ℕ → Row → Bool
 is_sound place ended r =
     not (points_too_far place r) && not (overlaps place ended r) && not (overruns place r)
 
--- where the main data end after a frame; one that isn't sound, or has none, doesn't change it
+-- where the main data end after a frame; a frame that isn't sound, or has none, doesn't change this
 abbrev pub sound_end : ℕ → ℕ → Option Row → ℕ
 sound_end place ended None = ended
 sound_end place ended (Some r) =
     if is_sound place ended r && not (is_silent r) then end_of_data place r else ended
 
--- where the main data end of the last sound frame of a run before frame i that has some, or 0
+-- the end of the main data of the last sound frame of a run before frame i that has any, or 0
 unfoldable pub end_of_sound : Option Head → List Row → ℕ → ℕ
 end_of_sound head rows zero = 0
 end_of_sound head rows (suc i) =
     sound_end (place head rows i) (end_of_sound head rows i) (slice_get rows i)
 
--- frame i of a run, marked where it isn't sound: it becomes an empty frame
+-- frame i of a run, marked if it isn't sound: it becomes an empty frame
 abbrev pub judged_row : Option Head → List Row → ℕ → Row → Row
 judged_row head rows i r =
     record r { lost = not (is_sound (place head rows i) (end_of_sound head rows i) r) }
 
--- all frames of a run, after the head's area if there is one
+-- all frames of a run, judged, after the head's area if there is one
 unfoldable pub judged_rows : Option Head → List Row → List Row
 judged_rows head rows = map (λ (p : ℕ × Row). judged_row head rows p.0 p.1) (enumerate_from 0 rows)
 
--- those of all runs
+-- the frames of all runs, judged
 abbrev pub judged_runs : List ℕ → Option Head → FrameRuns → List Row
 judged_runs file head runs = judged_rows head (rows_of file runs.first)
     ++ flat_map (λ run. judged_rows None (rows_of file run)) runs.later

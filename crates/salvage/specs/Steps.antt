@@ -1,4 +1,4 @@
--- What is read at an offset, by what a look has shown.
+-- What is read at an offset, given what a look has shown.
 use Rattle.std.specs.Prelude.{Bool, drop, false, List, None, Ok, Option, Some, true, ℕ, ◌%◌, ◌&&◌}
 use Rattle.std.specs.Prelude.{◌+◌, ◌/◌, ◌==◌, ◌≡◌, ◌≤◌, ◌⊎◌}
 use Rattle.frame_header.specs.{Fields.HeaderFields, Tables.{class_of, length_of}}
@@ -6,7 +6,7 @@ use Rattle.salvage.specs.{UsableFrames.is_usable, Walk.item_read, declared.usabl
 use Rattle.sync_survey.specs.{Items.{header_front, item_front}, Start.is_anchor}
 use Rattle.sync_survey.specs.declared.{items.Item.{Item, TheVariants.Frame}, runs.Step.Step}
 
--- a header may begin with these two bytes: by eight bits of the sync word and the two of the layer
+-- a header may begin with these two bytes, by eight bits of the sync word and the two of the layer
 abbrev pub may_begin_header : ℕ → ℕ → Bool
 may_begin_header first second = (first == 255) && (second / 2 % 4 == 1)
 
@@ -32,12 +32,12 @@ HasNoUsableFrame role offset front k =
     × ((is_anchor (class_of h) (item_front (drop (k + length_of (class_of h) h.slot) front))
     ≡ false) ⊎ (is_usable role (record { offset = offset + k; header = h }) (drop k front) ≡ false))
 
--- whatever the look's offset is, and the frame's role
+-- no usable anchored frame is at this place, whatever the look's offset and the frame's role are
 abbrev pub IsRuledOut : List ℕ → ℕ → Type 0
 IsRuledOut front k = (role : Role) (offset : ℕ) → HasNoUsableFrame role offset front k
 
--- a whole item at an offset is read, by the bytes
--- from there on: it isn't a frame, or is a usable one
+-- a whole item at an offset is read, given the bytes from there on: it isn't a frame, or is a
+-- usable one
 abbrev pub admits_item : Role → ℕ → Item → List ℕ → Bool
 admits_item role at (Frame h) bytes = is_usable role (record { offset = at; header = h }) bytes
 admits_item role at item bytes = true

@@ -7,16 +7,16 @@ use Rattle.sync_survey.specs.{Start.front_end_of, Walk.head_of, declared.places.
 use Rattle.sync_survey.specs.declared.places.PlacedFrame.{PlacedFrame}
 
 -- The frames of a run, with the main data that are in its areas: each sound frame as it is, and
--- each other one as an empty frame, whose side fields are all 0 and which has no main data.
+-- every other one as an empty frame, whose side fields are all 0 and which has no main data.
 abbrev pub run_stream : List ℕ → Option Head → List Row → List StreamFrame
 run_stream file head rows = stream_frames (main_bytes file head rows) head rows
 
--- those of all runs; the head's area counts in the first
+-- the frames of all runs; the head's area counts in the first
 abbrev pub runs_stream : List ℕ → Option Head → FrameRuns → List StreamFrame
 runs_stream file head runs = run_stream file head (judged_rows head (rows_of file runs.first))
     ++ flat_map (λ run. run_stream file None (judged_rows None (rows_of file run))) runs.later
 
--- from this first frame on; without one there is none
+-- the stream from this first frame on; without a first frame it is empty
 abbrev pub stream_from : List ℕ → Option PlacedFrame → List StreamFrame
 stream_from file None = []
 stream_from file (Some first) =

@@ -12,11 +12,11 @@ use Rattle.sync_survey.specs.declared.places.PlacedFrame.{PlacedFrame}
 abbrev pub has_right_crc : HeaderFields → List ℕ → Bool
 has_right_crc h bytes = not h.protected || (stored_crc bytes == right_crc h bytes)
 
--- it is a head
+-- the frame with which these bytes begin is a head
 abbrev pub is_head : PlacedFrame → List ℕ → Bool
 is_head p bytes = is_some (head_in_bytes p (own_bytes p bytes))
 
--- A whole frame is usable for a role, by the bytes from its first on: its check word (ISO/IEC
+-- A whole frame is usable for a role, given the bytes from its first on: its check word (ISO/IEC
 -- 11172-3, 2.4.3.1) is right, and as a later frame it is of the class of the first frame. As the
 -- first frame it may be a head, whose check word isn't judged.
 abbrev pub is_usable : Role → PlacedFrame → List ℕ → Bool
@@ -33,7 +33,7 @@ frame_if_usable file role (Some p) = if is_usable role p (drop p.offset file) th
 unfoldable pub usable_frame_at : List ℕ → Role → ℕ → Option PlacedFrame
 usable_frame_at file role at = frame_if_usable file role (anchored_frame file at)
 
--- the usable anchored frame at the smallest offset from one on
+-- the usable anchored frame at the smallest offset from `from` on
 unfoldable pub next_usable_frame : List ℕ → Role → ℕ → Option PlacedFrame
 next_usable_frame file role from =
     slice_get (filter_map (usable_frame_at file role) (range_with_len from (length file))) 0

@@ -27,19 +27,19 @@ item_if_read file role at (Some item) = if is_item_read file role at item then S
 unfoldable pub item_read : List ℕ → Role → ℕ → Option Item
 item_read file role at = item_if_read file role at (whole_item_at Stream file at)
 
--- The first frame, by the offset at which the front of the file ends: it
--- is usable, and begins there or, anchored, at the smallest offset after.
+-- The first frame, given the offset at which the front of the file ends: it is usable, and begins
+-- there or, anchored, at the smallest offset after it.
 unfoldable pub first_frame : List ℕ → ℕ → Option PlacedFrame
 first_frame file front_end = option_or (option_and_then (frame_of_item front_end)
     (item_read file First front_end)) (next_usable_frame file First (front_end + 1))
 
--- a gap that begins at an offset ends at the smallest greater one
--- at which there is a usable anchored frame, or with the file
+-- where a gap ends: at this frame, or with the file
 abbrev pub offset_or_end : List ℕ → Option PlacedFrame → ℕ
 offset_or_end file None = length file
 offset_or_end file (Some p) = p.offset
 
--- where a gap ends that begins at the offset, after a first frame of this class
+-- the end of a gap that begins at the offset, after a first frame of this class: the smallest later
+-- offset at which there is a usable anchored frame, or the end of the file
 unfoldable pub gap_end : List ℕ → ClassFields → ℕ → ℕ
 gap_end file class at = offset_or_end file (next_usable_frame file (Later class) (at + 1))
 
@@ -47,10 +47,10 @@ gap_end file class at = offset_or_end file (next_usable_frame file (Later class)
 pub data ItemOrGap : Type 0 where
   -- an item that is read
   IsItem : Item → ItemOrGap
-  -- a gap of so many bytes
+  -- a gap of this many bytes
   IsGap : ℕ → ItemOrGap
 
--- how many bytes it has
+-- how many bytes a thing has
 abbrev pub size_of_thing : ItemOrGap → ℕ
 size_of_thing (IsItem item) = size_of item
 size_of_thing (IsGap n) = n
@@ -71,7 +71,7 @@ pub record PlacedThing : Type 0 where
   pub offset : ℕ
   pub thing : ItemOrGap
 
--- at most so many things that follow end to end from an offset on
+-- the things that follow end to end from an offset on, at most this many
 unfoldable pub things_up_to : ℕ → List ℕ → ClassFields → ℕ → List PlacedThing
 things_up_to zero file class at = []
 things_up_to (suc most) file class at =
@@ -79,7 +79,7 @@ things_up_to (suc most) file class at =
     if nat_lt at (length file) then record { offset = at; thing = here }
     ∷ things_up_to most file class (at + size_of_thing here) else []
 
--- all things that follow end to end from an offset on: there are no more than bytes
+-- all things that follow end to end from an offset on: there are no more things than bytes
 unfoldable pub things : List ℕ → ClassFields → ℕ → List PlacedThing
 things file class from = things_up_to (length file) file class from
 
@@ -100,14 +100,14 @@ abbrev pub block_of_thing : ℕ → ItemOrGap → Option Piece
 block_of_thing at (IsItem item) = block_of_item at item
 block_of_thing at (IsGap n) = None
 
--- the frames among these things, in their order
+-- the frames among these things, in order
 abbrev pub frames_of_things : List PlacedThing → List PlacedFrame
 frames_of_things ts = filter_map (λ t. frame_of_thing t.offset t.thing) ts
 
--- the gaps among these things, in their order
+-- the gaps among these things, in order
 abbrev pub gaps_of : List PlacedThing → List Gap
 gaps_of ts = filter_map (λ t. gap_of_thing t.offset t.thing) ts
 
--- the blocks among them
+-- the blocks among these things, in order
 abbrev pub blocks_of_things : List PlacedThing → List Piece
 blocks_of_things ts = filter_map (λ t. block_of_thing t.offset t.thing) ts

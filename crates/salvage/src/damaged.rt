@@ -13,29 +13,29 @@ pub struct Damaged {
 }
 
 impl Damaged {
-    /// What is read, as a survey tells of it: `lost` marks each frame that becomes an empty one, and the
-    /// junk is the gap before the first frame.
+    /// What is read, as a survey: `lost` marks each frame that becomes an empty one, and the junk
+    /// is the gap before the first frame.
     pub fn survey(&self) -> &Survey
         ensures { result.now ≡ self.now.survey }
     {
         &self.survey
     }
 
-    /// The frames in their order, without the head. `lost` marks each that becomes an empty one.
+    /// The frames in order, without the head. `lost` marks each one that becomes an empty frame.
     pub fn frames(&self) -> &[Row]
         ensures { result.now ≡ (damaged_view self.now).survey.frames }
     {
         self.survey.frames()
     }
 
-    /// The gaps by their offsets.
+    /// The gaps in order of offset.
     pub fn gaps(&self) -> &[Gap]
         ensures { result.now ≡ (damaged_view self.now).gaps }
     {
         &self.gaps
     }
 
-    /// The blocks by their offsets, without those in gaps.
+    /// The blocks in order of offset, without those in gaps.
     pub fn blocks(&self) -> &[Piece]
         ensures { result.now ≡ (damaged_view self.now).survey.blocks }
     {

@@ -23,9 +23,10 @@ pub(crate) struct DamagedSoFar {
     pub(crate) at: u64,
 }
 
-/// Marks the row if its frame isn't sound by the areas before it, and answers the areas before the next
-/// frame.
-// Later frames and all else are kept by ways of their own, and clang doesn't inline what has several callers.
+/// Marks the row if its frame isn't sound given the areas before it, and returns the areas before
+/// the next frame.
+// Later frames and all else are kept by separate functions, and clang doesn't inline what has
+// several callers.
 #[inline(always)]
 fn mark(before: &ReservoirState, header: &Header, row: &mut Row) -> ReservoirState
     requires same { header.now ≡ row.old.header }
@@ -47,7 +48,8 @@ fn mark(before: &ReservoirState, header: &Header, row: &mut Row) -> ReservoirSta
 }
 
 impl DamagedSoFar {
-    /// Judges the frame at the offset that was reached, and keeps it. The bytes begin with its own.
+    /// Judges the frame at the offset that was reached, and keeps it. `bytes` begin with the
+    /// frame's own.
     ///
     /// # Errors
     /// `TooManyFrames` with the offset of the frame, `Memory`.
@@ -68,14 +70,14 @@ impl DamagedSoFar {
             return Err(SurveyFault::TooManyFrames(self.at));
         }
         let count = self.rows.len();
-        // The row is judged where it stays, so that it is copied once.
+        // The row is judged in place, so that it is copied only once.
         self.rows.push(Row::read(self.at as u32, &header, bytes))?;
         let row = &mut self.rows[count];
         self.before = mark(&self.before, &header, row);
         Ok(())
     }
 
-    /// Keeps the item at the offset that was reached. The bytes begin with its own.
+    /// Keeps the item at the offset that was reached. `bytes` begin with the item's own.
     ///
     /// # Errors
     /// `TooManyFrames` with the offset of a frame, `Memory`.
@@ -102,8 +104,8 @@ impl DamagedSoFar {
         Ok(())
     }
 
-    /// Keeps the item at the offset that was reached, and goes on by `size` bytes. The bytes begin with its
-    /// own.
+    /// Keeps the item at the offset that was reached, and moves on by `size` bytes. `bytes` begin
+    /// with the item's own.
     ///
     /// # Errors
     /// `TooManyFrames` with the offset of a frame, `Memory`.
@@ -127,7 +129,7 @@ impl DamagedSoFar {
     /// Keeps a gap from the offset that was reached to another. After it the areas count from 0 again.
     ///
     /// # Errors
-    /// Where there is no memory.
+    /// If memory runs out.
     pub(crate) fn skip(&mut self, to: u64) -> Result<(), AllocError>
         requires { self.old.at ≤ to }
         ensures { OnOk result (AddsGap to self.old self.new) }

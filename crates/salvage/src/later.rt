@@ -1,4 +1,4 @@
-//! The later frames of a damaged file, of which most of it consists.
+//! The later frames of a damaged file, which are most of it.
 ghost use Rattle.std.specs.Prelude.{◌≡◌, ◌≤◌, ℕ, true, List, Some, length, min, IfSome};
 ghost use Rattle.sync_survey.specs.Looks.{look_size, Shows, PassesFront};
 ghost use Rattle.salvage.specs.declared.usable.Role.TheVariants.{Later};
@@ -9,8 +9,8 @@ use crate::usable::has_right_crc;
 use frame_header::Class;
 use sync_survey::{Item, Step, header_of_class};
 
-/// The whole frame with which the bytes of a look at the offset begin, if it is usable as a later one of the class. `left`
-/// is how many bytes the file has from there on.
+/// The whole frame with which the bytes of a look at the offset begin, if it is usable as a later
+/// frame of the class. `left` is how many bytes the file has from there on.
 #[inline(always)]
 pub(crate) fn later_frame(class: Class, front: &[u8], at: u64, left: u64) -> Option<Step>
     requires many { length front.now ≡ min look_size left }

@@ -1,4 +1,5 @@
-//! What is read of a damaged file, as it is written: its frames that aren't sound are empty.
+//! What is read of a damaged file, in the form in which it is written: frames that aren't sound are
+//! empty.
 ghost use Rattle.std.specs.Prelude.{◌≡◌, ◌≤◌, ◌++◌, length, option_to_list, IfOk, OnOk};
 ghost use Rattle.sync_survey.specs.Faults.{survey_view};
 ghost use Rattle.sync_survey.specs.HeadApart.{emptied_survey};
@@ -27,8 +28,8 @@ impl HasOffset for Emptied {
     }
 }
 
-/// What is read of a damaged file, as it is written: a survey in which each frame that isn't sound is one
-/// without main data, the list of these frames, and the gaps.
+/// What is read of a damaged file, in the form in which it is written: a survey in which each frame
+/// that isn't sound is one without main data, the list of these frames, and the gaps.
 #[derive(Drop)]
 pub struct Mended {
     pub survey: Survey,
@@ -39,7 +40,7 @@ pub struct Mended {
 /// Adds the frame with this number if it becomes an empty one.
 ///
 /// # Errors
-/// Where there is no memory.
+/// If memory runs out.
 fn push_emptied(emptied: &mut Vec<Emptied>, number: u32, row: &Row) -> Result<(), AllocError>
     ensures { OnOk result (emptied.new.items ≡ emptied.old.items
         ++ option_to_list (emptied_frame number row.now)) }
@@ -54,7 +55,7 @@ fn push_emptied(emptied: &mut Vec<Emptied>, number: u32, row: &Row) -> Result<()
 /// The frames that become empty ones.
 ///
 /// # Errors
-/// Where there is no memory.
+/// If memory runs out.
 fn emptied_of(alloc: Global, rows: &[Row]) -> Result<Vec<Emptied>, AllocError>
     requires few { length rows.now ≤ most_frames }
     ensures { IfOk result (λ list. list.items ≡ emptied_from 0 rows.now) }
@@ -68,7 +69,7 @@ fn emptied_of(alloc: Global, rows: &[Row]) -> Result<Vec<Emptied>, AllocError>
     Ok(emptied)
 }
 
-/// Makes each frame that isn't sound an empty one. The frames that become empty ones are known.
+/// Makes each frame that isn't sound an empty one. `known` lists the frames that become empty ones.
 fn empty_known(survey: &mut Survey, known: &[Emptied])
     requires { known.now ≡ emptied_from 0 (survey_view survey.old).frames }
     ensures { survey_view survey.new ≡ emptied_survey (survey_view survey.old) }
@@ -79,10 +80,10 @@ fn empty_known(survey: &mut Survey, known: &[Emptied])
 }
 
 impl Damaged {
-    /// What was read, as it is written.
+    /// What was read, in the form in which it is written.
     ///
     /// # Errors
-    /// Where there is no memory.
+    /// If memory runs out.
     pub fn mend(self, alloc: Global) -> Result<Mended, AllocError>
         requires { IsDamagedLaidOut (damaged_view self) }
         ensures survey { IfOk result (λ m. survey_view m.survey ≡ emptied_survey (damaged_view self).survey) }

@@ -9,10 +9,11 @@ ghost use Rattle.salvage.specs.Steps.{IsUnusable};
 
 use side_info::{check_word_of_bytes, stored_crc};
 
-/// The length in bytes of a frame without padding, by the two bits of its version and, in rows of 64, the six bits of
-/// its bit rate and its sampling frequency; where no header has these, any number.
-// `Class::length_of` has them too. A search asks for a length at every place where a header may begin, which this table
-// answers by two bytes, before a header is read.
+/// The length in bytes of a frame without padding: a row of 64 for each value of the two bits of
+/// its version, by the six bits of its bit rate and its sampling frequency; any number where no
+/// header has these.
+// `Class::length_of` has them too. A search needs a length at every place where a header may begin,
+// and this table gives it by two bytes, before a header is read.
 static LENGTHS: [u16; 256] = [
     52, 48, 72, 0, 52, 48, 72, 0, 104, 96, 144, 0, 156, 144, 216, 0, 208, 192, 288, 0, 261, 240,
     360, 0, 313, 288, 432, 0, 365, 336, 504, 0, 417, 384, 576, 0, 522, 480, 720, 0, 626, 576, 864,
@@ -28,7 +29,8 @@ static LENGTHS: [u16; 256] = [
     864, 0, 731, 672, 1008, 0, 835, 768, 1152, 0, 1044, 960, 1440, 0, 0, 0, 0, 0,
 ];
 
-/// The length in bytes of a frame whose header has these second and third bytes; any number where none has.
+/// The length in bytes of a frame whose header has these second and third bytes; any number if none
+/// has.
 pub(crate) fn raw_frame_length(second: u8, third: u8) -> usize
     ensures length { result ≡ raw_frame_length second third }
     ensures most { result ≤ 65536 }
@@ -37,7 +39,7 @@ pub(crate) fn raw_frame_length(second: u8, third: u8) -> usize
     LENGTHS[row + (third / 4) as usize] as usize + (third / 2 % 2) as usize
 }
 
-/// The channels that the fourth byte of a header says.
+/// The number of channels that the fourth byte of a header stands for.
 pub(crate) fn raw_channels(fourth: u8) -> u8
     ensures { result ≡ raw_channels fourth }
 {
@@ -51,7 +53,7 @@ pub(crate) fn has_raw_rate(third: u8) -> bool
     third / 16 != 0 && third / 16 != 15
 }
 
-/// Whether a header of the class of another may be at the front of these bytes.
+/// Whether a header of the same class as the one in `own` may be at the front of `next`.
 #[tactic(auto, unfolding(crate::specs::RawHeader::may_follow_header))]
 fn may_follow_header(own: &[u8], next: &[u8]) -> bool
     requires own { 4 ≤ length own.now }
@@ -77,7 +79,8 @@ fn may_begin_block(first: u8, second: u8, third: u8) -> bool
     }
 }
 
-/// Whether these bytes, which are at the end of a frame with that header, may begin with its anchor.
+/// Whether `next`, which is at the end of a frame with the header in `own`, may begin with its
+/// anchor.
 pub(crate) fn may_anchor(own: &[u8], next: &[u8]) -> bool
     requires own { 4 ≤ length own.now }
     requires next { 4 ≤ length next.now }
@@ -87,7 +90,8 @@ pub(crate) fn may_anchor(own: &[u8], next: &[u8]) -> bool
     may_follow_header(own, next) || may_begin_block(next[0], next[1], next[2])
 }
 
-/// The bytes of the side information of a frame whose header has these second and fourth bytes.
+/// The size in bytes of the side information of a frame whose header has these second and fourth
+/// bytes.
 // As `Class::side_size`, but by the bytes alone, before a header is read.
 fn raw_side_size(second: u8, fourth: u8) -> usize
     ensures size { result ≡ raw_side_size second fourth }
@@ -109,9 +113,9 @@ fn may_begin_text(first: u8) -> bool
     first == b'X' || first == b'I'
 }
 
-/// Whether the frame of so many bytes, which these bytes may begin with, is protected, and they show that its check
-/// word is wrong and that it is no head.
-// It is apart, so that a search keeps in registers what it needs at each place.
+/// Whether the frame of `size` bytes that these bytes may begin with is protected, and they show
+/// that its check word is wrong and that it is no head.
+// A function of its own, so that a search keeps in registers what it needs at each place.
 #[inline(never)]
 pub(crate) fn has_wrong_crc(own: &[u8], size: usize) -> bool
     requires own { 4 ≤ length own.now }

@@ -37,7 +37,7 @@ use sync_survey::{
 /// The gap before the first frame, if there is one.
 ///
 /// # Errors
-/// Where there is no memory.
+/// If memory runs out.
 fn front_gaps(alloc: Global, start: &Start) -> Result<Vec<Gap>, AllocError>
     ensures { IfOk result (λ gaps. gaps.items ≡ gap_between start.now.front_end
         start.now.first.offset) }
@@ -56,7 +56,7 @@ fn front_gaps(alloc: Global, start: &Start) -> Result<Vec<Gap>, AllocError>
 /// What is found up to the first frame, or up to the end of the head.
 ///
 /// # Errors
-/// Where there is no memory.
+/// If memory runs out.
 fn found_first(alloc: Global, begun: &Begun, pieces: Vec<Piece>) -> Result<DamagedSoFar, AllocError>
     requires whole { begun.now.start.first.offset
         + size_of (Frame begun.now.start.first.header) ≤ 2 ^ 62 }
@@ -96,7 +96,7 @@ fn end_of(next: Option<PlacedFrame>, size: u64) -> u64
     }
 }
 
-/// What a frame after the first has to be.
+/// What a frame after the first must be.
 fn later_role(begun: &Begun) -> Role
     ensures { result ≡ Later (begun_class begun.now) }
 {
@@ -134,7 +134,8 @@ fn read_gap<D: Folder>(
 ///
 /// # Errors
 /// `TooManyFrames` with the offset of a frame, `Read`, `Shrunk` or `Memory`.
-// Most of what is read are later frames, which don't come here: it is apart, and looks once more.
+// Most of what is read are later frames, which don't come here: this is a function of its own,
+// which looks at the file again.
 #[inline(never)]
 fn read_other<D: Folder>(
     feed: &mut Feed,
@@ -266,7 +267,7 @@ fn begin<D: Folder>(
     Ok(Begun { size, start, head })
 }
 
-/// What is read of a file of which this is known, with these blocks in its front.
+/// What is read of a file about which this is known, with these blocks in its front.
 ///
 /// # Errors
 /// `NoFrame`, `TooManyFrames`, `Read`, `Shrunk` or `Memory`.
@@ -293,14 +294,15 @@ fn read_on<D: Folder>(
     damaged_by(begun, found)
 }
 
-/// What is read of a damaged file. The files stay.
+/// Reads a damaged file. The files are unchanged.
 ///
-/// The blocks and zero bytes with which the file begins are its front. The first frame is the usable one at
-/// the offset at which the front ends, or else the first usable one after it that is anchored. From there
-/// on the file is read item by item: usable frames, blocks and zero bytes. At an offset at which none of
-/// them begins whole, a gap begins; it ends where the next usable frame begins that is anchored, or with
-/// the file. A frame is usable if it is whole and of the class of the first, and its check word is right if
-/// it has one; the first one may be a head with any check word.
+/// The blocks and zero bytes with which the file begins are its front. The first frame is the
+/// usable one at the offset at which the front ends; if there is none, it is the first usable one
+/// after it that is anchored. From there on the file is read item by item: usable frames, blocks
+/// and zero bytes. At an offset at which none of them begins whole, a gap begins; it ends where the
+/// next usable frame that is anchored begins, or with the file. A frame is usable if it is whole
+/// and of the class of the first, and its check word is right if it has one; the first one may be a
+/// head with any check word.
 ///
 /// # Errors
 /// - `Absent`, `TooLong`, `Read`, `Shrunk` and `Memory` as for `survey`;

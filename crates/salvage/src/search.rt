@@ -18,16 +18,18 @@ use sync_survey::{
 /// How many bytes of a look are searched at once: 32 are seen after each of them.
 const REACH: usize = 4_064;
 
-/// Whether a header may begin with these two bytes: by eight bits of the sync word and the two of the layer.
+/// Whether a header may begin with these two bytes, going by eight bits of the sync word and the
+/// two of the layer.
 fn may_begin_header(first: u8, second: u8) -> bool
     ensures { result ≡ may_begin_header first second }
 {
     first == 0xff && second / 2 % 4 == 1
 }
 
-/// Whether the bytes from this place on rule out that a usable frame begins there: a header that ends the frame
-/// can't follow, or the check word is wrong. Where it is false there may be a usable frame or none.
-// It decodes no header, so most places of a search are passed by a few bytes.
+/// Whether the bytes from this place on rule out that a usable anchored frame begins there: no
+/// anchor can be at its end, or its check word is wrong. If this is false, there may be such a
+/// frame or none.
+// It decodes no header, so a search passes most places by a few bytes.
 fn is_ruled_out_by_bytes(front: &[u8], place: usize) -> bool
     requires within { place < length front.now }
     ensures { result ≡ true → IsRuledOut front.now place }
@@ -43,8 +45,8 @@ fn is_ruled_out_by_bytes(front: &[u8], place: usize) -> bool
     !may_anchor(own, &own[size..]) || has_wrong_crc(own, size)
 }
 
-/// Whether a usable anchored frame may be at this place of a look at the offset. This is judged if the look
-/// shows all of the frame and the 32 bytes after it; else it may be.
+/// Whether a usable anchored frame may be at this place of a look at the offset. This is judged if
+/// the look shows all of the frame and the 32 bytes after it; otherwise it may be.
 #[inline(never)]
 fn may_be_usable_by_header(role: &Role, front: &[u8], place: usize, offset: u64) -> bool
     requires within { place < 2 ^ 32 }
@@ -116,7 +118,7 @@ fn distance_to_candidate(role: &Role, front: &[u8], offset: u64) -> u64
 /// The usable anchored frame at the smallest offset from `from` on.
 ///
 /// # Errors
-/// `Read` or `Shrunk` where the file can't be read.
+/// `Read` or `Shrunk` if the file can't be read.
 pub(crate) fn next_usable_frame<D: Folder>(
     feed: &mut Feed,
     folder: &mut D,
@@ -149,7 +151,7 @@ pub(crate) fn next_usable_frame<D: Folder>(
 /// The first frame of a file whose front ends at this offset.
 ///
 /// # Errors
-/// `Read` or `Shrunk` where the file can't be read.
+/// `Read` or `Shrunk` if the file can't be read.
 pub(crate) fn first_frame<D: Folder>(
     feed: &mut Feed,
     folder: &mut D,

@@ -16,7 +16,7 @@ use sync_survey::{
     Item, PlacedFrame, Region, Step, anchored_frame, head_in, is_same_class, step_at,
 };
 
-/// What a frame has to be.
+/// What a frame is to be used as.
 #[derive(Clone, Copy)]
 pub(crate) enum Role {
     /// The first frame, which may be a head.
@@ -25,9 +25,10 @@ pub(crate) enum Role {
     Later(Class),
 }
 
-/// The check word that is right for the protected frame with which these bytes begin, whose side information ends at byte
-/// `side_end`.
-// Few frames are protected: it is apart, and takes no header, which a walk over the others then needn't lay down in memory.
+/// The right check word of the protected frame with which these bytes begin, whose side information
+/// ends at byte `side_end`.
+// Few frames are protected: this is a function of its own that takes no header, so that a walk over
+// the other frames needn't put one in memory.
 #[inline(never)]
 fn right_crc(side_end: usize, bytes: &[u8]) -> u16
     requires some { 6 ≤ side_end }
@@ -65,7 +66,7 @@ fn frame_of(item: &Item, offset: u64) -> Option<PlacedFrame>
 }
 
 impl Role {
-    /// Whether a whole frame is usable for the role. The bytes begin with its own.
+    /// Whether a whole frame is usable for the role. `bytes` begin with the frame's own.
     pub(crate) fn admits(&self, frame: &PlacedFrame, bytes: &[u8]) -> bool
         requires own { header_front bytes.now ≡ Ok frame.now.header }
         requires room { ReachArea frame.now.header bytes.now }
@@ -81,7 +82,7 @@ impl Role {
         }
     }
 
-    /// Whether a whole item at the offset is read. The bytes begin with its own.
+    /// Whether a whole item at the offset is read. `bytes` begin with the item's own.
     fn admits_item(&self, item: &Item, bytes: &[u8], at: u64) -> bool
         requires own { (h : HeaderFields) → item.now ≡ Item.Frame h
             → header_front bytes.now ≡ Ok h }
@@ -94,7 +95,7 @@ impl Role {
         }
     }
 
-    /// The usable anchored frame at the offset at which a look has shown these bytes, where `left` bytes of
+    /// The usable anchored frame at the offset, where a look shows these bytes and `left` bytes of
     /// the file are left.
     pub(crate) fn anchored(&self, front: &[u8], at: u64, left: u64) -> Option<PlacedFrame>
         requires many { length front.now ≡ min look_size left }
@@ -113,7 +114,7 @@ impl Role {
         }
     }
 
-    /// The item that is read at the offset at which a look has shown these bytes, where `left` bytes of the
+    /// The item that is read at the offset, where a look shows these bytes and `left` bytes of the
     /// file are left.
     pub(crate) fn step(&self, front: &[u8], at: u64, left: u64) -> Option<Step>
         requires many { length front.now ≡ min look_size left }
@@ -132,8 +133,8 @@ impl Role {
         }
     }
 
-    /// The frame that is read at the offset at which a look has shown these bytes, where `left` bytes of
-    /// the file are left.
+    /// The frame that is read at the offset, where a look shows these bytes and `left` bytes of the
+    /// file are left.
     pub(crate) fn whole(&self, front: &[u8], at: u64, left: u64) -> Option<PlacedFrame>
         requires many { length front.now ≡ min look_size left }
         ensures frame { (file : List ℕ) → Shows file at front.now left

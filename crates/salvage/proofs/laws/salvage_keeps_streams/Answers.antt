@@ -1,4 +1,4 @@
--- What a survey tells is read.
+-- What a survey says is read.
 use Rattle.salvage.proofs.KeepsLemmas.{keeps_streams}
 use Rattle.salvage.proofs.laws.salvage_keeps_streams.Goals as goal
 

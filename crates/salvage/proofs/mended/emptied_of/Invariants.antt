@@ -1,4 +1,4 @@
--- Those so far, and those from here on.
+-- The frames that become empty ones so far, and those from here on.
 use Rattle.std.proofs.Common.{drop, length, ◌++◌, ◌-◌, ◌≡◌, ◌≤◌}
 use Rattle.salvage.specs.EmptiedFrames.{emptied_from}
 use Rattle.salvage.proofs.mended.emptied_of.Given as goal

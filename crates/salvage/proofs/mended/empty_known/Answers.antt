@@ -1,4 +1,4 @@
--- Where no frame becomes an empty one, all stay.
+-- If no frame becomes an empty one, all are unchanged.
 use Rattle.std.proofs.{Common.{ap, length, List, sym, ◌∙◌}, lemmas.Bool.eqb-true}
 use Rattle.std.proofs.lemmas.List.{nil_from_length}
 use Rattle.salvage.proofs.MendedLemmas.{mended_none}

@@ -1,4 +1,4 @@
--- The word that is right is another.
+-- The right word is another.
 use Rattle.std.proofs.Common.{ap, arith, drop, length-drop, sym, take, ◌+◌, ◌-◌, ◌∙◌, ◌≡◌}
 use Rattle.std.proofs.lemmas.{Bool.{eqb-false, not-true}, List.length-take}
 use Rattle.bit_fields.specs.Bits.{bits}

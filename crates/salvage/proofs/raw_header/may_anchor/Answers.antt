@@ -1,4 +1,4 @@
--- Neither a header of the class nor a block begins so.
+-- Neither a header of the class nor a block begins like this.
 use Rattle.std.proofs.Common.{arith, sym, ◌∙◌}
 use Rattle.salvage.proofs.RawHeaderLemmas.{not_anchor}
 use Rattle.salvage.proofs.raw_header.may_anchor.Goals as goal

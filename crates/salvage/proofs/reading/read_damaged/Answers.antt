@@ -1,5 +1,5 @@
--- The file isn't found, or is too long; or what is read
--- after that is read of files and counts that are the same.
+-- The file isn't found, or is too long; or what is read after that is read from unchanged files and
+-- counts.
 use Rattle.std.proofs.Common.{rules, subst, sym, ◌∙◌}
 use Rattle.outside.proofs.BufferOutputLemmas.{err_at}
 use Rattle.salvage.{proofs.ReadFaultLemmas.{find_refusal, seen_same}, specs.Answers.DamagedAnswer}

@@ -1,4 +1,4 @@
--- One thing more is read.
+-- One more thing is read.
 use Rattle.std.proofs.Common.{subst}
 use Rattle.salvage.specs.Progress.{IsDamagedReading}
 use Rattle.sync_survey.proofs.FoldersLemmas.{read_more}

@@ -1,4 +1,4 @@
--- No usable anchored frame is at the places that were passed.
+-- There is no usable anchored frame at the places that were passed.
 use Rattle.std.proofs.Common.{max, ℕ, ◌-◌, ◌<◌, ◌≤◌}
 use Rattle.salvage.specs.Steps.{HasNoUsableFrame}
 use Rattle.salvage.proofs.search.distance_to_candidate.Given as goal

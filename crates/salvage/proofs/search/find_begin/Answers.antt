@@ -1,4 +1,4 @@
--- Where none may begin, none does.
+-- Where no header may begin, none does.
 use Rattle.std.proofs.Common.{arith, sym, ◌∙◌}
 use Rattle.salvage.{proofs.SearchLemmas.{bare_at, bare_more}, specs.Steps.HasNoHeader}
 use Rattle.salvage.proofs.search.find_begin.Goals as goal

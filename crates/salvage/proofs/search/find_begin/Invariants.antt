@@ -1,4 +1,4 @@
--- No header is at the places that were passed.
+-- There is no header at the places that were passed.
 use Rattle.std.proofs.Common.{ℕ, ◌<◌, ◌≤◌}
 use Rattle.salvage.specs.Steps.{HasNoHeader}
 use Rattle.salvage.proofs.search.find_begin.Given as goal

@@ -7,7 +7,7 @@ use Rattle.sync_survey.{proofs.FoldersLemmas.none_read, specs.{Looks.Shows, Surv
 use Rattle.sync_survey.specs.declared.places.PlacedFrame.{PlacedFrame}
 use Rattle.salvage.proofs.search.first_frame.Goals as goal
 
--- one that is whole from the next offset on is so from this one on
+-- a frame that is whole from the next offset on is whole from this one on
 whole_before : (from size : ℕ) (o : Option PlacedFrame) → IfSome o (IsWholeFrom (from + 1) size)
     → IfSome o (IsWholeFrom from size)
 whole_before from size None is = tt

@@ -1,4 +1,4 @@
--- No header is there, or the frame isn't usable or has no anchor.
+-- There is no header, or the frame isn't usable or has no anchor.
 use Rattle.std.proofs.Common.{ap, arith, drop, length, length-drop, List, Ok, refl, Result, sym, ℕ}
 use Rattle.std.proofs.Common.{◌+◌, ◌∙◌, ◌≡◌}
 use Rattle.frame_header.specs.{Fields.HeaderFields, Tables.class_of}
@@ -15,7 +15,7 @@ returns-in_default c = λ _ h is. absurd (c.in_default.not-Ok h
     (c.header_front.ensures ∙ ap header_front c.bytes_from-bytes.ensures
     ∙ header_of (drop c.args.place c.args.front.now) h is))
 
--- the header that was read is that of the bytes at the place
+-- the header that was read is the header of the bytes at the place
 header_there : (front bytes : List ℕ) (place : ℕ) (h : HeaderFields)
     (r : Result HeaderFields NotHeader) → bytes ≡ drop place front → r ≡ header_front bytes
     → r ≡ Ok h → header_front (drop place front) ≡ Ok h

@@ -1,4 +1,4 @@
--- No usable anchored frame is at an offset before.
+-- There is no usable anchored frame at an earlier offset.
 use Rattle.std.proofs.Common.{List, None, ℕ, ◌-◌, ◌<◌, ◌≡◌, ◌≤◌}
 use Rattle.outside.specs.Files.{Holds}
 use Rattle.salvage.specs.UsableFrames.{usable_frame_at}

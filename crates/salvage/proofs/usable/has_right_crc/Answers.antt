@@ -1,5 +1,5 @@
--- A protected frame has room for a check word, which
--- is judged by its header and its side information.
+-- A protected frame has room for a check word, which is judged by the frame's header and side
+-- information.
 use Rattle.std.proofs.Common.{ap, ap₂, arith, Bool, not, sym, true, ◌+◌, ◌==◌, ◌||◌, ◌∙◌, ◌≡◌}
 use Rattle.frame_header.specs.Tables.{class_of, side_size_of}
 use Rattle.salvage.proofs.usable.has_right_crc.Goals.{After-stored_crc}

@@ -1,4 +1,4 @@
--- It is that of the header and the side information that are read there.
+-- The right check word is the one for the header and the side information that are read there.
 use Rattle.std.proofs.Common.{ap, arith, drop, length, length-drop, sym, take, ◌-◌, ◌∙◌, ◌≡◌}
 use Rattle.std.proofs.lemmas.List.{length-take}
 use Rattle.bit_fields.specs.Bits.{bits}

@@ -1,4 +1,4 @@
--- The survey with its emptied frames is laid out as one of a file without fault.
+-- The survey with its emptied frames is laid out like that of a file without fault.
 use Rattle.std.proofs.Common.{subst, sym}
 use Rattle.salvage.{proofs.MendedLemmas.survey-mended, specs.DamagedFiles.damaged_view}
 use Rattle.sync_survey.specs.Survey.{IsSurveyLaidOut}

@@ -1,4 +1,4 @@
--- The row that is kept is that of the frame's bytes, marked.
+-- The row that is kept is the row of the frame's bytes, marked.
 use Rattle.std.proofs.Common.{ap, append-nil, ap₂, arith, get_or, length, List, slice_set, sym, []}
 use Rattle.std.proofs.Common.{◌++◌, ◌∙◌, ◌∷◌, ◌≡◌}
 use Rattle.salvage.proofs.found.DamagedSoFar.judge.Goals.{After-index_mut-row}

@@ -1,4 +1,4 @@
--- A frame is one by its header.
+-- An item is a frame by its header.
 use Rattle.sync_survey.proofs.ItemsLemmas.{header_stands}
 use Rattle.salvage.proofs.found.DamagedSoFar.keep_item.Goals as goal
 
