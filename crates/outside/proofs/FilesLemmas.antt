@@ -71,7 +71,7 @@ is_some_with_file f name bytes other there = at (bytes_eq name other)
 
 -- ---- which names may have been touched
 
--- two that say the same of each name are equal
+-- two sets of touched names that say the same of each name are equal
 pub same_touched : (a b : Touched) → ((name : List ℕ) → a name ≡ b name) → a ≡ b
 same_touched a b same = λ i name. same name i
 

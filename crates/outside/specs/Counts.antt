@@ -74,8 +74,8 @@ pub record NothingFailed (old new : Counts) : Type 0 where
   pub read_faults : new.read_faults ≡ old.read_faults
   pub write_faults : new.write_faults ≡ old.write_faults
 
--- a sink's count never falls: it stays where the call
--- succeeds, and the call fails only where it rose
+-- a sink's count never falls: it is unchanged if the call succeeds, and the call fails only if it
+-- rose
 pub record HasCause {T E : Type 0} (before now : ℕ) (result : Result T E) : Type 0 where
   pub later : before ≤ now
   pub done : OnOk result (now ≡ before)

@@ -58,7 +58,7 @@ header_same bytes h g read is =
     let header : header_front bytes ≡ Ok g = subst (IsItemFront bytes) is (stands bytes) in
     cc
 
--- where an item is a frame, its header is the one with which the bytes begin
+-- the header of an item that is a frame is the one with which the bytes begin
 pub header_of : (bytes : List ℕ) (g : HeaderFields) → item_front bytes ≡ Frame g
     → header_front bytes ≡ Ok g
 header_of bytes g is = subst (IsItemFront bytes) is (stands bytes)

@@ -264,7 +264,7 @@ apart-leads head class rows placed i r found far =
           (lacks_parts (place None rows i) (data_end_before None rows i) r lost).none,
     )
 
--- ---- where no frame is lost
+-- ---- if no frame is lost
 
 near_stays : (rows : List Row) (n : ℕ) (xs : List Row) → ((i : ℕ) (r : Row)
     → slice_get xs i ≡ Some r → r.side.main_data_begin ≤ place None rows (n + i))

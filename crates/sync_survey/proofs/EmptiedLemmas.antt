@@ -120,7 +120,7 @@ some_row (Some r) q e = (r, refl, cc)
 
 -- ---- all frames
 
--- all areas together stay the same
+-- the sum of all areas is unchanged
 pub areas_same : (rows : List Row) → sum_by (λ (q : Row). own_area q.header) (map emptied_row rows)
     ≡ sum_by (λ (q : Row). own_area q.header) rows
 areas_same [] = refl

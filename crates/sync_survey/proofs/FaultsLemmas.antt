@@ -141,8 +141,8 @@ module _ (head : Option Head) (rows : List Row) where
         sum_by_push area rows r,
       )
 
--- where main data end before frame i, by a rule that is given where the area of each frame begins,
--- where the data before it end, and the frame
+-- where the main data before frame i end, by a rule on where the area of each frame begins, where
+-- the data before it end, and the frame
 pub record IsRuled (head : Option Head) (rule : ℕ → ℕ → Option Row → ℕ)
     (end : List Row → ℕ → ℕ) : Type 0 where
   pub more : (rows more : List Row) (i : ℕ) → i ≤ length rows → end (rows ++ more) i ≡ end rows i

@@ -224,8 +224,7 @@ one_mapped f g at (Block b) ys same rest =
     ap₂ (λ (p : Piece) (l : List Piece). p ∷ l) (same (record { offset = at; block = b }) refl) rest
 one_mapped f g at _ ys same rest = rest
 
--- two changes that are the same for blocks between two
--- offsets are the same for the blocks that are there
+-- two changes that agree for blocks between two offsets agree for the blocks that are there
 pub blocks-between : (part : Region) (f g : Piece → Piece) (file : List ℕ) (low high from : ℕ)
     (ps : List PlacedItem) (to : ℕ) → ((p : Piece) → low ≤ p.offset → p.offset < high → f p ≡ g p)
     → AreEndToEnd part file from ps to → low ≤ from → to ≤ high

@@ -46,7 +46,7 @@ unfolding item_front
 frame_of_header bytes h e =
     ap (λ r. header_or_item r (block_or_item (block_front bytes) (byte_item bytes))) e
 
--- an item that is a frame is one by the header with which the bytes begin
+-- the header of an item that is a frame is the one with which the bytes begin
 pub header_stands : (bytes : List ℕ) (item : Item) (h : HeaderFields) → item ≡ item_front bytes
     → item ≡ Frame h → header_front bytes ≡ Ok h
 header_stands bytes item h front is = subst (IsItemFront bytes) (sym front ∙ is) (stands bytes)

@@ -52,7 +52,7 @@ pub record IsBegun (file : List ℕ) (start : Start) (head : Option Head) : Type
   pub start_is : start_of file ≡ Ok start
   pub head_is : head ≡ head_of file start.first
 
--- the first frame is an item of the stream where it is
+-- the first frame is an item of the stream at its offset
 pub first_of_stream : (file : List ℕ) (start : Start) → start_of file ≡ Ok start
     → whole_item_at Stream file start.first.offset ≡ Some (Frame start.first.header)
 first_of_stream file start is =

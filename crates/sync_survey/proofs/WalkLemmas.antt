@@ -36,7 +36,7 @@ numbered-frames file start None first = refl
 numbered-frames file start (Some head) first =
     sym (ap (drop 1) (frames-next Stream file start.first.offset (Frame start.first.header) first))
 
--- the blocks from the first numbered frame on are those of the stream
+-- the blocks from the first numbered frame on are the blocks of the stream
 pub numbered-blocks : (file : List ℕ) (start : Start) (head : Option Head)
     → whole_item_at Stream file start.first.offset ≡ Some (Frame start.first.header) →
     blocks_of (item_run Stream file (numbered_offset start.first head)).items

@@ -54,7 +54,7 @@ pub record HasShrunk (name : List ℕ) (place : ℕ) (files : Files)
   pub ended : EndedAt name place before.ends after.ends
   pub counts : NothingFailed before after
 
--- the file is there and isn't too long, so that memory is taken, and nothing is counted
+-- the file is there and isn't too long, so memory is needed, and nothing is counted
 pub record AsksForMemory (name : List ℕ) (files : Files) (before after : Counts) : Type 0 where
   pub there : IsFileThere files name
   pub few : (bytes : List ℕ) → Holds files name bytes → length bytes ≤ longest_file

@@ -100,7 +100,7 @@ impl FileRooms {
         self.by_name.get(name)?.content()
     }
 
-    /// The room for a name, 0 where it has none.
+    /// The room for a name, or 0 if it has none.
     pub fn room(&self, name: &str) -> u64
         ensures value { result ≡ unwrap_or (rooms_in self.now name.now) 0 }
         ensures enough { length (unwrap_or (contents_in self.now name.now) []) ≤ result }

@@ -190,7 +190,7 @@ returns-then-is_empty g c = record {
   counts = search rules;
 }
 
--- the files stay, and only reads are counted
+-- a head that is the first frame is whole if that frame is
 head_within : (start : Start) (size : ℕ) → start.first.offset + size_of (Frame start.first.header)
     ≤ size → (head : Option Head) → IfSome head (IsFrameOf start.first)
     → IfSome head (IsWholeHead start.first.offset (class_from start) size)

@@ -9,7 +9,7 @@ use Rattle.sync_survey.specs.Start.{front_end_of, start_after_junk, start_at, st
 use Rattle.sync_survey.proofs.starts.find_start.Given as given
 use Rattle.sync_survey.proofs.starts.find_start.Goals as goal
 
--- `left` bytes are left, and what is shown begins with this item
+-- the start of a file, given a look at the end of its front
 started : (file front : List ℕ) (at left : ℕ) → at ≡ front_end_of file → Shows file at front left
     → start_of file ≡ start_at file at (item_front front)
 started file front at left end shows =
