@@ -1,12 +1,12 @@
 -- Laws of what a buffer passed on to a file.
 use Rattle.std.proofs.Common.{ap, append_assoc, arith, drop, length, length-append, List, refl}
-use Rattle.std.proofs.Common.{subst, sym, take, ℕ, [], ◌++◌, ◌+◌, ◌∙◌, ◌≡◌}
+use Rattle.std.proofs.Common.{subst, sym, take, ℕ, [], ◌++◌, ◌+◌, ◌∙◌, ◌≡◌, ◌≤◌}
 use Rattle.std.proofs.Math.Seq.{take-append-add}
 use Rattle.std.proofs.lemmas.List.{length-take, take-append-drop, take-append-le, take-take}
 use Rattle.std.specs.Prelude.{Err, IfErr, IsErrAnd, Ok, OnErr, Result}
 use Rattle.outside.proofs.FilesLemmas.{appended_nothing, appended_there, appended_twice}
-use Rattle.outside.specs.BufferOutput.{AppendedPrefix, AppendsWaiting}
-use Rattle.outside.specs.Files.{Files, IsFileThere, with_appended_bytes}
+use Rattle.outside.specs.{Answers.PushAnswer, BufferOutput.{AppendedPrefix, AppendsWaiting}}
+use Rattle.outside.specs.{Files.{Files, IsFileThere, with_appended_bytes}, Seen.Seen}
 
 -- a fact that holds on every error
 pub on_err : {T E P : Type 0} (r : Result T E) → P → OnErr r P
@@ -51,6 +51,27 @@ module _ {name before after : List ℕ} {f g : Files} where
   pub passed_there : AppendsWaiting name before after f g → IsFileThere g name
   passed_there p =
       subst (λ files. IsFileThere files name) (sym p.files) (appended_there f name p.passed)
+
+-- a piece that fits waits after what waited, and nothing is passed on
+pub piece_waits : {name waits after : List ℕ} (piece : List ℕ) (seen : Seen)
+    → IsFileThere seen.files name → after ≡ waits ++ piece → length after ≤ 65536
+    → PushAnswer name waits piece after seen seen (Ok tt)
+piece_waits {name} {waits} piece seen there is few = record {
+  passed = let all = waits ++ piece in
+      subst (λ (after : List ℕ). AppendsWaiting name all after seen.files seen.files)
+      (sym is) (passed_nothing seen.files name all there);
+  prefix = tt;
+  none = tt;
+  few = few;
+  failed = tt;
+  done = refl;
+  counts = record {
+    misses = omega arith;
+    ends = refl;
+    read_faults = refl;
+    write_faults = omega arith;
+  };
+}
 
 -- what was passed on in two steps was passed on in one
 pub passed_then : {name before mid after : List ℕ} {f g h : Files}
