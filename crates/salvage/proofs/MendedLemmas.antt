@@ -1,6 +1,6 @@
 -- With its emptied frames as frames without main data, what is read of a damaged file is laid out
 -- like a file without fault.
-use Rattle.std.proofs.Common.{ap, ap₂, arith, Bool, cond, false, length, List, map, None, Option}
+use Rattle.std.proofs.Common.{ap, ap₂, arith, Bool, cond, false, List, map, None, Option}
 use Rattle.std.proofs.Common.{option_to_list, refl, slice_get, Some, subst, suc, sym, true, zero, ℕ}
 use Rattle.std.proofs.{Common.{[], ◌++◌, ◌+◌, ◌||◌, ◌∙◌, ◌∷◌, ◌≡◌, ◌≤◌}, lemmas.List.length-map}
 use Rattle.frame_header.specs.{Fields.{ClassFields, IsHeader}, Tables.{class_of, length_of}}

@@ -1,9 +1,10 @@
 -- Why a damaged file isn't read.
-use Rattle.std.proofs.Common.{ap, arith, Err, false, length, List, ltb, refl, subst, sym, true, ℕ}
-use Rattle.std.proofs.{Common.{◌<◌, ◌∙◌, ◌≡◌, ◌≤◌}, lemmas.Bool.{le-ltb, lt-ltb}}
+use Rattle.std.proofs.Common.{ap, Err, false, length, List, ltb, refl, subst, sym, true, ℕ, ◌<◌}
+use Rattle.std.proofs.{Common.{◌∙◌, ◌≡◌, ◌≤◌}, lemmas.Bool.{le-ltb, lt-ltb}}
 use Rattle.outside.specs.{Counts.Counts, Feed.Fed, Files.{Files, Holds}, Seen.Seen}
 use Rattle.salvage.specs.DamagedFiles.{damaged_fields, damaged_of, IsDamagedRefusal, RefusesDamaged}
-use Rattle.sync_survey.{proofs.FoldersLemmas.{HasRead, refusal_after}, specs.Faults.longest_file}
+use Rattle.sync_survey.proofs.FoldersLemmas.{HasRead, memory_refusal as survey_memory}
+use Rattle.sync_survey.{proofs.FoldersLemmas.refusal_after, specs.Faults.longest_file}
 use Rattle.sync_survey.specs.Survey.{HasLength, IsLengthFault, IsSurveyFaultBy, IsSurveyRefusal}
 use Rattle.sync_survey.specs.Survey.{IsUnreadBy, RefusesBytes}
 use Rattle.sync_survey.specs.SurveyFaultKinds.{HasRightNumbers, InputKind, IsFromOutside, IsRefused}
@@ -45,14 +46,9 @@ module _ (name : List ℕ) (files : Files) (before after : Counts) (fault : Surv
 -- any file may be refused when out of memory
 pub memory_refusal : (name : List ℕ) (files : Files) (before after : Counts) (size : ℕ)
     → HasLength files name size → after ≡ before → IsDamagedRefusal name files before after Memory
-memory_refusal name files before after size known same = record {
-  cause = record {
-    there = known.there;
-    few = λ bytes holds. omega (arith, known.few, known.long bytes holds);
-    counts = same;
-  };
-  numbers = tt;
-}
+memory_refusal name files before after size known same =
+    outside_refusal name files before after Memory
+    (survey_memory name files 0 before after size known same) (λ e. cc)
 
 -- a look that failed refuses the file, with its cause
 pub look_refusal : {feed : Fed} {name : List ℕ} {files mid : Files} {before between after : Counts}

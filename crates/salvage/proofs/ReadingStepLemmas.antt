@@ -1,26 +1,52 @@
 -- How reading a damaged file continues with an item that is read at the offset that was reached.
-use Rattle.std.proofs.Common.{arith, inl, inr, length, List, MatchResult, OnOk, Result, Some, subst}
-use Rattle.std.proofs.Common.{sym, true, ℕ, ◌+◌, ◌≡◌, ◌≤◌, ◌⊎◌}
-use Rattle.outside.specs.{Feed.Fed, Files.Holds, Seen.Seen}
+use Rattle.std.proofs.Common.{arith, Err, inl, inr, length, List, MatchResult, Ok, OnOk, Result}
+use Rattle.std.proofs.Common.{Some, subst, sym, true, ℕ, ◌+◌, ◌≡◌, ◌≤◌, ◌⊎◌}
+use Rattle.std.specs.Prelude.{IsErrAnd}
+use Rattle.outside.specs.{Feed.{Fed, IsFedFrom}, Files.Holds, Seen.Seen}
 use Rattle.salvage.proofs.ProgressLemmas.{item_laid, item_more, past_most, past_rightly}
-use Rattle.salvage.proofs.ReadFaultLemmas.{bytes_refusal, memory_refusal}
+use Rattle.salvage.proofs.ReadFaultLemmas.{bytes_refusal, look_refusal, memory_refusal}
 use Rattle.salvage.{proofs.ResultLemmas.{if_err, on_both}, specs.Answers.ThingAnswer}
 use Rattle.salvage.specs.DamagedFiles.{IsDamagedRefusal, most_frames}
 use Rattle.salvage.specs.JudgedFrames.{AddsItem, IsPastMost}
 use Rattle.salvage.specs.{Progress.{begun_class, IsBegunFile, IsDamagedReading}, Steps.admits_item}
 use Rattle.salvage.specs.{Walk.item_read, declared.begun.Begun.Begun}
-use Rattle.salvage.specs.declared.{found.DamagedSoFar.DamagedSoFar, usable.Role.TheVariants.Later}
-use Rattle.sync_survey.specs.{Looks.{PassesFront, Shows}, Survey.ReadsBy, declared.items.Item.Item}
-use Rattle.sync_survey.specs.declared.survey_fault.SurveyFault.{SurveyFault, TheVariants.Memory}
+use Rattle.salvage.specs.declared.{found.DamagedSoFar.DamagedSoFar, usable.Role.Role}
+use Rattle.salvage.specs.declared.usable.Role.TheVariants.{Later}
+use Rattle.sync_survey.{proofs.FoldersLemmas.none_read, specs.Looks.{PassesFront, Shows}}
+use Rattle.sync_survey.specs.{Survey.{IsSurveyRefusal, ReadsBy}, SurveyFaultKinds.IsFromOutside}
+use Rattle.sync_survey.specs.declared.{items.Item.Item, survey_fault.SurveyFault.SurveyFault}
+use Rattle.sync_survey.specs.declared.survey_fault.SurveyFault.TheVariants.{Memory}
+
+-- a look that failed is why nothing more is read
+pub look_failed : {T : Type 0} {x : Result T SurveyFault} {feed fed : Fed} {was now : Seen}
+    {name : List ℕ} {fault : SurveyFault} {begun : Begun} {old new : DamagedSoFar}
+    (r : Result (Unit {0}) SurveyFault) → IsErrAnd r (λ f. f ≡ fault)
+    → IsFedFrom feed was.files name → ReadsBy fed name x was now
+    → IsSurveyRefusal name was.files 0 was.counts now.counts fault → IsFromOutside fault
+    → ThingAnswer name begun old new fed was now r
+look_failed (Ok u) is fed reads refused outside = absurd is
+look_failed {was = was} {now = now} {name = name} (Err f) is fed reads refused outside = record {
+  reading = tt;
+  reads = record { done = tt; fed = reads.fed; files = reads.files; counts = reads.counts };
+  refused = subst (IsDamagedRefusal name was.files was.counts now.counts) (sym is)
+      (look_refusal (none_read fed) refused outside);
+}
 
 module _ (was now : Seen) (name : List ℕ) (begun : Begun) (old : DamagedSoFar) (item : Item)
     (size : ℕ)
     (front : List ℕ) (left : ℕ)
     (shows : (bytes : List ℕ) → Holds was.files name bytes → Shows bytes old.at front left)
+    (role : Role) (later : role ≡ Later (begun_class begun))
     (read : (bytes : List ℕ) → Shows bytes old.at front left
-    → item_read bytes (Later (begun_class begun)) old.at ≡ Some item)
+    → item_read bytes role old.at ≡ Some item)
     (begins : IsBegunFile was.files name begun)
     (reading : IsDamagedReading was.files name begun old) where
+  read_there : (bytes : List ℕ) → Holds was.files name bytes
+      → item_read bytes (Later (begun_class begun)) old.at ≡ Some item
+  read_there bytes holds =
+      subst (λ (role : Role). item_read bytes role old.at ≡ Some item) later
+      (read bytes (shows bytes holds))
+
   -- the file is refused if memory ran out, or if the item is a frame too many
   keep_refused : now.counts ≡ was.counts → (fault : SurveyFault) → (fault ≡ Memory)
       ⊎ IsPastMost item old fault → IsDamagedRefusal name was.files was.counts now.counts fault
@@ -33,12 +59,12 @@ module _ (was now : Seen) (name : List ℕ) (begun : Begun) (old : DamagedSoFar)
             past_most bytes begun old item fault (begins.told bytes holds)
             (omega (arith, begins.known.few, begins.known.long bytes holds))
             (reading.told bytes holds)
-            (read bytes (shows bytes holds)) past)
+            (read_there bytes holds) past)
       ]
 
   -- the item is kept, or is refused
   pub keeps_on : (result : Result (Unit {0}) SurveyFault) (new : DamagedSoFar) (fed : Fed)
-      → admits_item (Later (begun_class begun)) old.at item front ≡ true
+      → admits_item role old.at item front ≡ true
       → PassesFront front left (record { item = item; size = size }) → old.at + size ≤ begun.size
       → MatchResult result (λ _. AddsItem item size front old new)
       (λ fault. (fault ≡ Memory) ⊎ IsPastMost item old fault)
@@ -51,8 +77,9 @@ module _ (was now : Seen) (name : List ℕ) (begun : Begun) (old : DamagedSoFar)
           reading = record {
             told = λ bytes holds. item_more bytes begun old new item size front left
                 (reading.told bytes holds) (shows bytes holds)
-                (read bytes (shows bytes holds)) passes.zeros passes.own adds;
-            laid = item_laid begun old new reading.laid item size front fewer passes.item usable
+                (read_there bytes holds) passes.zeros passes.own adds;
+            laid = item_laid begun old new reading.laid item size front fewer passes.item
+                (subst (λ (role : Role). admits_item role old.at item front ≡ true) later usable)
                 passes.least within adds;
           };
           on = omega (arith, adds.at, passes.some);

@@ -63,32 +63,19 @@ pub header_of : (bytes : List ℕ) (g : HeaderFields) → item_front bytes ≡ F
     → header_front bytes ≡ Ok g
 header_of bytes g is = subst (IsItemFront bytes) is (stands bytes)
 
--- the frame at this place has no anchor, or isn't usable:
-module _ (role : Role) (offset : ℕ) (front : List ℕ) (k : ℕ) (g : HeaderFields)
-    (here : header_front (drop k front) ≡ Ok g)
-    (near : k + length_of (class_of g) g.slot ≤ 4064) where
-  -- a frame without an anchor isn't a usable anchored one
-  pub bare_unanchored : is_anchor (class_of g)
-      (item_front (drop (k + length_of (class_of g) g.slot) front)) ≡ false
-      → HasNoUsableFrame role offset front k
-  bare_unanchored none = λ h is.
-      subst
-      (λ (f : HeaderFields). (k + length_of (class_of f) f.slot ≤ 4064)
-      × ((is_anchor (class_of f) (item_front (drop (k + length_of (class_of f) f.slot) front))
-      ≡ false)
-      ⊎ (is_usable role (record { offset = offset + k; header = f }) (drop k front) ≡ false)))
-      (header_same (drop k front) g h here is) (near, inl none)
-
-  -- a frame that isn't usable isn't a usable anchored one
-  pub bare_unusable : is_usable role (record { offset = offset + k; header = g }) (drop k front)
-      ≡ false → HasNoUsableFrame role offset front k
-  bare_unusable none = λ h is.
-      subst
-      (λ (f : HeaderFields). (k + length_of (class_of f) f.slot ≤ 4064)
-      × ((is_anchor (class_of f) (item_front (drop (k + length_of (class_of f) f.slot) front))
-      ≡ false)
-      ⊎ (is_usable role (record { offset = offset + k; header = f }) (drop k front) ≡ false)))
-      (header_same (drop k front) g h here is) (near, inr none)
+-- a frame that has no anchor, or isn't usable, isn't a usable anchored one
+pub bare_here : (role : Role) (offset : ℕ) (front : List ℕ) (k : ℕ) (g : HeaderFields)
+    → header_front (drop k front) ≡ Ok g → k + length_of (class_of g) g.slot ≤ 4064
+    → (is_anchor (class_of g) (item_front (drop (k + length_of (class_of g) g.slot) front)) ≡ false)
+    ⊎ (is_usable role (record { offset = offset + k; header = g }) (drop k front) ≡ false)
+    → HasNoUsableFrame role offset front k
+bare_here role offset front k g here near none = λ h is.
+    subst
+    (λ (f : HeaderFields). (k + length_of (class_of f) f.slot ≤ 4064)
+    × ((is_anchor (class_of f) (item_front (drop (k + length_of (class_of f) f.slot) front))
+    ≡ false)
+    ⊎ (is_usable role (record { offset = offset + k; header = f }) (drop k front) ≡ false)))
+    (header_same (drop k front) g h here is) (near, none)
 
 -- what holds at the places up to one, and there, holds before the next
 pub bare_more : (P : ℕ → Type 0) (from at : ℕ) → ((k : ℕ) → from ≤ k → k < at → P k) → P at

@@ -1,10 +1,9 @@
 -- A look shows whether a frame is usable.
 use Rattle.std.proofs.Common.{ap, ap₂, arith, Bool, cond, drop, Err, false, is_some, length, List}
-use Rattle.std.proofs.Common.{min, None, not, Ok, Option, refl, Result, Some, sym, take, true, ℕ}
-use Rattle.std.proofs.Common.{◌&&◌, ◌+◌, ◌-◌, ◌<◌, ◌==◌, ◌||◌, ◌∙◌, ◌≡◌, ◌≤◌}
-use Rattle.std.proofs.lemmas.{Bool.leb-true, List.{drop-drop, drop-take, take-take}}
+use Rattle.std.proofs.Common.{None, not, Ok, Option, refl, Result, Some, sym, take, true, ℕ, ◌&&◌}
+use Rattle.std.proofs.{Common.{◌+◌, ◌-◌, ◌<◌, ◌==◌, ◌||◌, ◌∙◌, ◌≡◌, ◌≤◌}, lemmas.Bool.leb-true}
+use Rattle.std.proofs.lemmas.List.{drop-drop, drop-take, take-take}
 use Rattle.bit_fields.specs.Bits.{bits}
-use Rattle.frame_header.proofs.{HeaderLemmas.IsClass-class_of, LengthLemmas.length-most}
 use Rattle.frame_header.specs.{Fields.{HeaderFields, same_class}, Reading.header_at}
 use Rattle.frame_header.specs.Tables.{class_of, length_of, overhead_of, side_size_of}
 use Rattle.frame_header.specs.declared.header.NotHeader.{NotHeader, TheVariants.No}
@@ -17,27 +16,13 @@ use Rattle.side_info.proofs.FrameLemmas.{overhead-few, side_in-take, word_said-t
 use Rattle.side_info.specs.{CheckWord.check_word_of, Frame.{side_in, side_part, side_place}}
 use Rattle.side_info.specs.Side.{side_at}
 use Rattle.sync_survey.proofs.{LooksLemmas.item_at-shown, RunsLemmas.item_of-whole}
-use Rattle.sync_survey.proofs.StepLemmas.{item_header, overhead_few}
-use Rattle.sync_survey.specs.{Items.{header_front, item_front, size_of}, Looks.{look_size, Shows}}
-use Rattle.sync_survey.specs.{Runs.{belongs, whole_item_at}, Start.anchored_frame}
-use Rattle.sync_survey.specs.{Walk.head_in_bytes, declared.items.Item.Item}
+use Rattle.sync_survey.proofs.StepLemmas.{length_few, overhead_few}
+use Rattle.sync_survey.specs.Items.{header_front, item_front, size_of}
+use Rattle.sync_survey.specs.{Looks.{look_size, PassesFront, Shows}, Runs.{belongs, whole_item_at}}
+use Rattle.sync_survey.specs.{Start.anchored_frame, Walk.head_in_bytes, declared.items.Item.Item}
 use Rattle.sync_survey.specs.declared.items.Item.TheVariants.{Block, Frame, Zero}
 use Rattle.sync_survey.specs.declared.places.PlacedFrame.{PlacedFrame}
-use Rattle.sync_survey.specs.declared.runs.Region.TheVariants.{Stream}
-
--- a header anywhere is the header of a frame with few bytes
-pub length_few : (front : List ℕ) (h : HeaderFields) → item_front front ≡ Frame h
-    → length_of (class_of h) h.slot ≤ 1441
-length_few front h is =
-    let known = item_header front (Frame h) (sym is) h refl in
-    length-most (class_of h) h.slot (IsClass-class_of h known) known.slot
-
--- the look shows all that is judged
-pub room_shown : (front : List ℕ) (h : HeaderFields) (left : ℕ) → item_front front ≡ Frame h
-    → size_of (Frame h) ≤ left → length front ≡ min look_size left
-    → overhead_of (class_of h) h.protected ≤ length front
-room_shown front h left is within many =
-    omega (arith, overhead_few front (Frame h) h (sym is) refl, length_few front h is, within, many)
+use Rattle.sync_survey.specs.declared.runs.{Region.TheVariants.Stream, Step.Step}
 
 -- ---- the check word of the bytes
 
@@ -125,19 +110,11 @@ module _ (file : List ℕ) (at : ℕ) (front : List ℕ) (left : ℕ)
       → None ≡ usable_frame_at file role at
   none_anchored role is = usable_by role None is
 
-  -- an anchored frame that passes the test is usable
-  pub frame_anchored : (role : Role) (p : PlacedFrame) → Some p ≡ anchored_frame file at
-      → p.offset ≡ at → item_front front ≡ Frame p.header → is_usable role p front ≡ true
-      → Some p ≡ usable_frame_at file role at
-  frame_anchored role p anchored here is usable =
-      sym (ap (λ b. cond b (Some p) None) (sym (usable_shown role p here is) ∙ usable))
-      ∙ usable_by role (Some p) anchored
-
-  -- an anchored frame that doesn't pass the test isn't usable
-  pub frame_refused : (role : Role) (p : PlacedFrame) → Some p ≡ anchored_frame file at
-      → p.offset ≡ at → item_front front ≡ Frame p.header → is_usable role p front ≡ false
-      → None ≡ usable_frame_at file role at
-  frame_refused role p anchored here is usable =
+  -- an anchored frame is usable if it passes the test
+  pub frame_judged : (role : Role) (p : PlacedFrame) → Some p ≡ anchored_frame file at
+      → p.offset ≡ at → item_front front ≡ Frame p.header → (b : Bool) → is_usable role p front ≡ b
+      → cond b (Some p) None ≡ usable_frame_at file role at
+  frame_judged role p anchored here is b usable =
       sym (ap (λ b. cond b (Some p) None) (sym (usable_shown role p here is) ∙ usable))
       ∙ usable_by role (Some p) anchored
 
@@ -164,8 +141,7 @@ module _ (file : List ℕ) (at : ℕ) (front : List ℕ) (left : ℕ)
       item_of-whole Stream file at item (sym (item_at-shown file at front left shows) ∙ sym is) here
       (omega (arith, some, least, within, shows.left_is))
 
-  -- the item that is passed is whole
-  pub step_whole : (item : Item) (size : ℕ) → item ≡ item_front front
+  step_whole : (item : Item) (size : ℕ) → item ≡ item_front front
       → ((item ≡ Zero → ⊥) → size ≡ size_of item) → 0 < size → size_of item ≤ size → size ≤ left
       → whole_item_at Stream file at ≡ Some item
   step_whole (Frame h) size is own some least within =
@@ -176,15 +152,12 @@ module _ (file : List ℕ) (at : ℕ) (front : List ℕ) (left : ℕ)
       whole_by Zero size is refl (omega arith) least within
   step_whole _ size is own some least within = absurd (omega (arith, own (λ e. cc), some))
 
-  -- a whole item that is admitted is read
-  pub item_taken : (role : Role) (item : Item) → whole_item_at Stream file at ≡ Some item
-      → item ≡ item_front front → admits_item role at item front ≡ true
-      → item_read file role at ≡ Some item
-  item_taken role item here is admits = read_by role (Some item) here
-      ∙ ap (λ b. cond b (Some item) None) (sym (read_shown role item (sym is)) ∙ admits)
-
-  -- a whole item that isn't admitted isn't read
-  pub item_refused : (role : Role) (item : Item) → whole_item_at Stream file at ≡ Some item → item
-      ≡ item_front front → admits_item role at item front ≡ false → item_read file role at ≡ None
-  item_refused role item here is admits = read_by role (Some item) here
-      ∙ ap (λ b. cond b (Some item) None) (sym (read_shown role item (sym is)) ∙ admits)
+  -- the item that is passed is whole, so it is read if it is admitted
+  pub item_judged : (role : Role) (step : Step) → PassesFront front left step → (b : Bool)
+      → admits_item role at step.item front ≡ b
+      → item_read file role at ≡ cond b (Some step.item) None
+  item_judged role step passes b admits =
+      read_by role (Some step.item) (step_whole
+      step.item step.size passes.item passes.own passes.some passes.least passes.within)
+      ∙ ap (λ b. cond b (Some step.item) None)
+      (sym (read_shown role step.item (sym passes.item)) ∙ admits)

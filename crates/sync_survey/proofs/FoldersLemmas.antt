@@ -3,19 +3,23 @@ use Rattle.std.proofs.Common.{ap, arith, Bool, cond, drop, Err, false, IfErr, If
 use Rattle.std.proofs.Common.{length-drop, List, ltb, min, Ok, refl, Result, subst, sym, take, true}
 use Rattle.std.proofs.Common.{ℕ, ◌-◌, ◌<◌, ◌∙◌, ◌≡◌, ◌≤◌}
 use Rattle.std.proofs.lemmas.{Bool.{le-ltb, leb-false, leb-true, lt-ltb}, List.take_all}
+use Rattle.std.specs.Prelude.{IsErrAnd}
 use Rattle.bit_fields.{proofs.BitsLemmas.AreBytes-from_slice, specs.Bits.AreBytes}
 use Rattle.outside.{proofs.CountsLemmas.only_reads_same, specs.Counts.{Counts, OnlyReads}}
 use Rattle.outside.specs.{Feed.{Fed, IsFedFrom}, Files.{AreOctets, Files, Holds, IsFileThere}}
-use Rattle.outside.specs.{ReadCauses.HasReadCause, Seen.seen_folder}
+use Rattle.outside.specs.{ReadCauses.HasReadCause, Seen.{Seen, seen_folder}}
 use Rattle.outside.specs.declared.exact.ReadFault.{ReadFault}
 use Rattle.outside.specs.declared.exact.ReadFault.TheVariants.{Failed, Shrunk as ShrunkRead}
+use Rattle.sync_survey.specs.Answers.{FramesAnswer}
 use Rattle.sync_survey.specs.Faults.{longest_file, survey_fields, survey_from_start}
-use Rattle.sync_survey.specs.{Looks.{look_size, Shows}, Start.start_of}
-use Rattle.sync_survey.specs.Survey.{HasLength, IsSurveyFaultBy, IsSurveyRefusal, ReadsBy}
-use Rattle.sync_survey.specs.Survey.{RefusesBytes, survey_of}
+use Rattle.sync_survey.specs.{Items.size_of, Looks.{look_size, Shows}, Start.start_of}
+use Rattle.sync_survey.specs.Survey.{HasLength, IsSurveyFaultBy, IsSurveyRefusal, IsWholeFrom}
+use Rattle.sync_survey.specs.Survey.{ReadsBy, RefusesBytes, survey_of}
 use Rattle.sync_survey.specs.SurveyFaultKinds.{RefusesRightly, survey_fault_of}
+use Rattle.sync_survey.specs.declared.{items.Item.TheVariants.Frame, places.PlacedFrame.PlacedFrame}
 use Rattle.sync_survey.specs.declared.{places.Start.Start, survey_fault.SurveyFault.SurveyFault}
 use Rattle.sync_survey.specs.declared.survey_fault.SurveyFault.TheVariants.{Memory, TooLong}
+use Rattle.sync_survey.specs.declared.surveys.Survey.{Survey}
 
 -- ---- the survey of a short file, and of one that is too long
 
@@ -59,6 +63,12 @@ shown file at left wanted size given whole is many bytes = record {
   left_is = omega (arith, whole, is);
 }
 
+-- equal bytes show the file, too
+pub shown_in : {file front given : List ℕ} {at left : ℕ} → front ≡ given → Shows file at given left
+    → Shows file at front left
+shown_in {file = file} {at = at} {left = left} same shows =
+    subst (λ front. Shows file at front left) (sym same) shows
+
 -- ---- after calls that left the files and all counts
 
 -- the feed is fed from the name's file, and the files and all counts are as they were
@@ -84,22 +94,22 @@ read_more before reads = record {
   counts = reads.done ∙ before.counts;
 }
 
--- the file is what it was
-pub still_held : {feed : Fed} {name : List ℕ} {files now : Files} {old new : Counts}
-    → HasRead feed name files now old new → (bytes : List ℕ) → Holds files name bytes
-    → Holds now name bytes
-still_held {name = name} before bytes holds =
-    subst (λ f. Holds f name bytes) (sym before.files) holds
+-- what a look showed after the reads, it showed of the file as it was before them
+pub still_shown : {feed : Fed} {name : List ℕ} {files now : Files} {old new : Counts}
+    {front given : List ℕ} {at left : ℕ} → HasRead feed name files now old new → front ≡ given
+    → ((bytes : List ℕ) → Holds now name bytes → Shows bytes at given left) → (bytes : List ℕ)
+    → Holds files name bytes → Shows bytes at front left
+still_shown {name = name} before same shows bytes holds =
+    shown_in same (shows bytes (subst (λ f. Holds f name bytes) (sym before.files) holds))
 
--- a refusal after calls that changed nothing is a refusal by all of them
-pub refusal_later : {name : List ℕ} {files mid : Files} {allowed : ℕ}
-    {before between after : Counts} {fault : SurveyFault} → mid ≡ files → between ≡ before
-    → IsSurveyRefusal name mid allowed between after fault
-    → IsSurveyRefusal name files allowed before after fault
-refusal_later {name = name} {mid = mid} {allowed = allowed} {before = before} {after =
-    after} {fault = fault} same_files same_counts is =
-    subst (λ f. IsSurveyRefusal name f allowed before after fault) same_files
-    (subst (λ n. IsSurveyRefusal name mid allowed n after fault) same_counts is)
+-- a frame that is whole in what is left at an offset is whole from any earlier offset on
+pub whole_from : {from at left size : ℕ} {p : PlacedFrame} → p.offset ≡ at
+    → size_of (Frame p.header) ≤ left → left ≡ size - at → at ≤ size → from ≤ at
+    → IsWholeFrom from size p
+whole_from offset within left few low = record {
+  behind = omega (arith, offset, low);
+  within = omega (arith, offset, within, left, few);
+}
 
 -- a refusal after reads that succeeded is a refusal by all calls together
 pub refusal_after : {feed : Fed} {name : List ℕ} {files mid : Files} {allowed : ℕ}
@@ -107,7 +117,28 @@ pub refusal_after : {feed : Fed} {name : List ℕ} {files mid : Files} {allowed 
     → HasRead feed name files mid before between
     → IsSurveyRefusal name mid allowed between after fault
     → IsSurveyRefusal name files allowed before after fault
-refusal_after read is = refusal_later read.files read.counts is
+refusal_after {name = name} {mid = mid} {allowed = allowed} {before = before} {after =
+    after} {fault = fault} read is =
+    subst (λ f. IsSurveyRefusal name f allowed before after fault) read.files
+    (subst (λ n. IsSurveyRefusal name mid allowed n after fault) read.counts is)
+
+-- a survey that a call ends after reads that succeeded is refused as the call is
+pub survey_ends : {feed : Fed} {name : List ℕ} {allowed : ℕ} {old mid new : Seen}
+    {fault : SurveyFault} (r : Result Survey SurveyFault) → IsErrAnd r (λ f. f ≡ fault)
+    → HasRead feed name old.files mid.files old.counts mid.counts → new.files ≡ mid.files
+    → OnlyReads mid.counts new.counts
+    → IsSurveyRefusal name mid.files allowed mid.counts new.counts fault
+    → FramesAnswer name allowed old new r
+survey_ends (Ok s) is read files counts refused = absurd is
+survey_ends {name = name} {allowed = allowed} {old = old} {new = new} (Err f) is read files counts
+    refused = record {
+      surveyed = tt;
+      done = tt;
+      refused = subst (IsSurveyRefusal name old.files allowed old.counts new.counts) (sym is)
+          (refusal_after read refused);
+      files = files ∙ read.files;
+      counts = subst (λ n. OnlyReads n new.counts) read.counts counts;
+    }
 
 -- if no count changed, only reads were counted
 pub only_reads_equal : {before after : Counts} → after ≡ before → OnlyReads before after

@@ -320,39 +320,23 @@ module _ (file : List ℕ) (at : ℕ) (front : List ℕ) (left : ℕ)
       subst (λ x. has_anchor file at x ≡ false) same (ap (λ b. b
       && is_anchor (class_of h) (item_at file (at + length_of (class_of h) h.slot))) over))
 
-  -- a whole frame with this item after it
-  anchor_by : (h : HeaderFields) (behind : Item) → length_of (class_of h) h.slot ≤ left
-      → length_of (class_of h) h.slot ≤ 4064
+  -- a whole frame with this item after it is anchored if the item is an anchor
+  pub shown_before : (h : HeaderFields) (behind : Item) → item_front front ≡ Frame h
+      → length_of (class_of h) h.slot ≤ left → length_of (class_of h) h.slot ≤ 4064
       → behind ≡ item_front (drop (length_of (class_of h) h.slot) front)
-      → has_anchor file at h ≡ is_anchor (class_of h) behind
-  anchor_by h behind within few is =
+      → anchored_frame file at ≡ cond (is_anchor (class_of h) behind)
+      (Some (record { offset = at; header = h })) None
+  unfolding anchored_frame
+  shown_before h behind is within few end =
       let size = length_of (class_of h) h.slot in
       let fit : item_fits file at (Frame h) ≡ true =
       sym (fits-left file at front left shows (Frame h)) ∙ le-leb size left within in
+      let anchor : has_anchor file at h ≡ is_anchor (class_of h) behind =
       ap (λ b. b && is_anchor (class_of h) (item_at file (at + size))) fit
-      ∙ ap (is_anchor (class_of h)) (sym (is ∙ item_at-behind file at front left shows size few))
-
-  -- a frame without an anchor after it isn't anchored
-  pub shown_apart : (h : HeaderFields) (behind : Item) → item_front front ≡ Frame h
-      → length_of (class_of h) h.slot ≤ left → length_of (class_of h) h.slot ≤ 4064
-      → behind ≡ item_front (drop (length_of (class_of h) h.slot) front)
-      → is_anchor (class_of h) behind ≡ false → anchored_frame file at ≡ None
-  shown_apart h behind is within few end apart =
-      none_by (Frame h) (sym (item_at-shown file at front left shows) ∙ is) (λ g e.
-      let same : h ≡ g = cc in
-      subst (λ x. has_anchor file at x ≡ false) same (anchor_by h behind within few end ∙ apart))
-
-  -- a frame with an anchor after it is anchored
-  pub shown_anchored : (h : HeaderFields) (behind : Item) → item_front front ≡ Frame h
-      → length_of (class_of h) h.slot ≤ left → length_of (class_of h) h.slot ≤ 4064
-      → behind ≡ item_front (drop (length_of (class_of h) h.slot) front)
-      → is_anchor (class_of h) behind ≡ true
-      → anchored_frame file at ≡ Some (record { offset = at; header = h })
-  unfolding anchored_frame
-  shown_anchored h behind is within few end there =
+      ∙ ap (is_anchor (class_of h)) (sym (end ∙ item_at-behind file at front left shows size few))
+      in
       ap (anchored_item file at) (sym (item_at-shown file at front left shows) ∙ is)
-      ∙ ap (λ b. cond b (Some (record { offset = at; header = h })) None)
-      (anchor_by h behind within few end ∙ there)
+      ∙ ap (λ b. cond b (Some (record { offset = at; header = h })) None) anchor
 
 -- ---- where the search ends
 

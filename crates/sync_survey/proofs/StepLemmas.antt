@@ -3,7 +3,10 @@ use Rattle.std.proofs.Common.{ap, append-nil, ap₂, arith, drop, Err, false, in
 use Rattle.std.proofs.Common.{length-append, List, min, None, Option, option_to_list, refl, Some}
 use Rattle.std.proofs.Common.{subst, sym, ℕ, [], ◌++◌, ◌+◌, ◌<◌, ◌==◌, ◌∙◌, ◌∷◌, ◌≡◌, ◌≤◌}
 use Rattle.std.proofs.lemmas.Bool.{cases_lt, eq-eqb, true≢false}
+use Rattle.frame_header.proofs.{ClassLemmas.some_of_class, HeaderLemmas.IsClass-class_of}
+use Rattle.frame_header.proofs.LengthLemmas.{length-most}
 use Rattle.frame_header.specs.Fields.{ClassFields, HeaderFields, IsHeader}
+use Rattle.frame_header.specs.Reading.{header_of_class}
 use Rattle.frame_header.specs.Tables.{area_of, class_of, length_of, overhead_of}
 use Rattle.outside.specs.{Counts.Counts, Files.{Files, Holds}}
 use Rattle.side_info.proofs.FrameLemmas.{side_in-take, word_said-take}
@@ -11,15 +14,17 @@ use Rattle.side_info.specs.{Frame.{side_in, stored_crc}, Side.SideFits}
 use Rattle.sync_survey.proofs.BytesFaultLemmas.{frame_rightly}
 use Rattle.sync_survey.proofs.FaultsLemmas.{marked-length, marked-push, none-of}
 use Rattle.sync_survey.proofs.FoldersLemmas.{bytes_refusal, memory_refusal}
-use Rattle.sync_survey.proofs.{FrontLemmas.blocks_more, ItemsLemmas.{header_front-in_range, stands}}
+use Rattle.sync_survey.proofs.FrontLemmas.{blocks_more}
+use Rattle.sync_survey.proofs.ItemsLemmas.{frame_of_header, header_front-in_range, some_by, stands}
 use Rattle.sync_survey.proofs.PlacedRowLemmas.{ArePlacedTo, placed_next, placed_same}
 use Rattle.sync_survey.proofs.ProgressLemmas.{first_fault, IsBegun, IsMarkedTo, IsSurveyedTo}
 use Rattle.sync_survey.proofs.ProgressLemmas.{passed_block, passed_frame, passed_zeros}
 use Rattle.sync_survey.proofs.{SurveyLemmas.overhead-within, SurveyPartsLemmas.faults-none_sound}
 use Rattle.sync_survey.specs.Faults.{class_from, faults_at, first_of, survey_fields}
-use Rattle.sync_survey.specs.Items.{IsItemFront, item_front, size_of}
+use Rattle.sync_survey.specs.Items.{header_front, IsItemFront, item_front, size_of}
 use Rattle.sync_survey.specs.Looks.{IsFrameFault, IsNotPassed, KeepsBlocks, KeepsFrame, KeepsItem}
-use Rattle.sync_survey.specs.Looks.{look_size, Passes, PassesFault, Shows, StopsThere}
+use Rattle.sync_survey.specs.Looks.{look_size, Passes, PassesFault, PassesFront, ReachArea, Shows}
+use Rattle.sync_survey.specs.Looks.{StopsThere}
 use Rattle.sync_survey.specs.MainData.{data_end_after, lacks_data, marked_row, marked_rows}
 use Rattle.sync_survey.specs.{MainData.{own_area, row_in, row_of}, Row.Row}
 use Rattle.sync_survey.specs.Runs.{block_of_item, blocks_of, frame_of_item, frames_of, item_run}
@@ -29,7 +34,7 @@ use Rattle.sync_survey.specs.declared.{found.SurveySoFar.SurveySoFar, items.Item
 use Rattle.sync_survey.specs.declared.items.Item.TheVariants.{Block, End, Frame, Free, Nothing}
 use Rattle.sync_survey.specs.declared.{items.Item.TheVariants.Zero, places.{Head.Head, Piece.Piece}}
 use Rattle.sync_survey.specs.declared.{places.Start.Start, runs.Region.TheVariants.Stream}
-use Rattle.sync_survey.specs.declared.survey_fault.SurveyFault.{SurveyFault}
+use Rattle.sync_survey.specs.declared.{runs.Step.Step, survey_fault.SurveyFault.SurveyFault}
 
 -- ---- a whole frame is shown up to its area
 
@@ -44,12 +49,44 @@ pub overhead_few : (front : List ℕ) (item : Item) (h : HeaderFields) → item 
     → item ≡ Frame h → overhead_of (class_of h) h.protected ≤ length_of (class_of h) h.slot
 overhead_few front item h is frame = overhead-within h (item_header front item is h frame)
 
--- a look at the file shows all that precedes the area
-pub shown_room : (front : List ℕ) (item : Item) (h : HeaderFields) (size left : ℕ) → item
-    ≡ item_front front → item ≡ Frame h → size_of item ≤ 1441 → size_of item ≤ size → size ≤ left
-    → length front ≡ min look_size left → overhead_of (class_of h) h.protected ≤ length front
-shown_room front item h size left is frame few least within many =
-    omega (arith, overhead_few front item h is frame, ap size_of frame, few, least, within, many)
+-- a header anywhere is the header of a frame with few bytes
+pub length_few : (front : List ℕ) (h : HeaderFields) → item_front front ≡ Frame h
+    → length_of (class_of h) h.slot ≤ 1441
+length_few front h is =
+    let known = item_header front (Frame h) (sym is) h refl in
+    length-most (class_of h) h.slot (IsClass-class_of h known) known.slot
+
+-- a look at a whole frame shows all that precedes the area
+pub room_shown : (front : List ℕ) (h : HeaderFields) (left : ℕ) → item_front front ≡ Frame h
+    → size_of (Frame h) ≤ left → length front ≡ min look_size left → ReachArea h front
+room_shown front h left is within many =
+    omega (arith, overhead_few front (Frame h) h (sym is) refl, length_few front h is, within, many)
+
+-- a look at a frame that is passed shows all that precedes the area
+pub room_passed : {front : List ℕ} {left : ℕ} {step : Step} → PassesFront front left step
+    → length front ≡ min look_size left → (h : HeaderFields) → step.item ≡ Frame h
+    → ReachArea h front
+room_passed {front} {left} passes many h frame =
+    room_shown front h left (sym passes.item ∙ frame)
+    (omega (arith, ap size_of frame, passes.least, passes.within)) many
+
+-- a frame of the class, if it is whole, is passed
+pub frame_passes : (class : ClassFields) (front : List ℕ) (h : HeaderFields) {size left : ℕ}
+    → header_of_class class (header_front front) ≡ Some h → size ≡ length_of class h.slot
+    → size ≤ left → PassesFront front left (record { item = Frame h; size = size })
+frame_passes class front h {size} is size_is within =
+    let read = some_of_class class (header_front front) h is in
+    let item : item_front front ≡ Frame h = frame_of_header front h read.0 in
+    let own : size ≡ size_of (Frame h) = size_is ∙ ap (λ d. length_of d h.slot) (sym read.1) in
+    record {
+      item = sym item;
+      zeros = λ e. cc;
+      own = λ _. own;
+      least = omega (arith, own);
+      most = λ g frame. omega (arith, length_few front h item);
+      some = omega (arith, own, some_by front Stream (Frame h) read.0 refl);
+      within = within;
+    }
 
 -- ---- the side information and the check word that a look shows
 

@@ -7,21 +7,10 @@ use Rattle.sync_survey.specs.Survey.{IsSurveyOf, IsSurveyRefusal, IsWholeSurvey}
 use Rattle.sync_survey.specs.SurveyFaultKinds.{HasRightNumbers}
 use Rattle.sync_survey.specs.declared.{survey_fault.SurveyFault.SurveyFault, surveys.Survey.Survey}
 
--- The frames of a file whose beginning is known were judged: the survey, or the first fault.
+-- A file was surveyed from some point on: the survey, or why there is none.
 pub record FramesAnswer (name : List ℕ) (allowed : ℕ) (old new : Seen)
     (result : Result Survey SurveyFault) : Type 0 where
   pub surveyed : IfOk result (λ s. IsWholeSurvey name old.files allowed (survey_view s))
-  pub done : OnOk result (new.counts ≡ old.counts)
-  pub refused : IfErr result (IsSurveyRefusal name old.files allowed old.counts new.counts)
-  pub files : new.files ≡ old.files
-  pub counts : OnlyReads old.counts new.counts
-
--- A file was surveyed: the survey, or why there is none.
-pub record FileAnswer (name : List ℕ) (allowed : ℕ) (old new : Seen)
-    (result : Result Survey SurveyFault) : Type 0 where
-  pub surveyed : IfOk result (λ s. IsWholeSurvey name old.files allowed (survey_view s))
-  pub there : OnOk result (IsFileThere old.files name)
-  pub octets : OnOk result (HoldsOctets name old.files)
   pub done : OnOk result (new.counts ≡ old.counts)
   pub refused : IfErr result (IsSurveyRefusal name old.files allowed old.counts new.counts)
   pub files : new.files ≡ old.files

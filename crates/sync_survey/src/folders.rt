@@ -9,7 +9,7 @@ ghost use Rattle.sync_survey.specs.Faults.{survey_view};
 ghost use Rattle.sync_survey.specs.SurveyFaultKinds.{HasRightNumbers, RefusesRightly};
 ghost use Rattle.sync_survey.specs.Survey.{HoldsOctets, IsSurveyOf, IsWholeSurvey, IsFirstFault, IsSurveyRefusal, IsSurveyFault, IsSurveyLaidOut};
 ghost use Rattle.sync_survey.specs.WalkBeginning.{IsWalk};
-ghost use Rattle.sync_survey.specs.Answers.{FramesAnswer, FileAnswer, SurveyAnswer};
+ghost use Rattle.sync_survey.specs.Answers.{FramesAnswer, SurveyAnswer};
 
 use crate::found::SurveySoFar;
 use crate::fronts::pass_front;
@@ -88,7 +88,9 @@ fn survey_file<D: Folder>(
     name: &str,
     allowed: u32,
 ) -> Result<Survey, SurveyFault>
-    ensures { FileAnswer name.now allowed (D.seen folder.old) (D.seen folder.new) result }
+    ensures there { OnOk result (IsFileThere (D.seen folder.old).files name.now) }
+    ensures octets { OnOk result (HoldsOctets name.now (D.seen folder.old).files) }
+    ensures frames { FramesAnswer name.now allowed (D.seen folder.old) (D.seen folder.new) result }
 {
     let size = find_length(folder, name)?;
     let mut feed = Feed::new(alloc)?;

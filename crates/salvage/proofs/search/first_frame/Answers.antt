@@ -1,10 +1,10 @@
 -- The frame where the front ends, or the next one.
-use Rattle.std.proofs.Common.{arith, IfSome, None, Option, Some, subst, sym, ℕ, ◌+◌}
+use Rattle.std.proofs.Common.{arith, IfSome, None, Option, Some, sym, ℕ, ◌+◌}
 use Rattle.std.proofs.lemmas.Result.{IfOk-weaker}
 use Rattle.outside.proofs.BufferOutputLemmas.{err_at}
 use Rattle.salvage.proofs.{ReadFaultLemmas.look_refusal, SearchLemmas.{first_behind, first_here}}
-use Rattle.sync_survey.{proofs.FoldersLemmas.none_read, specs.{Looks.Shows, Survey.IsWholeFrom}}
-use Rattle.sync_survey.specs.declared.places.PlacedFrame.{PlacedFrame}
+use Rattle.sync_survey.proofs.FoldersLemmas.{none_read, shown_in, whole_from}
+use Rattle.sync_survey.specs.{Survey.IsWholeFrom, declared.places.PlacedFrame.PlacedFrame}
 use Rattle.salvage.proofs.search.first_frame.Goals as goal
 
 -- a frame that is whole from the next offset on is whole from this one on
@@ -21,22 +21,14 @@ returns-in_err-left-clause-refused g c =
 
 pub returns-in-Some-clause-first : goal.returns-in-Some-clause-first
 returns-in-Some-clause-first g c = λ bytes holds.
-    let seen = subst (λ front. Shows bytes c.args.front_end front c.in_ok-left.left)
-    (sym c.bytes.ensures) (c.in_ok-left.ensures.shows bytes holds) in
+    let seen = shown_in c.bytes.ensures (c.in_ok-left.ensures.shows bytes holds) in
     sym
     (first_here bytes c.args.front_end c.in-Some.frame (sym (c.in-Some.ensures.frame bytes seen)))
 
 pub returns-in-Some-clause-placed : goal.returns-in-Some-clause-placed
-returns-in-Some-clause-placed g c = record {
-  behind = omega (arith, c.in-Some.ensures.offset);
-  within = omega (
-    arith,
-    c.in-Some.ensures.offset,
-    c.in-Some.ensures.within,
-    c.in_ok-left.ensures.left,
-    c.requires.within,
-  );
-}
+returns-in-Some-clause-placed g c =
+    whole_from c.in-Some.ensures.offset c.in-Some.ensures.within
+    c.in_ok-left.ensures.left c.requires.within (omega arith)
 
 pub returns-clause-placed : goal.returns-clause-placed
 returns-clause-placed g c =
@@ -52,6 +44,5 @@ returns-clause-first g c =
     c.look.new.folder).files c.args.front_end c.next_usable_frame.result
     c.in_ok-left.ensures.reads.files
     (λ bytes holds.
-    let seen = subst (λ front. Shows bytes c.args.front_end front c.in_ok-left.left)
-    (sym c.bytes.ensures) (c.in_ok-left.ensures.shows bytes holds) in
+    let seen = shown_in c.bytes.ensures (c.in_ok-left.ensures.shows bytes holds) in
     sym (c.in_default.ensures.frame bytes seen)) c.next_usable_frame.ensures.next

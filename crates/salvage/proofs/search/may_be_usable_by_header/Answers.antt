@@ -1,10 +1,9 @@
 -- There is no header, or the frame isn't usable or has no anchor.
-use Rattle.std.proofs.Common.{ap, arith, drop, length, length-drop, List, Ok, refl, Result, sym, ℕ}
-use Rattle.std.proofs.Common.{◌+◌, ◌∙◌, ◌≡◌}
+use Rattle.std.proofs.Common.{ap, arith, drop, inl, inr, length, length-drop, List, Ok, refl}
+use Rattle.std.proofs.Common.{Result, sym, ℕ, ◌+◌, ◌∙◌, ◌≡◌}
 use Rattle.frame_header.specs.{Fields.HeaderFields, Tables.class_of}
 use Rattle.frame_header.specs.declared.header.NotHeader.{NotHeader}
-use Rattle.salvage.proofs.SearchLemmas.{bare_unanchored, bare_unusable, header_of}
-use Rattle.salvage.specs.UsableFrames.{is_usable}
+use Rattle.salvage.{proofs.SearchLemmas.{bare_here, header_of}, specs.UsableFrames.is_usable}
 use Rattle.sync_survey.proofs.{ItemsLemmas.frame_of_header, StepLemmas.overhead_few}
 use Rattle.sync_survey.specs.{Items.{header_front, item_front}, Start.is_anchor}
 use Rattle.sync_survey.specs.declared.items.Item.TheVariants.{Frame}
@@ -41,27 +40,27 @@ admits-requires c =
 
 pub returns-then-not-admits : goal.returns-then-not-admits
 returns-then-not-admits c = λ _.
-    bare_unusable c.args.role.now c.args.offset c.args.front.now c.args.place c.in-Ok.header
+    bare_here c.args.role.now c.args.offset c.args.front.now c.args.place c.in-Ok.header
     (header_there c.args.front.now _ c.args.place _ _
     c.bytes_from-bytes.ensures c.header_front.ensures c.in-Ok.is)
     (omega (arith, c.if-end-gt-REACH.false, c.length.ensures.length))
-    (ap (is_usable c.args.role.now (record {
+    (inr (ap (is_usable c.args.role.now (record {
       offset = c.args.offset + c.args.place;
       header = c.in-Ok.header;
     })) (sym c.bytes_from-bytes.ensures)
     ∙ sym c.admits.ensures
-    ∙ c.if-not-admits.true)
+    ∙ c.if-not-admits.true))
 
 pub returns : goal.returns
 returns c = λ none.
     let h = c.in-Ok.header in
     let place = c.args.place in
     let front = c.args.front.now in
-    bare_unanchored c.args.role.now c.args.offset front place h
+    bare_here c.args.role.now c.args.offset front place h
     (header_there front _ place h _ c.bytes_from-bytes.ensures c.header_front.ensures c.in-Ok.is)
     (omega (arith, c.if-end-gt-REACH.false, c.length.ensures.length))
-    (ap (λ l. is_anchor (class_of h) (item_front l))
+    (inl (ap (λ l. is_anchor (class_of h) (item_front l))
     (sym (c.bytes_from.ensures ∙ ap (λ n. drop (place + n) front) c.length.ensures.length))
     ∙ ap (λ k. is_anchor k (item_front c.bytes_from.result.now)) (sym c.class.ensures)
     ∙ sym (c.is_anchor.ensures ∙ ap (is_anchor c.class.result) c.item_front.ensures)
-    ∙ none)
+    ∙ none))

@@ -1,9 +1,9 @@
 -- The offsets at which no header may begin are passed.
-use Rattle.std.proofs.Common.{arith, subst, sym, ◌+◌}
+use Rattle.std.proofs.Common.{arith, sym, ◌+◌}
 use Rattle.outside.proofs.BufferOutputLemmas.{err_at}
 use Rattle.salvage.proofs.ReadFaultLemmas.{look_refusal}
 use Rattle.salvage.proofs.SearchLemmas.{next_usable-none, next_usable-some, none_later, passed_bare}
-use Rattle.sync_survey.{proofs.FoldersLemmas.{read_more, still_held}, specs.Looks.Shows}
+use Rattle.sync_survey.proofs.FoldersLemmas.{read_more, still_shown, whole_from}
 use Rattle.salvage.proofs.search.next_usable_frame.Goals as goal
 
 pub returns-in_err-left-clause-refused : goal.returns-in_err-left-clause-refused
@@ -13,34 +13,24 @@ returns-in_err-left-clause-refused g c =
 
 pub returns-in-Some-clause-next : goal.returns-in-Some-clause-next
 returns-in-Some-clause-next g c = λ bytes holds.
-    let shows =
-    c.in_ok-left.ensures.shows bytes (still_held c.loop-at.invariant.read bytes holds) in
     sym (next_usable-some bytes c.args.role c.args.from c.loop-at.at c.in-Some.frame
     c.loop-at.invariant.low (omega (arith, c.loop-at-test.true, c.requires.known.long bytes holds))
-    (sym (c.in-Some.ensures.frame bytes (subst (λ front. Shows bytes c.loop-at.at front
-    c.in_ok-left.left) (sym c.bytes.ensures) shows))) (c.loop-at.invariant.none bytes holds))
+    (sym (c.in-Some.ensures.frame bytes (still_shown
+    c.loop-at.invariant.read c.bytes.ensures c.in_ok-left.ensures.shows bytes holds)))
+    (c.loop-at.invariant.none bytes holds))
 
 pub returns-in-Some-clause-placed : goal.returns-in-Some-clause-placed
-returns-in-Some-clause-placed g c = record {
-  behind = omega (arith, c.in-Some.ensures.offset, c.loop-at.invariant.low);
-  within = omega (
-    arith,
-    c.in-Some.ensures.offset,
-    c.in-Some.ensures.within,
-    c.in_ok-left.ensures.left,
-    c.loop-at-test.true,
-  );
-}
+returns-in-Some-clause-placed g c =
+    whole_from c.in-Some.ensures.offset c.in-Some.ensures.within c.in_ok-left.ensures.left
+    (omega (arith, c.loop-at-test.true)) c.loop-at.invariant.low
 
 pub loop-at-preserved : goal.loop-at-preserved
 loop-at-preserved g c = record {
   none = λ bytes holds earlier low high.
-      let shows =
-      c.in_ok-left.ensures.shows bytes (still_held c.loop-at.invariant.read bytes holds) in
-      let seen = subst (λ front. Shows bytes c.loop-at.at front c.in_ok-left.left)
-      (sym c.bytes.ensures) shows in
-      let again = subst (λ front. Shows bytes c.loop-at.at front c.in_ok-left.left)
-      (sym c.bytes-in-loop-at.ensures) shows in
+      let read = c.loop-at.invariant.read in
+      let shows = c.in_ok-left.ensures.shows in
+      let seen = still_shown read c.bytes.ensures shows bytes holds in
+      let again = still_shown read c.bytes-in-loop-at.ensures shows bytes holds in
       none_later bytes
       c.args.role c.args.from c.loop-at.at (c.loop-at.at + c.distance_to_candidate-at.result)
       earlier (c.loop-at.invariant.none bytes holds)

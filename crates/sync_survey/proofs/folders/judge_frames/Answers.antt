@@ -3,10 +3,10 @@ use Rattle.std.proofs.Common.{ap, ap₂, arith, Err, IfSome, length, List, None,
 use Rattle.std.proofs.Common.{rules, Some, subst, sym, vec_len, ℕ, [], ◌+◌, ◌<◌, ◌∙◌, ◌∷◌, ◌≡◌, ◌≤◌}
 use Rattle.std.proofs.lemmas.Bool.{eq-eqb, eqb-true, true≢false}
 use Rattle.frame_header.specs.Tables.{class_of}
-use Rattle.outside.{proofs.BufferOutputLemmas.err_at, specs.{Counts.OnlyReads, Files.Holds}}
+use Rattle.outside.{proofs.BufferOutputLemmas.err_at, specs.Files.Holds}
 use Rattle.sync_survey.proofs.FaultsLemmas.{marked-length, marked-none}
 use Rattle.sync_survey.proofs.FoldersLemmas.{bytes_refusal, none_read, only_reads_equal, read_more}
-use Rattle.sync_survey.proofs.FoldersLemmas.{refusal_after, still_held, survey_of-short}
+use Rattle.sync_survey.proofs.FoldersLemmas.{still_shown, survey_ends, survey_of-short}
 use Rattle.sync_survey.proofs.{FrontLemmas.pieces_later, LooksLemmas.item_at-shown}
 use Rattle.sync_survey.proofs.PlacedRowLemmas.{ArePlacedTo, placed_none}
 use Rattle.sync_survey.proofs.ProgressLemmas.{IsBegun, IsSurveyedTo, no_frame, stopped_fault}
@@ -17,7 +17,8 @@ use Rattle.sync_survey.{proofs.folders.judge_frames.Goals.After-bytes, specs.Fau
 use Rattle.sync_survey.specs.{Items.{item_front, size_of}, Looks.{IsNotPassed, PassesItem, Shows}}
 use Rattle.sync_survey.specs.{MainData.marked_rows, Row.Row}
 use Rattle.sync_survey.specs.Survey.{FramesAreLaid, HasLength, IsWholeHead}
-use Rattle.sync_survey.specs.{Walk.{fault_at, IsFrameOf}, declared.items.Item.TheVariants.Frame}
+use Rattle.sync_survey.specs.{Walk.{fault_at, IsFrameOf}, WalkBeginning.BeginsAsWalked}
+use Rattle.sync_survey.specs.declared.{folders.Walk.Walk, items.Item.TheVariants.Frame}
 use Rattle.sync_survey.specs.declared.places.{Head.Head, Start.Start}
 use Rattle.sync_survey.specs.declared.survey_fault.SurveyFault.TheVariants.{NoFrame}
 use Rattle.sync_survey.proofs.folders.judge_frames.Given as given
@@ -35,6 +36,11 @@ frames_count : (head : Option Head) (rows frames : List Row) → rows ≡ marked
     → length rows ≡ length frames
 frames_count head rows frames marks = ap length marks ∙ marked-length head frames
 
+-- the stream begins as the walk says
+begun_as : {file : List ℕ} {walk : Walk} → BeginsAsWalked file walk
+    → IsBegun file walk.start walk.head
+begun_as told = record { start_is = told.start; head_is = told.head }
+
 pub loop-at-init : goal.loop-at-init
 loop-at-init g c = record {
   surveyed = λ bytes holds. record {
@@ -43,10 +49,8 @@ loop-at-init g c = record {
     surveyed =
         subst (IsSurveyedTo bytes c.args.walk.start c.args.walk.head c.args.allowed []
         c.args.walk.pieces.items c.head_area.result 0) (sym c.numbered_from-at.ensures.at)
-        (surveyed_none bytes c.args.walk.start c.args.walk.head c.args.allowed (record {
-          start_is = (c.requires.walk.told bytes holds).start;
-          head_is = (c.requires.walk.told bytes holds).head;
-        }) c.args.walk.pieces.items c.head_area.result
+        (surveyed_none bytes c.args.walk.start c.args.walk.head c.args.allowed
+        (begun_as (c.requires.walk.told bytes holds)) c.args.walk.pieces.items c.head_area.result
         (c.requires.walk.told bytes holds).kept c.head_area.ensures.area);
   };
   laid = record {
@@ -73,23 +77,17 @@ look-requires-clause-known g c = subst (λ f. HasLength f c.args.name.now c.args
     (sym c.loop-at.invariant.read.files) c.requires.walk.known
 
 pub returns-in_err-left : goal.returns-in_err-left
-returns-in_err-left g c = record {
-  surveyed = search rules;
-  done = search rules;
-  refused = err_at _ _ c.from_residual.ensures.1
-      (refusal_after c.loop-at.invariant.read (c.in_err-left.ensures.refused c.args.allowed));
-  files = c.in_err-left.ensures.reads.files ∙ c.loop-at.invariant.read.files;
-  counts = subst (λ n. OnlyReads n (g.D.Folder.seen c.look.new.folder).counts)
-      c.loop-at.invariant.read.counts c.in_err-left.ensures.reads.counts;
-}
+returns-in_err-left g c =
+    survey_ends c.from_residual.result c.from_residual.ensures.1 c.loop-at.invariant.read
+    c.in_err-left.ensures.reads.files c.in_err-left.ensures.reads.counts
+    (c.in_err-left.ensures.refused c.args.allowed)
 
 -- what the look shows
 shown : (g : given.Over) (c : After-bytes g) (file : List ℕ)
     → Holds (g.D.Folder.seen c.args.folder.now).files c.args.name.now file
     → Shows file c.loop-at.at c.bytes.result.now c.in_ok-left.left
 shown g c file holds =
-    subst (λ front. Shows file c.loop-at.at front c.in_ok-left.left) (sym c.bytes.ensures)
-    (c.in_ok-left.ensures.shows file (still_held c.loop-at.invariant.read file holds))
+    still_shown c.loop-at.invariant.read c.bytes.ensures c.in_ok-left.ensures.shows file holds
 
 pub pass-requires-clause-many : goal.pass-requires-clause-many
 pass-requires-clause-many g c = ap length c.bytes.ensures ∙ c.in_ok-left.ensures.many
@@ -107,10 +105,7 @@ returns-in_err-at g c = record {
       let seen = shown g (goal.at.returns-in_err-at g c).After-bytes in
       let begun : (file : List ℕ) → Holds (g.D.Folder.seen c.args.folder.now).files c.args.name.now
       file → IsBegun file start c.args.walk.head =
-      λ file holds. record {
-        start_is = (c.requires.walk.told file holds).start;
-        head_is = (c.requires.walk.told file holds).head;
-      } in
+      λ file holds. begun_as (c.requires.walk.told file holds) in
       err_at _ _ c.from_residual-in_err-at.ensures.1
       (pass_refusal c.args.name.now (g.D.Folder.seen c.args.folder.now).files c.args.allowed
       (g.D.Folder.seen c.args.folder.now).counts (g.D.Folder.seen c.look.new.folder).counts
@@ -175,10 +170,7 @@ returns-then-is_empty g c = record {
       let so_far = c.loop-at.invariant.surveyed bytes holds in
       no_frame bytes c.args.walk.start c.args.walk.head c.args.allowed so_far.frames
       now.pieces.items now.before.place now.before.ended c.loop-at.at so_far.surveyed
-      (record {
-        start_is = (c.requires.walk.told bytes holds).start;
-        head_is = (c.requires.walk.told bytes holds).head;
-      }) (omega (arith, c.loop-at-test.false, is_size))
+      (begun_as (c.requires.walk.told bytes holds)) (omega (arith, c.loop-at-test.false, is_size))
       (nothing_in so_far.frames (omega (
         arith,
         eqb-true (vec_len now.rows) 0 (sym c.is_empty.ensures ∙ c.if-is_empty.true),
@@ -212,10 +204,8 @@ returns g c = record {
             (omega (arith, c.requires.walk.known.few, c.requires.walk.known.long bytes holds))
             ∙ whole bytes c.args.walk.start c.args.walk.head c.args.allowed so_far.frames
             now.pieces.items now.before.place now.before.ended c.loop-at.at so_far.surveyed
-            (record {
-              start_is = (c.requires.walk.told bytes holds).start;
-              head_is = (c.requires.walk.told bytes holds).head;
-            }) (omega (arith, c.loop-at-test.false, c.requires.walk.known.long bytes holds))
+            (begun_as (c.requires.walk.told bytes holds))
+            (omega (arith, c.loop-at-test.false, c.requires.walk.known.long bytes holds))
             (λ none. true≢false (sym (eq-eqb (vec_len now.rows) 0 (omega (
               arith,
               ap length none,

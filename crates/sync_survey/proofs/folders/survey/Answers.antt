@@ -11,15 +11,15 @@ returns g c = record {
       IfOk-weaker c.survey_file.result
       (λ s. IsWholeSurvey name files c.args.allowed (survey_view s))
       (λ s. IsSurveyOf name files c.args.allowed (survey_view s))
-      (λ s is. is.exact) c.survey_file.ensures.surveyed;
+      (λ s is. is.exact) c.survey_file.ensures.frames.surveyed;
   laid = IfOk-weaker c.survey_file.result (λ s. IsWholeSurvey c.args.name.now
       (g.D.Folder.seen c.args.folder.now).files c.args.allowed (survey_view s))
       (λ s. IsSurveyLaidOut (survey_view s))
-      (λ s is. is.laid) c.survey_file.ensures.surveyed;
+      (λ s is. is.laid) c.survey_file.ensures.frames.surveyed;
   few = IfOk-weaker c.survey_file.result (λ s. IsWholeSurvey c.args.name.now
       (g.D.Folder.seen c.args.folder.now).files c.args.allowed (survey_view s)) (λ s.
       length (survey_view s).frames
-      ≤ c.args.allowed) (λ s is. is.few) c.survey_file.ensures.surveyed;
+      ≤ c.args.allowed) (λ s is. is.few) c.survey_file.ensures.frames.surveyed;
   there = search rules;
   octets = search rules;
   done = search rules;
@@ -27,7 +27,7 @@ returns g c = record {
   numbers = search rules;
   first = refused_first c.args.name.now (g.D.Folder.seen c.args.folder.now).files c.args.allowed
       (g.D.Folder.seen c.args.folder.now).counts (g.D.Folder.seen c.survey_file.new.folder).counts
-      c.survey_file.result c.survey_file.ensures.refused;
+      c.survey_file.result c.survey_file.ensures.frames.refused;
   files = search rules;
   counts = search rules;
 }

@@ -1,84 +1,68 @@
 -- The survey refuses what a step refuses, since the steps before left the files and all counts.
 use Rattle.std.proofs.Common.{arith, rules, subst, sym, ◌∙◌, ◌≡◌}
 use Rattle.outside.{proofs.BufferOutputLemmas.err_at, specs.{Counts.OnlyReads, Files.Holds}}
-use Rattle.sync_survey.{proofs.FoldersLemmas.refusal_later, specs.Survey.{BlocksAreLaid, HasLength}}
+use Rattle.sync_survey.proofs.FoldersLemmas.{HasRead, read_more, survey_ends}
+use Rattle.sync_survey.proofs.folders.survey_file.Goals.{In_ok-feed}
+use Rattle.sync_survey.specs.Survey.{BlocksAreLaid, HasLength}
+use Rattle.sync_survey.proofs.folders.survey_file.Given as given
 use Rattle.sync_survey.proofs.folders.survey_file.Goals as goal
 
-pub returns-in_err-size : goal.returns-in_err-size
-returns-in_err-size g c = record {
+pub returns-in_err-size-clause-frames : goal.returns-in_err-size-clause-frames
+returns-in_err-size-clause-frames g c = record {
   surveyed = search rules;
-  there = search rules;
-  octets = search rules;
   done = search rules;
   refused = err_at _ _ c.from_residual.ensures.1 (c.in_err-size.ensures.refused c.args.allowed);
   files = search rules;
   counts = search rules;
 }
 
-pub returns-in_err-front_end : goal.returns-in_err-front_end
-returns-in_err-front_end g c = record {
-  surveyed = search rules;
-  there = search rules;
-  octets = search rules;
-  done = search rules;
-  refused = err_at _ _
-      c.from_residual-in_err-front_end.ensures.1 (refusal_later c.in_ok-size.ensures.files
-      c.in_ok-size.ensures.done (c.in_err-front_end.ensures.refused c.args.allowed));
-  files = c.in_err-front_end.ensures.reads.files ∙ c.in_ok-size.ensures.files;
-  counts = subst (λ n. OnlyReads n (g.D.Folder.seen c.pass_front.new.folder).counts)
-      c.in_ok-size.ensures.done c.in_err-front_end.ensures.reads.counts;
+-- what was read once the length was found
+found : (g : given.Over) (c : In_ok-feed g) → HasRead c.in_ok-feed.feed c.args.name.now
+    (g.D.Folder.seen c.args.folder.now).files (g.D.Folder.seen c.find_length.new.folder).files
+    (g.D.Folder.seen c.args.folder.now).counts (g.D.Folder.seen c.find_length.new.folder).counts
+found g c = record {
+  fed = c.in_ok-feed.ensures.fed _ _;
+  files = c.in_ok-size.ensures.files;
+  counts = c.in_ok-size.ensures.done;
 }
 
-pub returns-in_err-start : goal.returns-in_err-start
-returns-in_err-start g c = record {
-  surveyed = search rules;
-  there = search rules;
-  octets = search rules;
-  done = search rules;
-  refused = err_at _ _ c.from_residual-in_err-start.ensures.1
-      (refusal_later (c.in_ok-front_end.ensures.reads.files ∙ c.in_ok-size.ensures.files)
-      (c.in_ok-front_end.ensures.reads.done ∙ c.in_ok-size.ensures.done)
-      (c.in_err-start.ensures.refused c.args.allowed));
-  files = c.in_err-start.ensures.reads.files ∙ c.in_ok-front_end.ensures.reads.files
-      ∙ c.in_ok-size.ensures.files;
-  counts = subst (λ n. OnlyReads n (g.D.Folder.seen c.find_start.new.folder).counts)
-      (c.in_ok-front_end.ensures.reads.done ∙ c.in_ok-size.ensures.done)
-      c.in_err-start.ensures.reads.counts;
-}
+pub returns-in_err-front_end-clause-frames : goal.returns-in_err-front_end-clause-frames
+returns-in_err-front_end-clause-frames g c =
+    let at = (goal.at.returns-in_err-front_end-clause-frames g c).In_ok-feed in
+    survey_ends c.from_residual-in_err-front_end.result c.from_residual-in_err-front_end.ensures.1
+    (found g at)
+    c.in_err-front_end.ensures.reads.files c.in_err-front_end.ensures.reads.counts
+    (c.in_err-front_end.ensures.refused c.args.allowed)
 
-pub returns-in_err-head : goal.returns-in_err-head
-returns-in_err-head g c = record {
-  surveyed = search rules;
-  there = search rules;
-  octets = search rules;
-  done = search rules;
-  refused = err_at _ _ c.from_residual-in_err-head.ensures.1
-      (refusal_later (c.in_ok-start.ensures.reads.files ∙ c.in_ok-front_end.ensures.reads.files
-      ∙ c.in_ok-size.ensures.files)
-      (c.in_ok-start.ensures.reads.done ∙ c.in_ok-front_end.ensures.reads.done
-      ∙ c.in_ok-size.ensures.done) (c.in_err-head.ensures.refused c.args.allowed));
-  files = c.in_err-head.ensures.reads.files ∙ c.in_ok-start.ensures.reads.files
-      ∙ c.in_ok-front_end.ensures.reads.files ∙ c.in_ok-size.ensures.files;
-  counts = subst (λ n. OnlyReads n (g.D.Folder.seen c.find_head.new.folder).counts)
-      (c.in_ok-start.ensures.reads.done ∙ c.in_ok-front_end.ensures.reads.done
-      ∙ c.in_ok-size.ensures.done) c.in_err-head.ensures.reads.counts;
-}
+pub returns-in_err-start-clause-frames : goal.returns-in_err-start-clause-frames
+returns-in_err-start-clause-frames g c =
+    let at = (goal.at.returns-in_err-start-clause-frames g c).In_ok-feed in
+    survey_ends c.from_residual-in_err-start.result c.from_residual-in_err-start.ensures.1
+    (read_more (found g at) c.in_ok-front_end.ensures.reads)
+    c.in_err-start.ensures.reads.files c.in_err-start.ensures.reads.counts
+    (c.in_err-start.ensures.refused c.args.allowed)
 
-pub returns : goal.returns
-returns g c = record {
-  surveyed = search rules;
-  there = search rules;
-  octets = search rules;
-  done = search rules;
-  refused = search rules;
-  files = c.judge_frames.ensures.files ∙ c.in_ok-head.ensures.reads.files
-      ∙ c.in_ok-start.ensures.reads.files ∙ c.in_ok-front_end.ensures.reads.files
-      ∙ c.in_ok-size.ensures.files;
-  counts = subst (λ n. OnlyReads n (g.D.Folder.seen c.judge_frames.new.folder).counts)
-      (c.in_ok-head.ensures.reads.done ∙ c.in_ok-start.ensures.reads.done
-      ∙ c.in_ok-front_end.ensures.reads.done ∙ c.in_ok-size.ensures.done)
-      c.judge_frames.ensures.counts;
-}
+pub returns-in_err-head-clause-frames : goal.returns-in_err-head-clause-frames
+returns-in_err-head-clause-frames g c =
+    let at = (goal.at.returns-in_err-head-clause-frames g c).In_ok-feed in
+    survey_ends c.from_residual-in_err-head.result c.from_residual-in_err-head.ensures.1
+    (read_more (read_more (found g at) c.in_ok-front_end.ensures.reads) c.in_ok-start.ensures.reads)
+    c.in_err-head.ensures.reads.files c.in_err-head.ensures.reads.counts
+    (c.in_err-head.ensures.refused c.args.allowed)
+
+pub returns-clause-frames : goal.returns-clause-frames
+returns-clause-frames g c =
+    let at = (goal.at.returns-clause-frames g c).In_ok-feed in
+    let read = read_more (read_more (read_more (found g at) c.in_ok-front_end.ensures.reads)
+    c.in_ok-start.ensures.reads) c.in_ok-head.ensures.reads in
+    record {
+      surveyed = search rules;
+      done = search rules;
+      refused = search rules;
+      files = c.judge_frames.ensures.files ∙ read.files;
+      counts = subst (λ n. OnlyReads n (g.D.Folder.seen c.judge_frames.new.folder).counts)
+          read.counts c.judge_frames.ensures.counts;
+    }
 
 -- the frames are judged by what was found before them
 pub judge_frames-requires-clause-walk : goal.judge_frames-requires-clause-walk

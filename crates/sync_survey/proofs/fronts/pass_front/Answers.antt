@@ -1,9 +1,9 @@
 -- One more item, or none.
-use Rattle.std.proofs.Common.{arith, subst, sym}
+use Rattle.std.proofs.Common.{arith}
 use Rattle.outside.proofs.BufferOutputLemmas.{err_at}
-use Rattle.sync_survey.proofs.FoldersLemmas.{none_read, read_more, refusal_after, still_held}
+use Rattle.sync_survey.proofs.FoldersLemmas.{none_read, read_more, refusal_after, still_shown}
 use Rattle.sync_survey.proofs.FrontLemmas.{blocks_more, blocks_none, passed_all, passed_end}
-use Rattle.sync_survey.{proofs.FrontLemmas.{passed_more, passed_none}, specs.Looks.Shows}
+use Rattle.sync_survey.proofs.FrontLemmas.{passed_more, passed_none}
 use Rattle.sync_survey.proofs.fronts.pass_front.Goals as goal
 
 pub loop-at-init : goal.loop-at-init
@@ -21,29 +21,23 @@ returns-in_err-left-clause-refused g c =
 
 pub returns-in_default-clause-front_end : goal.returns-in_default-clause-front_end
 returns-in_default-clause-front_end g c = λ bytes holds.
-    let shows =
-    c.in_ok-left.ensures.shows bytes (still_held c.loop-at.invariant.read bytes holds) in
     (passed_all bytes c.loop-at.pieces.items c.loop-at.at (c.loop-at.invariant.passed bytes holds)
-    (c.in_default.ensures.step bytes c.loop-at.at (subst
-    (λ front. Shows bytes c.loop-at.at front c.in_ok-left.left) (sym c.bytes.ensures) shows))).end
+    (c.in_default.ensures.step bytes c.loop-at.at (still_shown
+    c.loop-at.invariant.read c.bytes.ensures c.in_ok-left.ensures.shows bytes holds))).end
 
 pub returns-in_default-clause-blocks : goal.returns-in_default-clause-blocks
 returns-in_default-clause-blocks g c = λ bytes holds.
-    let shows =
-    c.in_ok-left.ensures.shows bytes (still_held c.loop-at.invariant.read bytes holds) in
     (passed_all bytes c.loop-at.pieces.items c.loop-at.at (c.loop-at.invariant.passed bytes holds)
-    (c.in_default.ensures.step bytes c.loop-at.at (subst (λ front. Shows bytes c.loop-at.at front
-    c.in_ok-left.left) (sym c.bytes.ensures) shows))).pieces
+    (c.in_default.ensures.step bytes c.loop-at.at (still_shown
+    c.loop-at.invariant.read c.bytes.ensures c.in_ok-left.ensures.shows bytes holds))).pieces
 
 pub loop-at-preserved : goal.loop-at-preserved
 loop-at-preserved g c = record {
   passed = λ bytes holds.
-      let shows =
-      c.in_ok-left.ensures.shows bytes (still_held c.loop-at.invariant.read bytes holds) in
       passed_more bytes c.loop-at.pieces.items c.keep_block.new.pieces.items c.loop-at.at
       c.in-Some.step.size c.in-Some.step.item (c.loop-at.invariant.passed bytes holds)
-      (c.in-Some.ensures.step bytes c.loop-at.at (subst (λ front. Shows bytes c.loop-at.at front
-      c.in_ok-left.left) (sym c.bytes.ensures) shows)) c.in_ok-keep_block.ensures;
+      (c.in-Some.ensures.step bytes c.loop-at.at (still_shown c.loop-at.invariant.read
+      c.bytes.ensures c.in_ok-left.ensures.shows bytes holds)) c.in_ok-keep_block.ensures;
   laid = blocks_more c.loop-at.pieces.items c.keep_block.new.pieces.items c.loop-at.at
       c.in-Some.step.size c.in-Some.step.item c.loop-at.invariant.laid
       c.in-Some.ensures.passes.least c.in_ok-keep_block.ensures;

@@ -1,7 +1,7 @@
 -- The anchored frame, if it is usable.
-use Rattle.std.proofs.Common.{sym, ◌∙◌}
-use Rattle.salvage.proofs.SearchLemmas.{header_of}
-use Rattle.salvage.proofs.UsableLemmas.{frame_anchored, frame_refused, none_anchored, room_shown}
+use Rattle.std.proofs.Common.{false, sym, true, ◌∙◌}
+use Rattle.salvage.proofs.{SearchLemmas.header_of, UsableLemmas.{frame_judged, none_anchored}}
+use Rattle.sync_survey.proofs.StepLemmas.{room_shown}
 use Rattle.salvage.proofs.usable.Role.anchored.Goals as goal
 
 pub returns-in_default-clause-frame : goal.returns-in_default-clause-frame
@@ -18,12 +18,12 @@ admits-requires c = record {
 
 pub returns-then-admits-clause-frame : goal.returns-then-admits-clause-frame
 returns-then-admits-clause-frame c = λ file shows.
-    frame_anchored file c.args.at c.args.front.now c.args.left shows c.args.self.now c.in-Some.frame
+    frame_judged file c.args.at c.args.front.now c.args.left shows c.args.self.now c.in-Some.frame
     (c.in-Some.ensures.frame file shows) c.in-Some.ensures.offset c.in-Some.ensures.header
-    (sym c.admits.ensures ∙ c.if-admits.true)
+    true (sym c.admits.ensures ∙ c.if-admits.true)
 
 pub returns-else-admits-clause-frame : goal.returns-else-admits-clause-frame
 returns-else-admits-clause-frame c = λ file shows.
-    frame_refused file c.args.at c.args.front.now c.args.left shows c.args.self.now c.in-Some.frame
+    frame_judged file c.args.at c.args.front.now c.args.left shows c.args.self.now c.in-Some.frame
     (c.in-Some.ensures.frame file shows) c.in-Some.ensures.offset c.in-Some.ensures.header
-    (sym c.admits.ensures ∙ c.if-admits.false)
+    false (sym c.admits.ensures ∙ c.if-admits.false)
