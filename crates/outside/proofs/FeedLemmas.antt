@@ -6,22 +6,23 @@ use Rattle.std.proofs.lemmas.List.{drop-take, length-take-le, take-take, take_al
 use Rattle.std.specs.List.{copy_within}
 use Rattle.outside.specs.{Feed.{AreFeedBounds, Fed, IsFedFrom}, Files.Files}
 
--- a part of a prefix is that part of the whole
-pub part_of_front : {X : Type 0} (before n held : ℕ) (xs : List X) → before + n ≤ held
-    → take n (drop before (take held xs)) ≡ take n (drop before xs)
-part_of_front before n held xs within =
-    let e : before + (held - before) ≡ held = omega arith in
-    ap (λ k. take n (drop before (take k xs))) (sym e)
-    ∙ ap (take n) (drop-take before (held - before) xs)
-    ∙ take-take n (held - before) (drop before xs) (omega arith)
+module _ {X : Type 0} (before n held : ℕ) where
+  -- a part of a prefix is that part of the whole
+  pub part_of_front : (xs : List X) → before + n ≤ held
+      → take n (drop before (take held xs)) ≡ take n (drop before xs)
+  part_of_front xs within =
+      let e : before + (held - before) ≡ held = omega arith in
+      ap (λ k. take n (drop before (take k xs))) (sym e)
+      ∙ ap (take n) (drop-take before (held - before) xs)
+      ∙ take-take n (held - before) (drop before xs) (omega arith)
 
--- two lists with the same prefix have the same parts of it
-pub parts_same : {X : Type 0} (before n held : ℕ) (xs ys : List X) → before + n ≤ held
-    → take held xs ≡ take held ys → take n (drop before xs) ≡ take n (drop before ys)
-parts_same before n held xs ys within same =
-    sym (part_of_front before n held xs within)
-    ∙ ap (λ front. take n (drop before front)) same
-    ∙ part_of_front before n held ys within
+  -- two lists with the same prefix have the same parts of it
+  pub parts_same : (xs ys : List X) → before + n ≤ held
+      → take held xs ≡ take held ys → take n (drop before xs) ≡ take n (drop before ys)
+  parts_same xs ys within same =
+      sym (part_of_front xs within)
+      ∙ ap (λ front. take n (drop before front)) same
+      ∙ part_of_front ys within
 
 -- what is given is the part of the file that was asked for, as far as there is one
 pub given_is : (n k : ℕ) (room rest : List ℕ) → take k room ≡ take k rest
