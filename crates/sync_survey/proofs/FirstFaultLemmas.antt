@@ -118,15 +118,6 @@ AreOfEach each = (i : ℕ) (r : Row) → AreAt r.offset (each i r)
 abbrev in_turn : (ℕ → Row → List SurveyFault) → ℕ → List Row → List SurveyFault
 in_turn each n rows = flat_map (λ (p : ℕ × Row). each p.0 p.1) (enumerate_from n rows)
 
-rising_none : (each : ℕ → Row → List SurveyFault) (own : AreOfEach each) (at to n : ℕ)
-    (rows : List Row) → AreRising at rows to → NoneBefore at (in_turn each n rows)
-rising_none each own at to n [] rise = tt
-rising_none each own at to n (r ∷ rows) rise =
-    none-append at (each n r) (in_turn each (n + 1) rows)
-    (none-less at r.offset (each n r) rise.0 (at_none r.offset (each n r) (own n r)))
-    (none-less at r.offset (in_turn each (n + 1) rows)
-    rise.0 (rising_none each own r.offset to (n + 1) rows rise.1))
-
 first_at : (at : ℕ) (xs ys : List SurveyFault) (fault : SurveyFault) → AreAt at xs
     → first_of (xs ++ ys) ≡ Some fault → NoneBefore at ys
     → (xs ≡ []) ⊎ ((fault_offset fault ≡ at) × NoneBefore (fault_offset fault) (xs ++ ys))
@@ -140,29 +131,40 @@ first_at at (x ∷ xs) ys fault all is later =
           (none-append at (x ∷ xs) ys (at_none at (x ∷ xs) all) later),
     )
 
--- the first of the faults of frames and of what comes after them has the smallest offset
-least_first : (each : ℕ → Row → List SurveyFault) (own : AreOfEach each) (at to n : ℕ)
-    (rows : List Row) (later : List SurveyFault) (fault : SurveyFault) → AreRising at rows to
-    → NoneBefore to later
-    → ((f : SurveyFault) → first_of later ≡ Some f → NoneBefore (fault_offset f) later)
-    → first_of (in_turn each n rows ++ later) ≡ Some fault
-    → NoneBefore (fault_offset fault) (in_turn each n rows ++ later)
-least_first each own at to n [] later fault rise behind last is = last fault is
-least_first each own at to n (r ∷ rows) later fault rise behind last is =
-    let here = each n r in
-    let rest = in_turn each (n + 1) rows in
-    let regrouped : (here ++ rest) ++ later ≡ here ++ (rest ++ later) =
-    append_assoc here rest later in
-    let low : NoneBefore r.offset (rest ++ later) =
-    none-append r.offset rest later (rising_none each own r.offset to (n + 1) rows rise.1)
-    (none-less r.offset to later (rising_ends r.offset rows to rise.1) behind) in
-    ⊎_elim
-    (λ none.
-    let same : (here ++ rest) ++ later ≡ rest ++ later = ap (λ l. (l ++ rest) ++ later) none in
-    subst (NoneBefore (fault_offset fault)) (sym same) (least_first each own r.offset to
-    (n + 1) rows later fault rise.1 behind last (ap first_of (sym same) ∙ is)))
-    (λ found. subst (NoneBefore (fault_offset fault)) (sym regrouped) found.1)
-    (first_at r.offset here (rest ++ later) fault (own n r) (ap first_of (sym regrouped) ∙ is) low)
+module _ (each : ℕ → Row → List SurveyFault) (own : AreOfEach each) where
+  rising_none : (at to n : ℕ)
+      (rows : List Row) → AreRising at rows to → NoneBefore at (in_turn each n rows)
+  rising_none at to n [] rise = tt
+  rising_none at to n (r ∷ rows) rise =
+      none-append at (each n r) (in_turn each (n + 1) rows)
+      (none-less at r.offset (each n r) rise.0 (at_none r.offset (each n r) (own n r)))
+      (none-less at r.offset (in_turn each (n + 1) rows)
+      rise.0 (rising_none r.offset to (n + 1) rows rise.1))
+
+  -- the first of the faults of frames and of what comes after them has the smallest offset
+  least_first : (at to n : ℕ)
+      (rows : List Row) (later : List SurveyFault) (fault : SurveyFault) → AreRising at rows to
+      → NoneBefore to later
+      → ((f : SurveyFault) → first_of later ≡ Some f → NoneBefore (fault_offset f) later)
+      → first_of (in_turn each n rows ++ later) ≡ Some fault
+      → NoneBefore (fault_offset fault) (in_turn each n rows ++ later)
+  least_first at to n [] later fault rise behind last is = last fault is
+  least_first at to n (r ∷ rows) later fault rise behind last is =
+      let here = each n r in
+      let rest = in_turn each (n + 1) rows in
+      let regrouped : (here ++ rest) ++ later ≡ here ++ (rest ++ later) =
+      append_assoc here rest later in
+      let low : NoneBefore r.offset (rest ++ later) =
+      none-append r.offset rest later (rising_none r.offset to (n + 1) rows rise.1)
+      (none-less r.offset to later (rising_ends r.offset rows to rise.1) behind) in
+      ⊎_elim
+      (λ none.
+      let same : (here ++ rest) ++ later ≡ rest ++ later = ap (λ l. (l ++ rest) ++ later) none in
+      subst (NoneBefore (fault_offset fault)) (sym same) (least_first r.offset to
+      (n + 1) rows later fault rise.1 behind last (ap first_of (sym same) ∙ is)))
+      (λ found. subst (NoneBefore (fault_offset fault)) (sym regrouped) found.1)
+      (first_at r.offset here (rest ++ later) fault (own n r)
+      (ap first_of (sym regrouped) ∙ is) low)
 
 all_least : (file : List ℕ) (head : Option Head) (class : ClassFields) (allowed at to : ℕ)
     (rows : List Row) (later : List SurveyFault) (fault : SurveyFault) → AreRising at rows to

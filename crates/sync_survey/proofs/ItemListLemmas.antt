@@ -23,33 +23,34 @@ stream_belongs part End is = is
 stream_belongs part Nothing is = is
 stream_belongs part _ is = refl
 
--- items end to end in the front are end to end in the stream too
-pub ends-stream : (part : Region) (file : List ℕ) (from : ℕ) (ps : List PlacedItem) (to : ℕ)
-    → AreEndToEnd part file from ps to → AreEndToEnd Stream file from ps to
-ends-stream part file from [] to ends = ends
-ends-stream part file from (p ∷ ps) to ends =
-    let here = item_of-is part file p.offset p.item ends.1 in (
-      ends.0,
-      item_of-whole Stream file p.offset p.item here.is (stream_belongs part p.item here.belongs)
-          here.within,
-      ends-stream part file (p.offset + size_of p.item) ps to ends.2,
-    )
+module _ (part : Region) (file : List ℕ) where
+  -- items end to end in the front are end to end in the stream too
+  pub ends-stream : (from : ℕ) (ps : List PlacedItem) (to : ℕ)
+      → AreEndToEnd part file from ps to → AreEndToEnd Stream file from ps to
+  ends-stream from [] to ends = ends
+  ends-stream from (p ∷ ps) to ends =
+      let here = item_of-is part file p.offset p.item ends.1 in (
+        ends.0,
+        item_of-whole Stream file p.offset p.item here.is (stream_belongs part p.item here.belongs)
+            here.within,
+        ends-stream (p.offset + size_of p.item) ps to ends.2,
+      )
 
--- ---- from where to where
+  -- ---- from where to where
 
--- items end to end end no earlier than they begin
-pub ends-rise : (part : Region) (file : List ℕ) (from : ℕ) (ps : List PlacedItem) (to : ℕ)
-    → AreEndToEnd part file from ps to → from ≤ to
-ends-rise part file from [] to ends = omega (arith, ends)
-ends-rise part file from (p ∷ ps) to ends =
-    omega (arith, ends.0, ends-rise part file (p.offset + size_of p.item) ps to ends.2)
+  -- items end to end end no earlier than they begin
+  pub ends-rise : (from : ℕ) (ps : List PlacedItem) (to : ℕ)
+      → AreEndToEnd part file from ps to → from ≤ to
+  ends-rise from [] to ends = omega (arith, ends)
+  ends-rise from (p ∷ ps) to ends =
+      omega (arith, ends.0, ends-rise (p.offset + size_of p.item) ps to ends.2)
 
--- items end to end end within the file, if they begin there
-pub ends-within : (part : Region) (file : List ℕ) (from : ℕ) (ps : List PlacedItem) (to : ℕ)
-    → AreEndToEnd part file from ps to → from ≤ length file → to ≤ length file
-ends-within part file from [] to ends within = omega (arith, ends, within)
-ends-within part file from (p ∷ ps) to ends within = ends-within part file
-    (p.offset + size_of p.item) ps to ends.2 (item_of-is part file p.offset p.item ends.1).within
+  -- items end to end end within the file, if they begin there
+  pub ends-within : (from : ℕ) (ps : List PlacedItem) (to : ℕ)
+      → AreEndToEnd part file from ps to → from ≤ length file → to ≤ length file
+  ends-within from [] to ends within = omega (arith, ends, within)
+  ends-within from (p ∷ ps) to ends within = ends-within
+      (p.offset + size_of p.item) ps to ends.2 (item_of-is part file p.offset p.item ends.1).within
 
 -- ---- bytes that are items
 
@@ -110,43 +111,6 @@ unfolding item_at
 item_at-known file place at bytes item same is known =
     ap (λ n. item_front (drop n file)) same ∙ ap item_front is ∙ known
 
--- If bytes that are items are in another file, `gap` bytes nearer to its beginning, they are there
--- end to end.
-pub items-end : (part : Region) (old file : List ℕ) (gap from at : ℕ) (ps : List PlacedItem)
-    (to : ℕ)
-    (bytes behind : List ℕ) → AreEndToEnd part old from ps to → from ≡ at + gap → AreItems ps bytes
-    → at ≤ length file → drop at file ≡ bytes ++ behind
-    → AreEndToEnd part file at (map (nearer gap) ps) (to - gap)
-items-end part old file gap from at [] to bytes behind ends there are within is =
-    omega (arith, ends, there)
-items-end part old file gap from at (p ∷ ps) to bytes behind ends there are within is =
-    let own = are.0 in
-    let rest = are.1 in
-    let size = size_of p.item in
-    let here = item_of-is part old p.offset p.item ends.1 in
-    let place : p.offset - gap ≡ at = omega (arith, ends.0, there) in
-    let stands : drop at file ≡ own ++ (rest ++ behind) =
-    is ∙ ap (λ l. l ++ behind) are.2 ∙ append_assoc own rest behind in
-    let room : at + size ≤ length file = omega (
-      arith,
-      within,
-      ap length stands,
-      length-drop at file,
-      length-append own (rest ++ behind),
-      are.3.size,
-    ) in
-    let known = item_at-known file (p.offset - gap) at (own ++ (rest ++ behind)) p.item place stands
-    (are.3.known (rest ++ behind)) in
-    let next : drop (p.offset - gap + size) file ≡ rest ++ behind =
-    ap (λ n. drop (n + size) file) place ∙ sym (drop-drop size at file) ∙ ap (drop size) stands
-    ∙ drop_at own (rest ++ behind) size are.3.size in (
-      place,
-      item_of-whole part file
-          (p.offset - gap) p.item known here.belongs (omega (arith, place, room)),
-      items-end part old file gap (p.offset + size) (p.offset - gap + size) ps to rest behind
-          ends.2 (omega (arith, place, ends.0, there)) are.4 (omega (arith, place, room)) next,
-    )
-
 -- items that aren't nearer at all are where they were
 pub nearer-none : (ps : List PlacedItem) → map (nearer 0) ps ≡ ps
 nearer-none [] = refl
@@ -154,15 +118,52 @@ nearer-none (p ∷ ps) =
     let same : p.offset - 0 ≡ p.offset = omega arith in
     λ i. record p { offset = same i } ∷ nearer-none ps i
 
--- bytes that are items are the run there, if no further item of the part begins after them
-pub items-run : (part : Region) (old file : List ℕ) (gap from at : ℕ) (ps : List PlacedItem)
-    (to : ℕ)
-    (bytes behind : List ℕ) → AreEndToEnd part old from ps to → from ≡ at + gap → AreItems ps bytes
-    → at ≤ length file → drop at file ≡ bytes ++ behind → whole_item_at part file (to - gap) ≡ None
-    → item_run part file at ≡ record { items = map (nearer gap) ps; stop = to - gap }
-items-run part old file gap from at ps to bytes behind ends there are within is none =
-    run-only part file at (map (nearer gap) ps) (to - gap)
-    (items-end part old file gap from at ps to bytes behind ends there are within is) none
+module _ (part : Region) (old file : List ℕ) (gap : ℕ) where
+  -- If bytes that are items are in another file, `gap` bytes
+  -- nearer to its beginning, they are there end to end.
+  pub items-end : (from at : ℕ) (ps : List PlacedItem) (to : ℕ)
+      (bytes behind : List ℕ) → AreEndToEnd part old from ps to → from ≡ at + gap
+      → AreItems ps bytes → at ≤ length file → drop at file ≡ bytes ++ behind
+      → AreEndToEnd part file at (map (nearer gap) ps) (to - gap)
+  items-end from at [] to bytes behind ends there are within is = omega (arith, ends, there)
+  items-end from at (p ∷ ps) to bytes behind ends there are within is =
+      let own = are.0 in
+      let rest = are.1 in
+      let size = size_of p.item in
+      let here = item_of-is part old p.offset p.item ends.1 in
+      let place : p.offset - gap ≡ at = omega (arith, ends.0, there) in
+      let stands : drop at file ≡ own ++ (rest ++ behind) =
+      is ∙ ap (λ l. l ++ behind) are.2 ∙ append_assoc own rest behind in
+      let room : at + size ≤ length file = omega (
+        arith,
+        within,
+        ap length stands,
+        length-drop at file,
+        length-append own (rest ++ behind),
+        are.3.size,
+      ) in
+      let known =
+      item_at-known file (p.offset - gap) at (own ++ (rest ++ behind)) p.item place stands
+      (are.3.known (rest ++ behind)) in
+      let next : drop (p.offset - gap + size) file ≡ rest ++ behind =
+      ap (λ n. drop (n + size) file) place ∙ sym (drop-drop size at file) ∙ ap (drop size) stands
+      ∙ drop_at own (rest ++ behind) size are.3.size in (
+        place,
+        item_of-whole part file
+            (p.offset - gap) p.item known here.belongs (omega (arith, place, room)),
+        items-end (p.offset + size) (p.offset - gap + size) ps to rest behind
+            ends.2 (omega (arith, place, ends.0, there)) are.4 (omega (arith, place, room)) next,
+      )
+
+  -- bytes that are items are the run there, if no further item of the part begins after them
+  pub items-run : (from at : ℕ) (ps : List PlacedItem) (to : ℕ)
+      (bytes behind : List ℕ) → AreEndToEnd part old from ps to → from ≡ at + gap
+      → AreItems ps bytes → at ≤ length file → drop at file ≡ bytes ++ behind
+      → whole_item_at part file (to - gap) ≡ None
+      → item_run part file at ≡ record { items = map (nearer gap) ps; stop = to - gap }
+  items-run from at ps to bytes behind ends there are within is none =
+      run-only part file at (map (nearer gap) ps) (to - gap)
+      (items-end from at ps to bytes behind ends there are within is) none
 
 -- ---- frames and blocks among them
 

@@ -93,31 +93,33 @@ own_size item left size some within is = record {
   within = omega (arith, is, within);
 }
 
-sized_by : (part : Region) (front : List ℕ) (left size : ℕ) (item : Item) → IsItemFront front item
-    → belongs part item ≡ true → size_of item ≤ left → length front ≤ left → Counts item front size
-    → IsSized item left size
-sized_by part front left size (Frame h) here is within all counts =
-    own_size (Frame h) left size (some_by front part (Frame h) here is) within (counts.1 (λ e. cc))
-sized_by part front left size (Block b) here is within all counts =
-    own_size (Block b) left size (some_by front part (Block b) here is) within (counts.1 (λ e. cc))
-sized_by part front left size Zero here is within all counts =
-    let many = zero_counted front here in
-    let size_is = counts.0 refl in
-    record {
-      least = omega (arith, many, size_is);
-      some = omega (arith, many, size_is);
-      within =
-          omega (arith, all, size_is, prefix_len-le-length zero_test front);
-    }
-sized_by part front left size _ here is within all counts = absurd (false≢true is)
+module _ (part : Region) (front : List ℕ) (left size : ℕ) where
+  sized_by : (item : Item) → IsItemFront front item → belongs part item ≡ true → size_of item ≤ left
+      → length front ≤ left → Counts item front size → IsSized item left size
+  sized_by (Frame h) here is within all counts =
+      own_size (Frame h) left size (some_by front part (Frame h) here is) within
+      (counts.1 (λ e. cc))
+  sized_by (Block b) here is within all counts =
+      own_size (Block b) left size (some_by front part (Block b) here is) within
+      (counts.1 (λ e. cc))
+  sized_by Zero here is within all counts =
+      let many = zero_counted front here in
+      let size_is = counts.0 refl in
+      record {
+        least = omega (arith, many, size_is);
+        some = omega (arith, many, size_is);
+        within =
+            omega (arith, all, size_is, prefix_len-le-length zero_test front);
+      }
+  sized_by _ here is within all counts = absurd (false≢true is)
 
--- the item with which what is left begins is passed with its own bytes, and zero bytes all at once
-pub sized : (part : Region) (front : List ℕ) (left size : ℕ) (item : Item) → item ≡ item_front front
-    → belongs part item ≡ true → size_of item ≤ left → length front ≤ left
-    → (item ≡ Zero → size ≡ prefix_len zero_test front) → ((item ≡ Zero → ⊥) → size ≡ size_of item)
-    → IsSized item left size
-sized part front left size item is here within all zeros other = sized_by part front left size item
-    (subst (IsItemFront front) (sym is) (stands front)) here within all (zeros, other)
+  -- the item with which what is left begins is passed
+  -- with its own bytes, and zero bytes all at once
+  pub sized : (item : Item) → item ≡ item_front front → belongs part item ≡ true → size_of item
+      ≤ left → length front ≤ left → (item ≡ Zero → size ≡ prefix_len zero_test front)
+      → ((item ≡ Zero → ⊥) → size ≡ size_of item) → IsSized item left size
+  sized item is here within all zeros other = sized_by item
+      (subst (IsItemFront front) (sym is) (stands front)) here within all (zeros, other)
 
 module _ (file : List ℕ) (at : ℕ) (front : List ℕ) (left : ℕ)
     (shows : Shows file at front left) where

@@ -27,181 +27,176 @@ pub whole_cases : (b : Bool) (i j : Item) → cond b (Some i) None ≡ Some j �
 whole_cases true i j e = (refl, cc)
 whole_cases false i j e = absurd cc
 
--- an item that fits is within the file
-pub within_file : (part : Region) (file : List ℕ) (at : ℕ) (item : Item) → item_at file at ≡ item
-    → belongs part item ≡ true → item_fits file at item ≡ true → IsItemOf part file at item
-within_file part file at item is belongs item_fits =
-    let some : 0 < size_of item = size-some part file at item is belongs in
-    record {
-      is = is;
-      belongs = belongs;
-      within = omega (arith, some, leb-true (size_of item) (length file - at) item_fits);
-      some = some;
-    }
-
--- an item of a part at an offset is a whole one
-pub item_of-is : (part : Region) (file : List ℕ) (at : ℕ) (item : Item)
-    → whole_item_at part file at ≡ Some item → IsItemOf part file at item
-unfolding whole_item_at
-item_of-is part file at item e =
-    let cases = whole_cases _ _ item e in
-    let tests = and_parts _ _ cases.0 in
-    subst (IsItemOf part file at)
-    cases.1 (within_file part file at (item_at file at) refl tests.0 tests.1)
-
-whole_item : (part : Region) (file : List ℕ) (at : ℕ) (item found : Item) → found ≡ item
-    → belongs part item ≡ true → item_fits file at item ≡ true
-    → item_if_whole part file at found ≡ Some item
-whole_item part file at item found is belongs item_fits =
-    ap (item_if_whole part file at) is ∙ rw (belongs, item_fits) refl
-
--- a whole item of the part at an offset is the item there
-pub item_of-whole : (part : Region) (file : List ℕ) (at : ℕ) (item : Item) → item_at file at ≡ item
-    → belongs part item ≡ true → at + size_of item ≤ length file
-    → whole_item_at part file at ≡ Some item
-unfolding whole_item_at
-item_of-whole part file at item is belongs within =
-    whole_item part file at item (item_at file at) is belongs (le-leb _ _ (omega (arith, within)))
-
-none_behind : (part : Region) (file : List ℕ) (at : ℕ) (o : Option Item)
-    → whole_item_at part file at ≡ o → length file ≤ at → o ≡ None
-none_behind part file at None is past = refl
-none_behind part file at (Some item) is past = let here = item_of-is part file at item is in
-    absurd (omega (arith, here.within, here.some))
-
--- at the end of the file and past it no item begins
-pub item_of-past : (part : Region) (file : List ℕ) (at : ℕ) → length file ≤ at
-    → whole_item_at part file at ≡ None
-item_of-past part file at past = none_behind part file at (whole_item_at part file at) refl past
-
--- ---- a run
-
 onward-same : (at : ℕ) (next later : ℕ → ItemRun) (o : Option Item)
     → ((item : Item) → o ≡ Some item → next (at + size_of item) ≡ later (at + size_of item))
     → run_onward at next o ≡ run_onward at later o
 onward-same at next later None same = refl
 onward-same at next later (Some item) same = ap (run_with_item at item) (same item refl)
 
-one_more : (n : ℕ) (part : Region) (file : List ℕ) (at : ℕ) → run_up_to (suc n) part file at
-    ≡ run_onward at (λ later. run_up_to n part file later) (whole_item_at part file at)
-unfolding run_up_to
-one_more n part file at = refl
+module _ (part : Region) (file : List ℕ) where
+  -- an item that fits is within the file
+  pub within_file : (at : ℕ) (item : Item) → item_at file at ≡ item
+      → belongs part item ≡ true → item_fits file at item ≡ true → IsItemOf part file at item
+  within_file at item is belongs item_fits =
+      let some : 0 < size_of item = size-some part file at item is belongs in
+      record {
+        is = is;
+        belongs = belongs;
+        within = omega (arith, some, leb-true (size_of item) (length file - at) item_fits);
+        some = some;
+      }
 
-none_more : (part : Region) (file : List ℕ) (at : ℕ) → run_up_to zero part file at ≡ stopped_run at
-unfolding run_up_to
-none_more part file at = refl
+  -- an item of a part at an offset is a whole one
+  pub item_of-is : (at : ℕ) (item : Item)
+      → whole_item_at part file at ≡ Some item → IsItemOf part file at item
+  unfolding whole_item_at
+  item_of-is at item e =
+      let cases = whole_cases _ _ item e in
+      let tests = and_parts _ _ cases.0 in
+      subst (IsItemOf part file at)
+      cases.1 (within_file at (item_at file at) refl tests.0 tests.1)
 
--- past the end any bound gives the same run
-past : (n : ℕ) (part : Region) (file : List ℕ) (at : ℕ) → length file ≤ at
-    → run_up_to n part file at ≡ stopped_run at
-past zero part file at le = none_more part file at
-past (suc n) part file at le = one_more n part file at
-    ∙ ap (run_onward at (λ later. run_up_to n part file later)) (item_of-past part file at le)
+  whole_item : (at : ℕ) (item found : Item) → found ≡ item
+      → belongs part item ≡ true → item_fits file at item ≡ true
+      → item_if_whole part file at found ≡ Some item
+  whole_item at item found is belongs item_fits =
+      ap (item_if_whole part file at) is ∙ rw (belongs, item_fits) refl
 
--- any bound that is at least the number of bytes left gives the same run
-enough : (m n : ℕ) (part : Region) (file : List ℕ) (at : ℕ) → length file ≤ m + at
-    → length file ≤ n + at → run_up_to m part file at ≡ run_up_to n part file at
-enough zero n part file at le le' =
-    past zero part file at (omega (arith, le)) ∙ sym (past n part file at (omega (arith, le)))
-enough (suc m) zero part file at le le' = past (suc m) part file at (omega (arith, le'))
-    ∙ sym (past zero part file at (omega (arith, le')))
-enough (suc m) (suc n) part file at le le' =
-    one_more m part file at
-    ∙ onward-same at (λ later. run_up_to m part file later) (λ later. run_up_to n part file later)
-    (whole_item_at part file at) (λ item is.
-    let here = item_of-is part file at item is in
-    enough m n part file (at + size_of item) (omega (arith, le, here.some))
-    (omega (arith, le', here.some)))
-    ∙ sym (one_more n part file at)
+  -- a whole item of the part at an offset is the item there
+  pub item_of-whole : (at : ℕ) (item : Item) → item_at file at ≡ item
+      → belongs part item ≡ true → at + size_of item ≤ length file
+      → whole_item_at part file at ≡ Some item
+  unfolding whole_item_at
+  item_of-whole at item is belongs within =
+      whole_item at item (item_at file at) is belongs (le-leb _ _ (omega (arith, within)))
 
--- a run takes the item at its offset, and continues after it
-pub run-step : (part : Region) (file : List ℕ) (at : ℕ)
-    → item_run part file at ≡ run_onward at (item_run part file) (whole_item_at part file at)
-unfolding item_run
-run-step part file at =
-    enough (length file) (suc (length file)) part file at (omega arith) (omega arith)
-    ∙ one_more (length file) part file at
+  none_behind : (at : ℕ) (o : Option Item)
+      → whole_item_at part file at ≡ o → length file ≤ at → o ≡ None
+  none_behind at None is past = refl
+  none_behind at (Some item) is past = let here = item_of-is at item is in
+      absurd (omega (arith, here.within, here.some))
 
--- if an item is at the offset, the run begins with it
-pub run-next : (part : Region) (file : List ℕ) (at : ℕ) (item : Item) → whole_item_at part file at
-    ≡ Some item
-    → item_run part file at ≡ run_with_item at item (item_run part file (at + size_of item))
-run-next part file at item is = run-step part file at ∙ ap (run_onward at (item_run part file)) is
+  -- at the end of the file and past it no item begins
+  pub item_of-past : (at : ℕ) → length file ≤ at → whole_item_at part file at ≡ None
+  item_of-past at past = none_behind at (whole_item_at part file at) refl past
 
--- if none is there, the run stops
-pub run-stopped : (part : Region) (file : List ℕ) (at : ℕ) → whole_item_at part file at ≡ None
-    → item_run part file at ≡ stopped_run at
-run-stopped part file at is = run-step part file at ∙ ap (run_onward at (item_run part file)) is
+  -- ---- a run
 
--- ---- what the items of a run are together
+  one_more : (n at : ℕ) → run_up_to (suc n) part file at
+      ≡ run_onward at (λ later. run_up_to n part file later) (whole_item_at part file at)
+  unfolding run_up_to
+  one_more n at = refl
 
-onward_ends : (part : Region) (file : List ℕ) (at : ℕ) (next : ℕ → ItemRun) (o : Option Item)
-    → whole_item_at part file at ≡ o
-    → ((later : ℕ) → AreEndToEnd part file later (next later).items (next later).stop) →
-    AreEndToEnd part file at (run_onward at next o).items (run_onward at next o).stop
-onward_ends part file at next None is ends = refl
-onward_ends part file at next (Some item) is ends = (refl, is, ends (at + size_of item))
+  none_more : (at : ℕ) → run_up_to zero part file at ≡ stopped_run at
+  unfolding run_up_to
+  none_more at = refl
 
-ends_up_to : (n : ℕ) (part : Region) (file : List ℕ) (at : ℕ)
-    → AreEndToEnd part file at (run_up_to n part file at).items (run_up_to n part file at).stop
-unfolding run_up_to
-ends_up_to zero part file at = refl
-ends_up_to (suc n) part file at = onward_ends part file at (λ later. run_up_to n part file later)
-    (whole_item_at part file at) refl (λ later. ends_up_to n part file later)
+  -- past the end any bound gives the same run
+  past : (n at : ℕ) → length file ≤ at → run_up_to n part file at ≡ stopped_run at
+  past zero at le = none_more at
+  past (suc n) at le = one_more n at
+      ∙ ap (run_onward at (λ later. run_up_to n part file later)) (item_of-past at le)
 
--- the items of a run follow end to end from its beginning to its stop
-pub run-ends : (part : Region) (file : List ℕ) (from : ℕ)
-    → AreEndToEnd part file from (item_run part file from).items (item_run part file from).stop
-unfolding item_run
-run-ends part file from = ends_up_to (length file) part file from
+  -- any bound that is at least the number of bytes left gives the same run
+  enough : (m n at : ℕ) → length file ≤ m + at
+      → length file ≤ n + at → run_up_to m part file at ≡ run_up_to n part file at
+  enough zero n at le le' = past zero at (omega (arith, le)) ∙ sym (past n at (omega (arith, le)))
+  enough (suc m) zero at le le' = past (suc m) at (omega (arith, le'))
+      ∙ sym (past zero at (omega (arith, le')))
+  enough (suc m) (suc n) at le le' =
+      one_more m at
+      ∙ onward-same at (λ later. run_up_to m part file later) (λ later. run_up_to n part file later)
+      (whole_item_at part file at) (λ item is.
+      let here = item_of-is at item is in
+      enough m n (at + size_of item) (omega (arith, le, here.some))
+      (omega (arith, le', here.some)))
+      ∙ sym (one_more n at)
 
--- no item is after them: there are no more items than bytes
-last_onward : (part : Region) (file : List ℕ) (at : ℕ) (next : ℕ → ItemRun) (o : Option Item)
-    → whole_item_at part file at ≡ o → ((item : Item) → o ≡ Some item
-    → whole_item_at part file (next (at + size_of item)).stop ≡ None)
-    → whole_item_at part file (run_onward at next o).stop ≡ None
-last_onward part file at next None is last = is
-last_onward part file at next (Some item) is last = last item refl
+  -- a run takes the item at its offset, and continues after it
+  pub run-step : (at : ℕ)
+      → item_run part file at ≡ run_onward at (item_run part file) (whole_item_at part file at)
+  unfolding item_run
+  run-step at =
+      enough (length file) (suc (length file)) at (omega arith) (omega arith)
+      ∙ one_more (length file) at
 
-last_up_to : (n : ℕ) (part : Region) (file : List ℕ) (at : ℕ) → length file ≤ n + at
-    → whole_item_at part file (run_up_to n part file at).stop ≡ None
-unfolding run_up_to
-last_up_to zero part file at le = item_of-past part file at (omega (arith, le))
-last_up_to (suc n) part file at le =
-    last_onward part file at (λ later. run_up_to n part file later)
-    (whole_item_at part file at) refl
-    (λ item is. last_up_to n part file (at + size_of item)
-    (omega (arith, le, (item_of-is part file at item is).some)))
+  -- if an item is at the offset, the run begins with it
+  pub run-next : (at : ℕ) (item : Item) → whole_item_at part file at ≡ Some item
+      → item_run part file at ≡ run_with_item at item (item_run part file (at + size_of item))
+  run-next at item is = run-step at ∙ ap (run_onward at (item_run part file)) is
 
--- no further item begins where a run stops
-pub run-last : (part : Region) (file : List ℕ) (from : ℕ)
-    → whole_item_at part file (item_run part file from).stop ≡ None
-unfolding item_run
-run-last part file from = last_up_to (length file) part file from (omega arith)
+  -- if none is there, the run stops
+  pub run-stopped : (at : ℕ) → whole_item_at part file at ≡ None
+      → item_run part file at ≡ stopped_run at
+  run-stopped at is = run-step at ∙ ap (run_onward at (item_run part file)) is
 
--- items that follow end to end, with no further one after them, are the run
-pub run-only : (part : Region) (file : List ℕ) (from : ℕ) (ps : List PlacedItem) (to : ℕ)
-    → AreEndToEnd part file from ps to → whole_item_at part file to ≡ None
-    → item_run part file from ≡ record { items = ps; stop = to }
-run-only part file from [] to ends none =
-    run-stopped part file from (ap (whole_item_at part file) ends ∙ none) ∙ ap stopped_run ends
-run-only part file from (p ∷ ps) to ends none =
-    ap (item_run part file) (sym ends.0) ∙ run-next part file p.offset p.item ends.1
-    ∙ ap (run_with_item p.offset p.item)
-    (run-only part file (p.offset + size_of p.item) ps to ends.2 none)
+  -- ---- what the items of a run are together
 
--- items that follow end to end and the bytes after them are the file's bytes from their beginning
--- on
-pub bytes-ends : (part : Region) (file : List ℕ) (from : ℕ) (ps : List PlacedItem) (to : ℕ)
-    → AreEndToEnd part file from ps to → bytes_of_items file ps ++ drop to file ≡ drop from file
-bytes-ends part file from [] to ends = ap (λ at. drop at file) (sym ends)
-bytes-ends part file from (p ∷ ps) to ends =
-    let size = size_of p.item in
-    append_assoc (item_bytes_in file p) (bytes_of_items file ps) (drop to file)
-    ∙ ap (λ rest. item_bytes_in file p ++ rest)
-    (bytes-ends part file (p.offset + size) ps to ends.2 ∙ sym (drop-drop size p.offset file))
-    ∙ take-append-drop size (drop p.offset file)
-    ∙ ap (λ at. drop at file) ends.0
+  onward_ends : (at : ℕ) (next : ℕ → ItemRun) (o : Option Item) → whole_item_at part file at ≡ o
+      → ((later : ℕ) → AreEndToEnd part file later (next later).items (next later).stop) →
+      AreEndToEnd part file at (run_onward at next o).items (run_onward at next o).stop
+  onward_ends at next None is ends = refl
+  onward_ends at next (Some item) is ends = (refl, is, ends (at + size_of item))
+
+  ends_up_to : (n at : ℕ)
+      → AreEndToEnd part file at (run_up_to n part file at).items (run_up_to n part file at).stop
+  unfolding run_up_to
+  ends_up_to zero at = refl
+  ends_up_to (suc n) at = onward_ends at (λ later. run_up_to n part file later)
+      (whole_item_at part file at) refl (λ later. ends_up_to n later)
+
+  -- the items of a run follow end to end from its beginning to its stop
+  pub run-ends : (from : ℕ)
+      → AreEndToEnd part file from (item_run part file from).items (item_run part file from).stop
+  unfolding item_run
+  run-ends from = ends_up_to (length file) from
+
+  -- no item is after them: there are no more items than bytes
+  last_onward : (at : ℕ) (next : ℕ → ItemRun) (o : Option Item)
+      → whole_item_at part file at ≡ o → ((item : Item) → o ≡ Some item
+      → whole_item_at part file (next (at + size_of item)).stop ≡ None)
+      → whole_item_at part file (run_onward at next o).stop ≡ None
+  last_onward at next None is last = is
+  last_onward at next (Some item) is last = last item refl
+
+  last_up_to : (n at : ℕ) → length file ≤ n + at
+      → whole_item_at part file (run_up_to n part file at).stop ≡ None
+  unfolding run_up_to
+  last_up_to zero at le = item_of-past at (omega (arith, le))
+  last_up_to (suc n) at le =
+      last_onward at (λ later. run_up_to n part file later)
+      (whole_item_at part file at) refl
+      (λ item is. last_up_to n (at + size_of item)
+      (omega (arith, le, (item_of-is at item is).some)))
+
+  -- no further item begins where a run stops
+  pub run-last : (from : ℕ) → whole_item_at part file (item_run part file from).stop ≡ None
+  unfolding item_run
+  run-last from = last_up_to (length file) from (omega arith)
+
+  -- items that follow end to end, with no further one after them, are the run
+  pub run-only : (from : ℕ) (ps : List PlacedItem) (to : ℕ)
+      → AreEndToEnd part file from ps to → whole_item_at part file to ≡ None
+      → item_run part file from ≡ record { items = ps; stop = to }
+  run-only from [] to ends none =
+      run-stopped from (ap (whole_item_at part file) ends ∙ none) ∙ ap stopped_run ends
+  run-only from (p ∷ ps) to ends none =
+      ap (item_run part file) (sym ends.0) ∙ run-next p.offset p.item ends.1
+      ∙ ap (run_with_item p.offset p.item)
+      (run-only (p.offset + size_of p.item) ps to ends.2 none)
+
+  -- items that follow end to end and the bytes after them are the file's bytes from their beginning
+  -- on
+  pub bytes-ends : (from : ℕ) (ps : List PlacedItem) (to : ℕ)
+      → AreEndToEnd part file from ps to → bytes_of_items file ps ++ drop to file ≡ drop from file
+  bytes-ends from [] to ends = ap (λ at. drop at file) (sym ends)
+  bytes-ends from (p ∷ ps) to ends =
+      let size = size_of p.item in
+      append_assoc (item_bytes_in file p) (bytes_of_items file ps) (drop to file)
+      ∙ ap (λ rest. item_bytes_in file p ++ rest)
+      (bytes-ends (p.offset + size) ps to ends.2 ∙ sym (drop-drop size p.offset file))
+      ∙ take-append-drop size (drop p.offset file)
+      ∙ ap (λ at. drop at file) ends.0
 
 -- ---- frames and blocks among the items of a run
 
