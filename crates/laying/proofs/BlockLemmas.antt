@@ -13,7 +13,7 @@ use Rattle.sync_survey.specs.declared.{places.Start.Start, runs.Region.Region}
 use Rattle.sync_survey.specs.declared.runs.Region.TheVariants.{Front, Stream}
 use Rattle.tag_blocks.specs.{Blocks.block_front, declared.block.Block.Block as TagBlock}
 
--- a whole block with which bytes begin
+-- a whole block that these bytes begin with
 whole_block : (bytes : List ℕ) (b : TagBlock) → block_front bytes ≡ Some b → b.length ≤ length bytes
     → IsBlock (take b.length bytes)
 whole_block bytes b is within = (
@@ -43,7 +43,7 @@ ends-blocks part file from (p ∷ ps) to ends =
     block_more file p.offset p.item (blocks_of ps)
     here.is here.within (ends-blocks part file (p.offset + size_of p.item) ps to ends.2)
 
--- blocks and more blocks are blocks
+-- blocks concatenated with blocks are blocks
 pub blocks-append : (xs ys : List (List ℕ)) → AreBlocks xs → AreBlocks ys → AreBlocks (xs ++ ys)
 blocks-append [] ys front back = back
 blocks-append (x ∷ xs) ys front back = (front.0, blocks-append xs ys front.1 back)

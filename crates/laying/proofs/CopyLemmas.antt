@@ -1,4 +1,4 @@
--- Blocks that are copied, one after the other.
+-- Blocks copied in order.
 use Rattle.std.proofs.Common.{ap, append-nil, arith, Bool, cond, drop, false, filter, length, List}
 use Rattle.std.proofs.Common.{map, not, refl, slice_index_or, subst, suc, sym, true, zero, ℕ, []}
 use Rattle.std.{proofs.Common.{◌++◌, ◌+◌, ◌<◌, ◌∙◌, ◌∷◌, ◌≡◌, ◌≤◌}, specs.List.concat}
@@ -8,7 +8,7 @@ use Rattle.sync_survey.specs.{Faults.SurveyFields, Survey.BlocksAreLaid}
 use Rattle.sync_survey.specs.declared.places.Piece.{Piece}
 use mathlib.Core.Bool.{beq}
 
--- ---- blocks that are chosen
+-- ---- chosen blocks
 
 chosen-by : (b : Bool) (file : List ℕ) (p : Piece) (ps : List Piece)
     → concat (map (block_bytes file) (cond b (p ∷ ps) ps))
@@ -17,7 +17,7 @@ chosen-by true file p ps = ap (λ (l : List ℕ). l ++ concat (map (block_bytes 
     (sym (append-nil (block_bytes file p)))
 chosen-by false file p ps = refl
 
--- the bytes of chosen blocks are those of the first, and then of the others
+-- the bytes of chosen blocks are the bytes of the first, then of the others
 pub chosen-next : (in_front : Bool) (s : SurveyFields) (p : Piece) (ps : List Piece) (file : List ℕ)
     → chosen_bytes in_front s (p ∷ ps) file
     ≡ chosen_bytes in_front s (p ∷ []) file ++ chosen_bytes in_front s ps file
@@ -52,19 +52,19 @@ not-chosen : (in_front : Bool) (s : SurveyFields) (p : Piece)
 not-chosen true s p other = by-true (goes_in_front s p) other
 not-chosen false s p other = by-false (goes_in_front s p) other
 
--- a block that goes to the other end adds nothing
+-- a block that isn't chosen adds nothing
 pub chosen-none : (in_front : Bool) (s : SurveyFields) (p : Piece) (file : List ℕ)
     → beq (goes_in_front s p) in_front ≡ false → chosen_bytes in_front s (p ∷ []) file ≡ []
 chosen-none in_front s p file other =
     none-by (is_chosen_block in_front s p) file p (not-chosen in_front s p other)
 
--- blocks end no earlier than they begin
+-- consecutive blocks end no earlier than they begin
 pub block-behind : (from to : ℕ) (ps : List Piece) → BlocksAreLaid from ps to → from ≤ to
 block-behind from to [] laid = laid
 block-behind from to (p ∷ ps) laid =
     omega (arith, laid.0, block-behind (p.offset + p.block.length) to ps laid.1)
 
--- each block ends before the offset where all end
+-- each of consecutive blocks ends no later than the last
 pub block-within : (from to : ℕ) (ps : List Piece) (i : ℕ) (p : Piece) (more : List Piece)
     → drop i ps ≡ p ∷ more → BlocksAreLaid from ps to → p.offset + p.block.length ≤ to
 block-within from to [] zero p more is laid = absurd cc

@@ -1,4 +1,4 @@
--- The bytes of frames that were given to the writer.
+-- The bytes of frames that were passed to the writer.
 use Rattle.std.proofs.Common.{ap, append-nil, append_assoc, arith, length, length-append, List, sym}
 use Rattle.std.proofs.Common.{take, ℕ, [], ◌++◌, ◌∙◌, ◌≡◌}
 use Rattle.std.proofs.lemmas.List.{length-take-le, take-append-le}
@@ -13,13 +13,13 @@ use Rattle.outside.specs.{BufferOutput.{AppendedPrefix, AppendsWaiting}, Files.{
 use Rattle.outside.specs.{Pass.{WritesMadeBytes, WritesPrefix}, declared.pass.Pass.Pass}
 use Rattle.outside.specs.declared.pass.PassFault.{PassFault}
 
--- after what waits no frame was given yet
+-- with a new queue, no frame was passed after what waits
 pub new-behind : {class : ClassFields} (held : WaitingFrames) (waiting : List ℕ)
     → IsNewQueue class held → IsWriterOf waiting [] (writing_of held waiting) []
 new-behind held waiting new =
     record { taken = []; is = sym (append-nil waiting); written = new.written }
 
--- what was appended, and what waits, are what waited and the bytes of the frames
+-- what was appended and what waits are what waited before and the bytes of the frames
 lays-passed : (input output : List ℕ) (made : List ℕ → List Frame) (base : List ℕ)
     (old new : Writing) (before now : Files) → IsWriterOf base [] old []
     → (lays : LaysFrames input output made old new before now) →
@@ -41,7 +41,7 @@ module _ (pass : Pass) (made : List ℕ → List Frame) (base : List ℕ) (old :
     (none : IsWriterOf base [] old []) where
   module _ (new : Writing) (now : Files)
       (lays : LaysFrames pass.input.now pass.output.now made old new before now) where
-    -- all of them, and what waited of them went on
+    -- all frames were laid, and what waited of them was passed on
     pub lays-written : (after : List ℕ) (end : Files)
         → AppendsWaiting pass.output.now (waiting_bytes new) after now end
         → WritesMadeBytes pass (λ file. bytes_of_frames (made file)) base after before end
@@ -52,7 +52,7 @@ module _ (pass : Pass) (made : List ℕ → List Frame) (base : List ℕ) (old :
           none lays) passed;
     }
 
-    -- if the end failed, a prefix of the frames went on
+    -- if the end failed, a prefix of the frames was passed on
     pub lays-prefix : (end : Files) {fault : PassFault}
         → AppendedPrefix pass.output.now (waiting_bytes new) now end
         → WritesPrefix pass (λ file. bytes_of_frames (made file)) base before end fault
@@ -62,7 +62,7 @@ module _ (pass : Pass) (made : List ℕ → List Frame) (base : List ℕ) (old :
         (passed_then_prefix
         (lays-passed pass.input.now pass.output.now made base old new before now none lays) part)
 
-  -- if a part of the frames was laid, a prefix of their bytes went on
+  -- if a part of the frames was laid, a prefix of their bytes was passed on
   pub part-prefix : (reach : ℕ) (after : Files) {fault : PassFault}
       → LaysPart pass.input.now pass.output.now made reach old before after fault
       → WritesPrefix pass (λ file. bytes_of_frames (made file)) base before after fault

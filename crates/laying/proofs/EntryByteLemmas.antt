@@ -49,7 +49,7 @@ header_front-is h rest is =
 
 -- ---- what is before the area
 
--- the front of a frame has as many bytes as are before its area
+-- the front of a frame has as many bytes as its overhead
 pub length-front : (h : HeaderFields) (s : Side) → IsHeader h → IsShaped s
     → length (frame_front_bytes h s) ≡ overhead_of (class_of h) h.protected
 unfolding frame_front_bytes
@@ -75,7 +75,7 @@ front-four h s rest =
     ap (take 4) (append_assoc (bytes (header_bits h)) (crc_part h s ++ side) rest)
     ∙ take_at (bytes (header_bits h)) ((crc_part h s ++ side) ++ rest) 4 (length-header h)
 
--- it is that of a frame with this side information
+-- putting the side information into the frame again changes nothing
 put_again : (h : HeaderFields) (s : Side) (rest : List ℕ) → IsHeader h → IsShaped s
     → frame_with_side h s (frame_front_bytes h s ++ rest) ≡ frame_front_bytes h s ++ rest
 unfolding frame_with_side frame_front_bytes
@@ -93,14 +93,14 @@ room : (h : HeaderFields) (s : Side) (rest : List ℕ) → IsHeader h → IsShap
 room h s rest is pairs =
     omega (arith, length-front h s is pairs, length-append (frame_front_bytes h s) rest)
 
--- its side information is read back
+-- the side information is read back
 pub front-side : (h : HeaderFields) (s : Side) (rest : List ℕ) → IsHeader h → IsShaped s
     → SideFits (class_of h) s → side_in h (frame_front_bytes h s ++ rest) ≡ s
 front-side h s rest is pairs fits =
     ap (side_in h) (sym (put_again h s rest is pairs)) ∙ side_in-frame_with h s
     (frame_front_bytes h s ++ rest) (IsClass-class_of h is) pairs fits (room h s rest is pairs)
 
--- and its check word is the right one
+-- the check word of the frame is right
 pub front-word : (h : HeaderFields) (s : Side) (rest : List ℕ) → IsHeader h → IsShaped s
     → h.protected ≡ true → stored_crc (frame_front_bytes h s ++ rest) ≡ check_word_of h s
 front-word h s rest is pairs protected =
@@ -117,7 +117,7 @@ front_header h s rest is =
 
 -- ---- the frame
 
--- with its area it is as long as its header says
+-- with its area the frame is as long as its header says
 pub length-entry : (h : HeaderFields) (s : Side) (area : List ℕ) → IsHeader h → IsShaped s
     → length area ≡ area_of (class_of h) h.slot h.protected
     → length (frame_front_bytes h s ++ area) ≡ length_of (class_of h) h.slot
@@ -130,7 +130,7 @@ length-entry h s area is pairs many =
       (area-is (class_of h) h.slot h.protected (IsClass-class_of h is) is.slot).0,
     )
 
--- so it is an item
+-- the frame's bytes are an item
 pub entry_item : (h : HeaderFields) (s : Side) (area : List ℕ) → IsHeader h → IsShaped s
     → length area ≡ area_of (class_of h) h.slot h.protected
     → IsItem (FrameItem h) (frame_front_bytes h s ++ area)

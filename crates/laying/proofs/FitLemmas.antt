@@ -18,7 +18,7 @@ use Rattle.slot_plan.specs.{Plans.{AreItemSlots, IsPlan, item_areas}, declared.n
 use Rattle.slot_plan.specs.declared.needs.Placed.{Placed}
 use Rattle.sync_survey.specs.Row.{Row}
 
--- ---- items of a plan, as they were asked for
+-- ---- items of a plan, as requested
 
 -- an item is the lead-in before this frame, or the frame
 abbrev pub IsAsked : Bool → PlanItem → Need → Type 0
@@ -33,14 +33,14 @@ Asks (item ∷ items) (need ∷ needs) =
     IsAsked item.lead_in item need × Asks items (rest_behind item.lead_in need needs)
 Asks _ _ = ⊥
 
--- a place that was asked for a frame or a lead-in has an area of its class
+-- a place requested for a frame or a lead-in has an area of the frame's class
 pub asked-area : (b : Bool) (item : PlanItem) (need : Need) (slot : SlotFields)
     → IsAsked b item need
     → item_area item slot ≡ area_of (class_of need.header) slot (cond b false need.header.protected)
 asked-area true item need slot is = ap₂ (λ c protected. area_of c slot protected) is.0 is.1
 asked-area false item need slot is = ap₂ (λ c protected. area_of c slot protected) is.0 is.1
 
--- and holds the frame's main data, or nothing
+-- a place requested for a frame or a lead-in holds the frame's main data, or nothing
 pub asked-bytes : (b : Bool) (item : PlanItem) (need : Need) → IsAsked b item need
     → item.bytes ≡ placed_bytes b need
 asked-bytes true item need is = is.2
@@ -89,7 +89,7 @@ fits-on window (item ∷ items) (need ∷ needs) (p ∷ placed) end low before
 fits-on window _ _ _ end low before starts asks for_items layout early within begins =
     absurd for_items
 
--- items that ask for these frames, laid as early as they may be
+-- items that ask for these frames, laid as early as possible, can be written frame by frame
 pub items-fit : (window : ℕ) (items : List PlanItem) (needs : List Need) (placed : List Placed)
     → Asks items needs → AreItemSlots items placed
     → HasLayout window 0 (frames_with_areas (map open_frame items) (item_areas items placed))
@@ -147,14 +147,14 @@ parts-fit window choices parts placed plan =
     (flat_map (λ (part : List Need). part) parts) placed (asks-whole window choices parts
     plan.lead_ins plan.alone) plan.whole.slots plan.whole.least.feasible plan.whole.begins
 
--- the needs of all parts, one after the other, are those of their frames
+-- the needs of all parts, concatenated, are the needs of their frames
 pub needs-flat : (parts : List (List Row))
     → flat_map (λ (part : List Need). part) (map (map need_of) parts) ≡ needs_of_parts parts
 unfolding needs_of_parts
 needs-flat [] = refl
 needs-flat (rows ∷ parts) = ap (λ (l : List Need). map need_of rows ++ l) (needs-flat parts)
 
--- a plan by any choice of slots can be written frame by frame
+-- a plan for any choice of slots can be written frame by frame
 pub plans-fit : PlansFit
 plans-fit window choices parts placed plan = subst (λ needs. FitsFromReach window 0 needs placed)
     (needs-flat parts) (parts-fit window choices (map (map need_of) parts) placed plan)
@@ -164,12 +164,12 @@ plans-fit window choices parts placed plan = subst (λ needs. FitsFromReach wind
 abbrev pub AllSlots : PlanItem → Type 0
 AllSlots item = (slot : SlotFields) → Contains item.choices slot → IsSlot slot
 
--- the slots of all of them are open to slots alone
+-- each of these items is open to slots alone
 abbrev pub AreOpen : List PlanItem → Type 0
 AreOpen [] = Unit {0}
 AreOpen (item ∷ items) = AllSlots item × AreOpen items
 
--- what is placed among them is in slots
+-- the places of these items are in slots
 pub open-in_slots : (items : List PlanItem) (placed : List Placed) → AreOpen items
     → AreItemSlots items placed → AreInSlots placed
 unfolding AreItemSlots
@@ -223,9 +223,9 @@ module _ (window : ℕ) (choices : HeaderFields → List SlotFields) (slots : Ar
         (open-whole parts plan.lead_ins are plan.alone) plan.whole.slots;
   }
 
--- ---- as they were asked for
+-- ---- as requested
 
--- what is planned of parts put together as the planner takes them is a plan of the parts
+-- a plan made for parts concatenated as the planner takes them is a plan of the parts
 pub asked-plans : PlansAreOfParts
 asked-plans c choices parts placed fit plan =
     subst (λ window. IsPlan window choices (map (map need_of) parts) placed) fit.window

@@ -1,5 +1,5 @@
 -- Frames in the slots and with the main_data_begin of any plan that can be written frame by
--- frame: they can be laid, and are what they were. So are those of parts as they were planned.
+-- frame: they can be laid, and are otherwise unchanged. So are those of parts as planned.
 use Rattle.std.proofs.Common.{ap, ap₂, arith, Bool, cond, false, flat_map, length, List, map, refl}
 use Rattle.std.proofs.Common.{subst, sym, true, ℕ, [], ◌+◌, ◌-◌, ◌<◌, ◌∙◌, ◌∷◌, ◌≡◌, ◌≤◌}
 use Rattle.frame_header.specs.Fields.{ClassFields, HeaderFields, IsHeader, SlotFields}
@@ -46,7 +46,7 @@ next-needs false need needs f fs are = are.2
 
 -- ---- all of them
 
--- from a place on after which there are so many free bytes within reach
+-- from a place on after which `reach` free bytes are within reach
 laid-fitting : (c : ClassFields) (needs : List Need) (fs : List Frame) (placed : List Placed)
     (reach end before : ℕ) → AreStreamEntries c fs → AreNeedsOf needs fs → AreInSlots placed
     → FitsFromReach (window_of c.version) reach needs placed → reach ≤ window_of c.version
@@ -120,14 +120,14 @@ some-by window reach (need ∷ needs) (f ∷ fs) [] are fits some = absurd fits
 some-by window reach (need ∷ needs) (f ∷ fs) (p ∷ placed) are fits some =
     omega (arith, ap length (relaid-cons p placed f fs))
 
--- ---- of a part
+-- ---- the frames of a part
 
 -- the frames have the slots of their places
 pub fitting-slots : FittingSlots
 fitting-slots c part placed is fitting = slots-by (window_of c.version) 0 (part_needs part)
     (part_frames part) placed (part-needs c part is) fitting.fits
 
--- so the frames can be laid, and are those that were given with the lead-ins of the plan
+-- the frames of a part can be laid, and their stream is the part's with the lead-ins of the plan
 pub fitting-laid : (c : ClassFields) (part : FilePart) (placed : List Placed) → IsPart c part
     → IsFittingPlan (window_of c.version) (part_needs part) placed → AreLaidFrom c 0 0
     (relaid_frames (part_frames part) placed)
@@ -180,7 +180,7 @@ pub fitting-files-hold : FittingFilesHold
 fitting-files-hold c part placed is fitting = file-holds c (relaid_frames (part_frames part) placed)
     (stream_with_lead_ins placed (part_stream part)) (fitting_as c part placed is fitting)
 
--- and no frame of it is lost, whether or not its head is set apart
+-- no frame of a file of them is lost, whether or not its head is set apart
 pub fitting-loses-none : (c : ClassFields) (part : FilePart) (placed : List Placed) → IsPart c part
     → IsFittingPlan (window_of c.version) (part_needs part) placed
     → (front : List (List ℕ)) (first : HeaderFields) (info : Info) (back : List (List ℕ))
@@ -190,9 +190,9 @@ fitting-loses-none c part placed is fitting =
     file-loses-none c (relaid_frames (part_frames part) placed)
     (stream_with_lead_ins placed (part_stream part)) (fitting_as c part placed is fitting)
 
--- ---- of parts, as they were planned
+-- ---- the frames of parts, as planned
 
--- frames in the places of their plan can be laid, and are those that were given
+-- frames in the places of their plan can be laid, and are otherwise unchanged
 pub entries-hold : EntriesHold
 entries-hold c choices parts placed some are slots plan =
     let window = window_of c.version in
@@ -209,21 +209,21 @@ entries-hold c choices parts placed some are slots plan =
       stream_is = laid.stream_is ∙ ap (stream_with_lead_ins placed) (parts-stream c parts are);
     }
 
--- so the file of them holds their stream
+-- the file of them holds their stream
 pub files-hold : FilesHold
 files-hold c choices parts placed some are slots plan = file-holds c
     (relaid_frames (flat_map part_frames parts) placed)
     (stream_with_lead_ins placed (flat_map part_stream parts))
     (entries-hold c choices parts placed some are slots plan)
 
--- and no frame of it is lost
+-- no frame of the file of them is lost
 pub planned-frames-stay : PlannedFramesStay
 planned-frames-stay c choices parts placed some are slots plan =
     file-loses-none c (relaid_frames (flat_map part_frames parts) placed)
     (stream_with_lead_ins placed
     (flat_map part_stream parts)) (entries-hold c choices parts placed some are slots plan)
 
--- frames that were laid have the slots of their plan
+-- frames laid by a plan have the slots of the plan
 pub slots-planned : SlotsArePlanned
 slots-planned c choices parts placed are slots plan =
     slots-by (window_of c.version) 0 (flat_map (λ (part : List Need). part) (map part_needs parts))

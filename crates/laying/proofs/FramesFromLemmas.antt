@@ -1,4 +1,4 @@
--- The frames of an input from one on, in the first places of a plan.
+-- The frames of an input from number `from` on, in the first places of a plan.
 use Rattle.std.proofs.Common.{ap, append-nil, ap₂, arith, drop, length, List, refl, slice_range}
 use Rattle.std.proofs.Common.{subst, sym, take, ℕ, [], ◌++◌, ◌-◌, ◌∙◌, ◌≡◌, ◌≤◌}
 use Rattle.std.proofs.lemmas.List.{length-drop, length-map, length-take-le}
@@ -14,7 +14,7 @@ use Rattle.outside.specs.{Files.Files, declared.pass.PassFault.PassFault}
 use Rattle.slot_plan.specs.declared.needs.{Need.Need, Placed.Placed}
 use Rattle.sync_survey.specs.Faults.{SurveyFields}
 
--- the frames from one on in these places (`planned_frames`, by the survey)
+-- the frames from number `from` on in these places (`planned_frames`, from the survey)
 abbrev planned : ℕ → SurveyFields → List Placed → List ℕ → List Frame
 planned from s placed file =
     relaid_frames (slice_range (all_frames file s) from (length s.frames)) placed
@@ -31,13 +31,13 @@ range-rest : {X : Type 0} (xs : List X) (from to : ℕ) → to ≡ length xs
 range-rest xs from to all =
     length-take-le (to - from) (drop from xs) (omega (arith, all, length-drop from xs))
 
--- from one frame on, a file has all frames of its survey but those before it
+-- from number `from` on, a file has all frames of its survey except those before it
 pub from-length : (file : List ℕ) (from : ℕ) (s : SurveyFields)
     → length (slice_range (all_frames file s) from (length s.frames)) ≡ length s.frames - from
 from-length file from s =
     range-rest (all_frames file s) from (length s.frames) (sym (all-length file s))
 
--- and there are as many needs
+-- there are as many needs
 pub needs-length : (from : ℕ) (s : SurveyFields)
     → length (needs_from s from (length s.frames)) ≡ length s.frames - from
 needs-length from s =
@@ -63,7 +63,7 @@ reach-own reach from s placed =
     ap (λ n. last_reach window reach needs (own_places n placed)) (sym (needs-length from s))
     ∙ last-own window reach needs placed
 
--- where they are told, they begin within reach
+-- if the file's content is known, the frames begin within reach
 pub from-begins : (file : List ℕ) (from : ℕ) (s : SurveyFields) (placed : List Placed)
     (reach free : ℕ) (more : List Frame) → CanBeRelaid file s → reach ≤ free
     → FitsFromReach (window_of s.class.version) reach (needs_from s from (length s.frames))
@@ -82,7 +82,7 @@ from-begins file from s placed reach free more has within fits begins =
     (subst (λ n. BeginsWithin n (all_frame_data more))
     (sym (reach-own reach from s placed)) begins)))
 
--- ---- the same, by how many frames and places there are
+-- ---- the same, by the number of frames and places
 
 module _ (s : SurveyFields) (placed : List Placed) (from n k : ℕ) (all : n ≡ length s.frames)
     (own : k ≡ places_for (n - from) placed) where
@@ -92,7 +92,7 @@ module _ (s : SurveyFields) (placed : List Placed) (from n k : ℕ) (all : n ≡
   needs-are : needs_from s from n ≡ needs_from s from (length s.frames)
   needs-are = ap (λ m. needs_from s from m) all
 
-  -- frames that fit in their own places fit when these are counted so
+  -- frames that fit in their own places fit when the places are counted
   pub fits-from : (window reach : ℕ)
       → FitsFromReach window reach (needs_from s from (length s.frames))
       (own_places (length s.frames - from) placed)
@@ -128,7 +128,7 @@ module _ (s : SurveyFields) (placed : List Placed) (from n k : ℕ) (all : n ≡
         lays_as input output made (planned from s placed) old new before after
         (λ file holds. made-is file)
 
-    -- and laying a part of these is laying a part of those
+    -- laying a part of these is laying a part of those
     pub part-from : (reach : ℕ) {fault : PassFault}
         → LaysPart input output made (last reach) old before after fault
         → LaysPart input output (planned from s placed) (reached reach from s placed)

@@ -1,4 +1,4 @@
--- The frames of parts, what a plan is given of them, and the blocks of a file.
+-- The frames of parts, what a plan is given for them, and the blocks of a file.
 use Rattle.std.proofs.Common.{ap, ap₂, arith, Bool, cond, drop, false, filter, flat_map, length}
 use Rattle.std.proofs.Common.{length-append, length-drop, List, map, not, refl, slice_range, subst}
 use Rattle.std.proofs.Common.{suc, sym, take, true, zero, ℕ, [], ◌++◌, ◌+◌, ◌-◌, ◌<◌, ◌∙◌, ◌∷◌, ◌≡◌}
@@ -51,7 +51,7 @@ range-map : {X Y : Type 0} (f : X → Y) (from to : ℕ) (xs : List X)
 range-map f from to xs =
     sym (ap (take (to - from)) (drop-map f from xs) ∙ take-map f (to - from) (drop from xs))
 
--- ---- what a plan is given of the frames of a file
+-- ---- what a plan is given for the frames of a file
 
 bytes_by : (lost : Bool) (s : Side)
     → cond lost 0 (payload_bytes s) ≡ payload_bytes (cond lost no_side s)
@@ -82,7 +82,7 @@ part-entries c p is =
     (entries-drop c p.from (all_frames p.file p.survey)
     (subst (λ d. AreStreamEntries d (all_frames p.file p.survey)) is.class are.entries))
 
--- those of some frames are of these
+-- the needs of a range of frames are the needs of their rows
 pub needs-range : (file : List ℕ) (s : SurveyFields) (from to : ℕ) → CanBeRelaid file s → AreNeedsOf
     (map need_of (slice_range s.frames from to)) (slice_range (all_frames file s) from to)
 needs-range file s from to has =
@@ -93,12 +93,12 @@ needs-range file s from to has =
     (needs-drop from (map need_of s.frames) (all_frames file s)
     (needs-all s.class file s are.entries)))
 
--- a plan is given their headers and the lengths of their main data
+-- a plan is given the headers and the lengths of the main data of a part's frames
 pub part-needs : (c : ClassFields) (p : FilePart) → IsPart c p
     → AreNeedsOf (part_needs p) (part_frames p)
 part-needs c p is = needs-range p.file p.survey p.from p.to is.has
 
--- and their stream is that of the part
+-- the stream of a part's frames is the stream of the part
 pub part-stream : (c : ClassFields) (p : FilePart) → IsPart c p
     → map stream_entry (part_frames p) ≡ part_stream p
 part-stream c p is =
@@ -127,7 +127,7 @@ needs-append (need ∷ needs) more (f ∷ fs) gs front back =
     (front.0, front.1, needs-append needs more fs gs front.2 back)
 needs-append _ more _ gs front back = absurd front
 
--- a plan of all parts is given their headers and the lengths of their main data
+-- a plan of all parts is given the headers and the lengths of the main data of their frames
 pub parts-needs : (c : ClassFields) (parts : List FilePart) → AreParts c parts → AreNeedsOf
     (flat_map (λ (part : List Need). part) (map part_needs parts)) (flat_map part_frames parts)
 parts-needs c [] are = tt
@@ -151,7 +151,7 @@ parts-headers c (p ∷ parts) are = (
   parts-headers c parts are.1,
 )
 
--- the stream of all parts is theirs, one after the other
+-- the stream of all parts is their streams, concatenated
 pub parts-stream : (c : ClassFields) (parts : List FilePart) → AreParts c parts
     → map stream_entry (flat_map part_frames parts) ≡ flat_map part_stream parts
 parts-stream c [] are = refl
@@ -166,7 +166,7 @@ all-length file s =
     length-map (enumerate_from 0 s.frames) (λ (p : ℕ × Row). survey_frame file s p.0 p.1)
     ∙ length-enumerate_from 0 s.frames
 
--- a part has a frame
+-- a part has at least one frame
 pub part-some : (c : ClassFields) (p : FilePart) → IsPart c p → 0 < length (part_frames p)
 part-some c p is = omega (
   arith,
@@ -177,7 +177,7 @@ part-some c p is = omega (
   length-take (p.to - p.from) (drop p.from (all_frames p.file p.survey)),
 )
 
--- so have parts, of which there is one at least
+-- parts have at least one frame, if there is a part
 pub parts-some : (c : ClassFields) (parts : List FilePart) → 1 ≤ length parts → AreParts c parts
     → 0 < length (flat_map part_frames parts)
 parts-some c [] some are = absurd (omega (arith, some))
@@ -198,7 +198,7 @@ kept-blocks keep file [] are = tt
 kept-blocks keep file (p ∷ ps) are =
     kept_cons (keep p) file p (filter keep ps) are.0 (kept-blocks keep file ps are.1)
 
--- the blocks of the inputs are those of the file that is made, each at its end
+-- the blocks of a file that go before the frames, and all others, are blocks by their bytes
 pub blocks-kept : BlocksAreKept
 blocks-kept file s has = (
   kept-blocks (goes_in_front s) file s.blocks has.blocks,

@@ -1,5 +1,5 @@
--- The Info frame: its bytes are an item, its text is
--- after its side information, and how long its area is.
+-- The Info frame: its bytes are an item, its text is after
+-- its side information, and the length of its area is known.
 use Rattle.std.proofs.Common.{ap, append_assoc, arith, Bool, codes, cond, drop, false, get_or}
 use Rattle.std.proofs.Common.{IfSome, length, length-append, List, None, Option, refl, replicate}
 use Rattle.std.proofs.Common.{Some, suc, sym, take, true, ℕ, [], ◌++◌, ◌+◌, ◌-◌, ◌<◌, ◌||◌, ◌∙◌}
@@ -150,7 +150,7 @@ module _ (first : HeaderFields) (info : Info) (header : IsHeader first)
         length-replicate {A = ℕ} zeros 0,
       )
 
-  -- and it is as long as its header says
+  -- it is as long as its header says
   pub length-info_frame : length (info_frame first info) ≡ length_of (class_of h) h.slot
   length-info_frame =
       omega (

@@ -11,7 +11,7 @@ use Rattle.info_header.specs.FileInfo.{all_bytes, frames_length, has_one_rate, i
 use Rattle.info_header.specs.{FileInfo.IsInfoOver, Info.seek_table_entry, declared.fields.Info.Info}
 use Rattle.laying.specs.Written.{info_for, slot_in, table_entry}
 
--- ---- what counts is the slots alone
+-- ---- only the slots count
 
 abbrev same : SlotFields → SlotFields
 same s = s

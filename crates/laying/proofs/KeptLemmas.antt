@@ -21,13 +21,13 @@ pub quality-none : (file : List ℕ) (head : Option Head) → head ≡ None
 unfolding head_info
 quality-none file head is = sym (ap (λ h. (head_info file h).quality) is ∙ none-quality)
 
--- and an extension of zeros
+-- a file without a head has an extension of zeros
 pub extension-none : (file : List ℕ) (head : Option Head) → head ≡ None
     → replicate 36 0 ≡ (head_info file head).extension
 unfolding head_info
 extension-none file head is = sym (ap (λ h. (head_info file h).extension) is ∙ none-extension)
 
--- the fields of the head that is there, from the bytes of its frame
+-- the fields of a head that is there are read from the bytes of its frame
 pub info-some : (file frame : List ℕ) (all : Option Head) (head : Head) → all ≡ Some head
     → frame ≡ take (length_of (class_of head.header) head.header.slot) (drop head.offset file)
     → info_in (drop head.text_at frame) ≡ head_info file all

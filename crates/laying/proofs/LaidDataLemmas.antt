@@ -1,4 +1,4 @@
--- Main data laid into areas: how many bytes they are together, and where each frame's are.
+-- Main data laid into areas: their length in bytes together, and where each frame's are.
 use Rattle.std.proofs.Common.{ap, append_assoc, arith, drop, length, length-append, List, None}
 use Rattle.std.proofs.Common.{refl, slice_get, Some, subst, suc, sym, take, zero, ℕ, [], ◌++◌, ◌+◌}
 use Rattle.std.proofs.{Common.{◌-◌, ◌∙◌, ◌∷◌, ◌≡◌, ◌≤◌}, lemmas.List.{drop-drop, drop_at}}
@@ -6,7 +6,7 @@ use Rattle.frame_writer.proofs.LaidLemmas.{length-zeros}
 use Rattle.frame_writer.specs.Laid.{areas_end, CanDataBeLaidFrom, data_end, frame_data_end}
 use Rattle.frame_writer.specs.Laid.{frame_data_start, FrameData, laid_data_from, zeros}
 
--- ---- all of them
+-- ---- the main data of all frames
 
 -- they reach from the end of the main data before them to the end of the areas
 pub length-laid : (end area_start : ℕ) (ps : List FrameData) → end ≤ area_start
@@ -25,9 +25,9 @@ length-laid end area_start (p ∷ ps) within fits =
       length-laid (frame_data_end area_start p) (area_start + p.area) ps fits.1 fits.2,
     )
 
--- ---- one frame's
+-- ---- the main data of one frame
 
--- Those of the frames before it end before they begin, and they end within the frame's own area.
+-- The main data of the frames before it end before its own begin, and these end in its own area.
 pub record IsWellLaid (end area_start : ℕ) (ps : List FrameData) (i : ℕ)
     (p : FrameData) : Type 0 where
   pub later : end ≤ data_end end area_start (take i ps)
@@ -52,7 +52,7 @@ well-laid end area_start (q ∷ ps) (suc i) p fits is =
       ends = behind.ends;
     }
 
--- after frame i the main data end that were laid last
+-- the main data laid up to frame i end where its own do
 pub data_end-next : (end area_start : ℕ) (ps : List FrameData) (i : ℕ) (p : FrameData)
     → slice_get ps i ≡ Some p → data_end end area_start (take (suc i) ps)
     ≡ frame_data_end (areas_end area_start (take i ps)) p
@@ -62,14 +62,14 @@ data_end-next end area_start (q ∷ ps) zero p is = let same : q ≡ p = cc in
 data_end-next end area_start (q ∷ ps) (suc i) p is =
     data_end-next (frame_data_end area_start q) (area_start + q.area) ps i p is
 
--- nothing is after the last
+-- nothing comes after the last frame
 pub take-last : (ps : List FrameData) (i : ℕ) → slice_get ps i ≡ None → take (suc i) ps ≡ take i ps
 take-last [] zero is = refl
 take-last [] (suc i) is = refl
 take-last (q ∷ ps) zero is = absurd cc
 take-last (q ∷ ps) (suc i) is = ap (λ (rest : List FrameData). q ∷ rest) (take-last ps i is)
 
--- its main data are where its main_data_begin says
+-- a frame's main data are where its main_data_begin says
 pub laid-there : (end area_start : ℕ) (ps : List FrameData) (i : ℕ) (p : FrameData)
     → CanDataBeLaidFrom end area_start ps → slice_get ps i ≡ Some p → (rest : List ℕ)
     × (drop (frame_data_start (areas_end area_start (take i ps)) p - end)

@@ -1,5 +1,5 @@
--- Such a file is well-formed, its survey tells what was put
--- into it, and its stream is the frames that were given.
+-- A laid file is well-formed, its survey finds what
+-- was put into it, and its stream is the given frames.
 use Rattle.std.proofs.Common.{ap, ap₂, arith, drop, false, length, List, map, Ok, Option}
 use Rattle.std.proofs.Common.{option_map, refl, slice_get, Some, subst, suc, sym, take, zero}
 use Rattle.std.proofs.Common.{zero-add, ℕ, [], ◌++◌, ◌+◌, ◌-◌, ◌∙◌, ◌∷◌, ◌≡◌, ◌≤◌}
@@ -63,7 +63,7 @@ entry_get c (g ∷ fs) (suc i) f entries is = entry_get c fs i f entries.1 is
 abbrev pub row_at : ℕ → Frame → Row
 row_at at f = record { offset = at; header = f.kept.header; side = f.kept.side; lost = false }
 
--- the main data of frame i are those that were given
+-- the main data of frame i are the given ones
 abbrev pub HasPayload : List ℕ → Option Head → List Row → ℕ → Frame → Type 0
 HasPayload main head rows i f = (at : ℕ) → slice_get rows i ≡ Some (row_at at f)
     → payload_at main (start_of_data (place head rows i) (row_at at f)) f.kept.side
@@ -93,7 +93,7 @@ frames_by main head rows n at (f ∷ fs) has there =
     (λ i g is. subst (λ m. HasPayload main head rows m g) (omega arith) (has (suc i) g is))
     (λ i r is. ap (slice_get rows) (omega arith) ∙ there (suc i) r is))
 
--- frames whose main data are where their side information says are those that were given
+-- frames whose main data are where their side information says are the given frames
 pub entries_by : (main : List ℕ) (head : Option Head) (at : ℕ) (fs : List Frame)
     → ((i : ℕ) (f : Frame) → slice_get fs i ≡ Some f → HasPayload main head (rows_from at fs) i f)
     → stream_frames main head (rows_from at fs) ≡ map stream_entry fs
@@ -170,7 +170,7 @@ module _ (c : ClassFields) (front : List (List ℕ)) (first : HeaderFields) (inf
         length = length file;
       }
 
-  -- its survey is the one that tells what was put into it
+  -- its survey finds what was put into it
   pub survey-is : (allowed : ℕ) → length frames ≤ allowed
       → survey_fields file allowed ≡ Ok (laid_fields front first info frames back)
   survey-is allowed few = surveyed-told file allowed begin (read allowed few) ∙ ap Ok told
@@ -221,7 +221,7 @@ module _ (c : ClassFields) (front : List (List ℕ)) (first : HeaderFields) (inf
         (near-same head rows (laid-near file c at frames area_data is.entries stand is.laid));
   }
 
-  -- every survey of it is the same
+  -- every survey of it is equal
   none_by : (allowed : ℕ) (s : SurveyFields) → survey_fields file allowed ≡ Ok s → HasNoneLost s
   none_by allowed s e =
       let one : Ok s ≡ Ok (laid_fields front first info frames back) =
@@ -234,15 +234,15 @@ module _ (c : ClassFields) (front : List (List ℕ)) (first : HeaderFields) (inf
   pub loses-none : LosesNoFrame file
   loses-none = record { well_formed = holds.well_formed; none = none_by }
 
--- no frame of such a file is lost
+-- no frame of a laid file is lost
 pub laid-frames-stay : LaidFramesStay
 laid-frames-stay = loses-none
 
--- it holds the stream of its frames
+-- a laid file holds the stream of its frames
 pub laid-stream : LaidStream
 laid-stream = holds
 
--- and has the survey that tells what was put into it
+-- the survey of a laid file finds what was put into it
 pub laid-survey : LaidSurvey
 laid-survey c front first info frames back allowed is few =
     survey-is c front first info frames back is allowed few

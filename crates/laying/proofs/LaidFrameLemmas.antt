@@ -1,5 +1,5 @@
 -- Frames into whose areas bytes were laid: the items that they
--- are, and what is read back of them where they are in a file.
+-- are, and what is read back from them where they are in a file.
 use Rattle.std.proofs.Common.{ap, append_assoc, ap₂, arith, Bool, drop, false, flat_map, length}
 use Rattle.std.proofs.Common.{length-append, length-drop, List, map, not, refl, slice_get, Some}
 use Rattle.std.proofs.Common.{subst, suc, sum_by, sym, take, take-append-drop, true, zero, ℕ, []}
@@ -52,13 +52,13 @@ framed-whole c (f ∷ fs) bytes entries many =
       framed-whole c fs (drop n bytes) entries.1 (omega (arith, many, length-drop n bytes)),
     )
 
--- the frames one after the other, the first of them at an offset
+-- the frames placed end to end, the first of them at an offset
 abbrev pub frames_at : ℕ → List Frame → List PlacedFrame
 frames_at at [] = []
 frames_at at (f ∷ fs) =
     record { offset = at; header = f.kept.header } ∷ frames_at (at + frame_length f) fs
 
--- among them and blocks after them they are the frames
+-- of frames and blocks placed end to end, the frames are these
 pub frames-placed : (at : ℕ) (fs : List Frame) (blocks : List (List ℕ)) (are : AreBlocks blocks)
     → frames_of (placed at (frame_items fs ++ block_items blocks are)) ≡ frames_at at fs
 frames-placed at [] blocks are = blocks-no_frame at blocks are
@@ -66,7 +66,7 @@ frames-placed at (f ∷ fs) blocks are =
     ap (λ (l : List PlacedFrame). record { offset = at; header = f.kept.header } ∷ l)
     (frames-placed (at + frame_length f) fs blocks are)
 
--- and those are the blocks
+-- of frames and blocks placed end to end, the blocks are these
 pub blocks-behind : (c : ClassFields) (at : ℕ) (fs : List Frame) (bytes : List ℕ)
     (blocks : List (List ℕ)) (are : AreBlocks blocks) → AreStreamEntries c fs
     → areas_length (fields_of_frames fs)
@@ -94,7 +94,7 @@ blocks-behind c at (f ∷ fs) bytes blocks are entries many =
 
 -- ---- where they are in a file
 
--- from an offset on the frames follow one after the other, and their areas are these bytes
+-- from an offset on the frames are consecutive, and their areas are these bytes
 abbrev pub StandFrom : List ℕ → ℕ → List Frame → List ℕ → Type 0
 StandFrom file at [] bytes = bytes ≡ []
 StandFrom file at (f ∷ fs) bytes =
@@ -108,7 +108,7 @@ nothing : (bytes : List ℕ) → 0 ≡ length bytes → bytes ≡ []
 nothing [] none = refl
 nothing (b ∷ bytes) none = absurd (omega (arith, none))
 
--- where their bytes are in a file, each of them is there
+-- if their bytes are in a file at an offset, the frames are consecutive from there on
 pub framed-stand : (c : ClassFields) (file : List ℕ) (at : ℕ) (fs : List Frame)
     (bytes behind : List ℕ) → AreStreamEntries c fs
     → areas_length (fields_of_frames fs) ≡ length bytes
@@ -137,7 +137,7 @@ framed-stand c file at (f ∷ fs) bytes behind entries many is =
           (drop n bytes) behind entries.1 (omega (arith, many, length-drop n bytes)) next,
     )
 
--- their rows are those that the frames were given
+-- their rows are those of the given frames
 pub rows-there : (c : ClassFields) (file : List ℕ) (at : ℕ) (fs : List Frame) (bytes : List ℕ)
     → AreStreamEntries c fs → StandFrom file at fs bytes
     → rows_of file (frames_at at fs) ≡ rows_from at fs
@@ -152,7 +152,7 @@ rows-there c file at (f ∷ fs) bytes entries stand =
     record { offset = at; header = k.header; side = s; lost = false } ∷ rows) side
     (rows-there c file (at + frame_length f) fs (drop n bytes) entries.1 stand.3)
 
--- their areas, one after the other, have the bytes that were laid
+-- their areas, concatenated, are the bytes that were laid
 pub areas-there : (c : ClassFields) (file : List ℕ) (at : ℕ) (fs : List Frame) (bytes : List ℕ)
     → AreStreamEntries c fs → StandFrom file at fs bytes
     → flat_map (λ (r : Row). area_bytes file r.offset r.header) (rows_from at fs) ≡ bytes
@@ -185,7 +185,7 @@ word_by : (b : Bool) (said right : ℕ) → (b ≡ true → said ≡ right)
 word_by true said right is = ap not (eq-eqb said right (is refl))
 word_by false said right is = refl
 
--- each row of them is that of a frame there
+-- each of their rows is the row of a frame there
 pub row-get : (c : ClassFields) (file : List ℕ) (at : ℕ) (fs : List Frame) (bytes : List ℕ) (i : ℕ)
     (r : Row) → AreStreamEntries c fs → StandFrom file at fs bytes
     → slice_get (rows_from at fs) i ≡ Some r
@@ -214,7 +214,7 @@ row-get c file at (f ∷ fs) bytes (suc i) r entries stand is =
     row-get c file (at + frame_length f) fs
     (drop (frame_area f.kept) bytes) i r entries.1 stand.3 is
 
--- where the area of frame i begins
+-- the area of frame i begins after the areas of the frames before it
 pub areas-sum : (at area_start : ℕ) (fs : List Frame) (i : ℕ)
     → area_start + sum_by (λ (r : Row). own_area r.header) (take i (rows_from at fs))
     ≡ areas_end area_start (take i (all_frame_data fs))
@@ -230,7 +230,7 @@ areas-sum at area_start (f ∷ fs) (suc i) =
       areas-sum (at + frame_length f) (area_start + frame_area f.kept) fs i,
     )
 
--- the last area ends as far on as all areas together are long
+-- the last area ends after the length of all areas together
 pub areas-all : (area_start : ℕ) (fs : List Frame)
     → areas_end area_start (all_frame_data fs) ≡ area_start + areas_length (fields_of_frames fs)
 areas-all area_start [] = omega arith
@@ -243,7 +243,7 @@ rows-length at (f ∷ fs) = ap suc (rows-length (at + frame_length f) fs)
 
 -- ---- the class
 
--- a class is the same as itself
+-- a class equals itself
 pub same-class : (c : ClassFields) → same_class c c ≡ true
 unfolding same_class
 same-class c = rw (

@@ -1,4 +1,5 @@
--- Frames in the slots of any plan by which they can be laid: the file of them holds their stream.
+-- Frames in the slots of any plan that can be written
+-- frame by frame: the file of them holds their stream.
 use Rattle.std.proofs.Common.{append_assoc, arith, length, List, map, Option, refl, slice_get}
 use Rattle.std.proofs.Common.{slice_range, Some, subst, suc, sym, zero, ℕ, [], ◌++◌, ◌+◌, ◌<◌, ◌∙◌}
 use Rattle.std.proofs.{Common.{◌∷◌, ◌≡◌, ◌≤◌}, lemmas.List.length-map}
@@ -19,7 +20,7 @@ use Rattle.laying.specs.declared.selected.Selected.{Selected}
 use Rattle.slot_plan.specs.{Parts.AreNeedsOfClass, declared.needs.Placed.Placed}
 use Rattle.sync_survey.specs.{Faults.{HoldsStream, SurveyFields}, Row.Row}
 
--- a place among the rows has a row
+-- each place within the rows has a row
 pub first-there : (rows : List Row) (i : ℕ) → i < length rows
     → (first : Row) × (slice_get rows i ≡ Some first)
 first-there [] i within = absurd (omega arith)
@@ -91,7 +92,7 @@ module _ (laid : LaidPart) (file : List ℕ) (s : SurveyFields) (is : CanBeRelai
         (front_blocks file s) first.header (info_laid laid file s)
         (back_blocks file s) kept.0 first-header first-class (sizes extension) kept.1
 
-  -- it is well-formed, and that is its stream
+  -- the file is well-formed, and that is its stream
   pub laid-holds : length laid.extension ≡ 36
       → HoldsStream (file_laid laid file s) (stream_laid laid file s)
   laid-holds extension =
@@ -100,7 +101,7 @@ module _ (laid : LaidPart) (file : List ℕ) (s : SurveyFields) (is : CanBeRelai
       (stream_laid laid file s))
       (sym found.1) (first-holds found.0 found.1 extension)
 
-  -- no frame of it is lost
+  -- no frame of the file is lost
   pub laid-loses-none : length laid.extension ≡ 36 → LosesNoFrame (file_laid laid file s)
   laid-loses-none extension =
       let found = first-there s.frames laid.from (omega (arith, some, within)) in

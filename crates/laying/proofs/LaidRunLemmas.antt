@@ -1,4 +1,4 @@
--- The runs of such a file, where its stream starts, and the head of it.
+-- The runs of a laid file, where its stream starts, and its head.
 use Rattle.std.proofs.Common.{ap, append-nil, ap₂, arith, drop, length, length-append, List, None}
 use Rattle.std.proofs.Common.{Ok, Option, option_map, refl, Some, sym, take, true, ℕ, [], ◌++◌, ◌+◌}
 use Rattle.std.proofs.{Common.{◌<◌, ◌∙◌, ◌∷◌, ◌≡◌, ◌≤◌}, lemmas.Bool.le-leb}
@@ -28,7 +28,7 @@ use Rattle.sync_survey.specs.declared.items.Item.TheVariants.{End, Frame as Fram
 use Rattle.sync_survey.specs.declared.places.{Head.Head, Piece.Piece, PlacedFrame.PlacedFrame}
 use Rattle.sync_survey.specs.declared.{places.Start.Start, runs.Region.TheVariants.{Front, Stream}}
 
--- the front of a file ends where the run of it stops
+-- the front of a file ends where its run stops
 pub front_end-is : (file : List ℕ) → (item_run Front file 0).stop ≡ front_end_of file
 unfolding front_end_of
 front_end-is file = refl
@@ -54,7 +54,7 @@ head_by : (p : PlacedFrame) (at : ℕ) (o : Option ℕ) → o ≡ Some at
     → option_map (λ n. head_with p n) o ≡ Some (head_with p at)
 head_by p at o is = ap (option_map (λ n. head_with p n)) is
 
--- frames that are some are no fault at the end of the file
+-- with at least one frame there is no fault at the end of the file
 pub some_frames : (file : List ℕ) (at : ℕ) (fs : List Frame) → 0 < length fs
     → end_fault file (frames_at at fs) None ≡ None
 some_frames file at [] some = absurd (omega (arith, some))
@@ -201,7 +201,7 @@ module _ (c : ClassFields) (front : List (List ℕ)) (first : HeaderFields) (inf
       ∙ frames-placed (from + head_size) frames back is.blocks_behind
       ∙ ap (λ n. frames_at n frames) (sym place-is)
 
-  -- the blocks are those in front and those at the back
+  -- the blocks are those before the frames and those after them
   pub blocks-are : all_blocks file start ≡ blocks_from 0 front
       ++ blocks_from (frames_offset front first info + length (bytes_of_frames frames)) back
   blocks-are =

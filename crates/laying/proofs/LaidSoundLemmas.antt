@@ -1,4 +1,4 @@
--- No frame of such a file is at fault, and none is lost.
+-- No frame of a laid file is at fault, and none is lost.
 use Rattle.std.proofs.Common.{ap, ap₂, arith, Bool, cond, drop, false, length, List, map, None, not}
 use Rattle.std.proofs.Common.{Option, option_map, refl, slice_get, Some, subst, suc, sym, take}
 use Rattle.std.proofs.Common.{true, zero, zero-add, ℕ, [], ◌+◌, ◌<◌, ◌==◌, ◌||◌, ◌∙◌, ◌∷◌, ◌≡◌, ◌≤◌}
@@ -25,8 +25,8 @@ either_most : (b : Bool) (m n most : ℕ) → m ≤ most → n ≤ most → cond
 either_most true m n most first second = first
 either_most false m n most first second = second
 
--- the place of the own area is after those of the head and of the frames
--- before it; main data were laid from the end of the head's area on
+-- the place of the own area is after the areas of the head and of the
+-- frames before it; main data were laid from the end of the head's area on
 module _ (file : List ℕ) (c : ClassFields) (head : ℕ) (end area_start : ℕ) (f : Frame) (r : Row)
     (row : IsRowOf file c f r)
     (begins : end + f.kept.side.main_data_begin ≤ area_start)
@@ -46,7 +46,7 @@ module _ (file : List ℕ) (c : ClassFields) (head : ℕ) (end area_start : ℕ)
   pub reaches : points_too_far (head + area_start) r ≡ false
   reaches = le-ltb _ _ (omega (arith, begin-is, begins))
 
-  -- and they are all there
+  -- its main data are all there
   pub has_data : (ended : ℕ) → lacks_data (head + area_start) ended r ≡ false
   has_data ended = and_right (ended == 0) (points_too_far (head + area_start) r) reaches
 
@@ -124,7 +124,7 @@ module _ (file : List ℕ) (c : ClassFields) (head : Option Head) (at : ℕ) (fs
             well-laid 0 0 (all_frame_data fs) i (frame_data found.0) fits piece;
       }
 
-  -- the place of a frame is after the head's area and those before it
+  -- the place of a frame is after the head's area and the areas of the frames before it
   pub place-there : (i : ℕ) → place head rows i ≡ head_area head + area_start i
   unfolding place
   place-there i = ap (λ n. head_area head + n) (sym (zero-add _) ∙ areas-sum at 0 fs i)
@@ -203,7 +203,7 @@ module _ (file : List ℕ) (c : ClassFields) (head : Option Head) (at : ℕ) (fs
             (area_start i) here.frame r here.row here.laid.begins here.laid.ends,
       )
 
--- the main data of each frame begin within the areas of the frames before it, the head's left out
+-- the main data of each frame begin within the areas of the frames before it, without the head's
 pub laid-near : (file : List ℕ) (c : ClassFields) (at : ℕ) (fs : List Frame) (area_data : List ℕ)
     → AreStreamEntries c fs → StandFrom file at fs area_data → CanDataBeLaid (all_frame_data fs)
     → AreNear (rows_from at fs)

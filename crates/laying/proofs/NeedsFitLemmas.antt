@@ -1,8 +1,8 @@
 -- Every part of a stream fits. In the file each frame's main data don't overlap those
--- before, end within its own area and begin at most the window before it. So at least
--- those bytes are free before each frame that are after the main data before it, as far
--- as the window shows them; also if silent and lost frames, which don't change where
--- main data end, are between. After a whole window of free bytes no frame has fewer.
+-- before, end within its own area and begin at most the window before it. So before each
+-- frame at least as many bytes are free as there are after the main data before it, up
+-- to the window. This is true also with silent and lost frames in between, which don't
+-- change where main data end. After a whole window of free bytes no frame has fewer.
 use Rattle.std.proofs.Common.{ap, arith, Bool, cond, drop, false, List, map, None, Option, refl}
 use Rattle.std.proofs.Common.{slice_get, slice_range, Some, subst, suc, sum_by, sym, take, true}
 use Rattle.std.proofs.Common.{zero, ℕ, [], ◌+◌, ◌-◌, ◌||◌, ◌∙◌, ◌∷◌, ◌≡◌, ◌≤◌}
@@ -24,13 +24,13 @@ use Rattle.sync_survey.specs.declared.places.Head.{Head}
 
 -- ---- one frame
 
--- the bytes after the main data before a place, as far as the window shows them
+-- the bytes after the main data before a place, up to the window
 abbrev shown : ℕ → ℕ → ℕ → ℕ
 shown window place ended = (place - ended) - ((place - ended) - window)
 
 -- A frame's main data fit in the free bytes before it and its own
--- area, and the end of the main data after it is within the areas. As
--- many bytes are free after it as the window shows there, or more.
+-- area, and the end of the main data after it is within the areas.
+-- After it at least as many bytes are free as the window shows there.
 abbrev Goes : (window place ended area bytes free : ℕ) → Type 0
 Goes window place ended area bytes free = (bytes ≤ free + area) × (ended ≤ place + area)
     × (shown window (place + area) ended ≤ free_bytes_behind window free bytes area)
@@ -79,14 +79,14 @@ place_more : (head : Option Head) (rows : List Row) (n : ℕ) (r : Row) → slic
 unfolding place
 place_more head rows n r is = omega (arith, area_more (λ (q : Row). own_area q.header) rows n r is)
 
--- the end before the next frame is that of the frame before it
+-- the end of the main data before the next frame is the end after this frame
 pub end_more : (head : Option Head) (rows : List Row) (n : ℕ) (r : Row) → slice_get rows n ≡ Some r
     → data_end_before head rows (suc n)
     ≡ data_end_after (place head rows n) (data_end_before head rows n) (Some r)
 unfolding data_end_before
 end_more head rows n r is = ap (data_end_after (place head rows n) (data_end_before head rows n)) is
 
--- the headers of rows are the standard's
+-- the headers of these rows are valid headers of the standard
 abbrev pub AreKnown : List Row → Type 0
 AreKnown [] = Unit {0}
 AreKnown (r ∷ rows) = IsHeader r.header × AreKnown rows
@@ -158,8 +158,8 @@ module _ (head : Option Head) (class : ClassFields) (rows : List Row)
   unfolding data_end_before
   fit_all = fit_from 0 rows of_class all_stand (omega arith) (omega arith)
 
--- the frames of a stream fit behind no bytes where it has no head: none of them has main data
--- before the first
+-- the frames of a stream without a head fit after no free
+-- bytes: none of them has main data before the first
 pub rows-alone : (class : ClassFields) (rows : List Row) → AreWellPlaced None class rows
     → FitsBehind (window_of class.version) 0 (map need_of rows)
 unfolding data_end_before place
@@ -190,7 +190,7 @@ feasible-fit window frames fit = (
   layout-fit window 0 window window frames (omega arith) (omega arith) fit,
 )
 
--- what a part says
+-- what a law says of a part
 abbrev pub Fits : SurveyFields → ℕ → ℕ → Type 0
 Fits s from to =
     AreNeedsOfClass s.class (needs_between s from to)
@@ -212,12 +212,12 @@ part_of s from to classes fit =
           ∙ ap (map own_frame) of_needs) frames),
     )
 
--- every part of a placed survey fits in its own slots behind a whole window
+-- every part of a placed survey fits in its own slots after a whole window
 pub part-fits : (s : SurveyFields) (from to : ℕ) → IsPlacedSurvey s → Fits s from to
 part-fits s from to placed = part_of s from to (classes_from s.head s.class s.frames placed 0
     s.frames (all_stand s.head s.class s.frames placed)) (fit_all s.head s.class s.frames placed)
 
--- and its frames have headers of the standard
+-- the frames of every part of a placed survey have headers of the standard
 pub part-known : (s : SurveyFields) (from to : ℕ) → IsPlacedSurvey s
     → AreKnown (slice_range s.frames from to)
 part-known s from to placed =

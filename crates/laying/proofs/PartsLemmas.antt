@@ -1,4 +1,4 @@
--- Parts one after the other: each begins where those before it end, and each alone has its layout.
+-- Parts, concatenated: each begins where those before it end, and each has its layout alone.
 use Rattle.std.proofs.Common.{All, AllPairs, ap, append-nil, append_assoc, ap₂, arith, drop, length}
 use Rattle.std.proofs.Common.{length-append, List, map, refl, slice_range, subst, suc, sym, take, ℕ}
 use Rattle.std.proofs.Common.{[], ◌++◌, ◌+◌, ◌-◌, ◌<◌, ◌↔◌, ◌∙◌, ◌∷◌, ◌≡◌, ◌≤◌}
@@ -52,7 +52,7 @@ fits class rows part =
     subst (Fits class) (sym part.are)
     (subst (λ c. Fits c (slice_range part.survey.frames part.from part.to)) part.same here)
 
--- each part is one
+-- each part fits
 abbrev AllFits : ClassFields → List (List Row) → Type 0
 AllFits class [] = Unit {0}
 AllFits class (rows ∷ parts) = Fits class rows × AllFits class parts
@@ -111,7 +111,7 @@ length-needs rows parts =
     ap length (needs-cons rows parts) ∙ length-append (map need_of rows) (needs_of_parts parts)
     ∙ ap (λ n. n + length (needs_of_parts parts)) (length-map rows need_of)
 
--- none is before the first, and each is before the end of all
+-- no part is before the first, and each is before the end of all
 places_within : (class : ClassFields) (at : ℕ) (parts : List (List Row)) → AllFits class parts → All
     (λ place. (at ≤ place) × (place < at + length (needs_of_parts parts))) (part_places at parts)
 unfolding part_places
@@ -136,7 +136,7 @@ places_ascend class at (rows ∷ parts) all =
 
 -- ---- the parts of the needs
 
--- a part in the middle
+-- a stretch between two others is found at its place
 middle : (before part behind : List Need) (from to : ℕ) → from ≡ length before
     → to ≡ length before + length part → slice_range (before ++ (part ++ behind)) from to ≡ part
 middle before part behind from to is ends =
@@ -146,7 +146,7 @@ middle before part behind from to is ends =
     ∙ ap (take (length part)) (drop-append_seam before (part ++ behind))
     ∙ take-append_seam part behind
 
--- the parts from their places on are the needs of each
+-- cutting the needs at the places of the parts gives the needs of each part
 pub parts_are : (before : List Need) (at : ℕ) (parts : List (List Row)) → at ≡ length before
     → needs_in_parts (before ++ needs_of_parts parts) (part_places at parts)
     ≡ map (map need_of) parts
@@ -267,7 +267,7 @@ pub parts-fit : (class : ClassFields) (parts : List (List Row)) → 1 ≤ length
     → All (IsPartOf class) parts → IsFitPlanInput class (plan_input parts)
 parts-fit class parts some all = planned class parts some (all_fits class parts all)
 
--- so can one part of a survey
+-- one part of a survey can be planned
 pub one-part-fits : (s : SurveyFields) (from to : ℕ) → IsPlacedSurvey s → from < to
     → to ≤ length s.frames → IsFitPlanInput s.class (plan_input (slice_range s.frames from to ∷ []))
 one-part-fits s from to placed some within =
@@ -285,7 +285,7 @@ one-part-fits s from to placed some within =
     planned s.class (slice_range s.frames from to ∷ []) (omega arith)
     (fits s.class (slice_range s.frames from to) part, tt)
 
--- the plan of parts that can be planned is the first of all, by either policy
+-- the plan of parts that can be planned is the least of all, under either policy
 pub parts-plan : (class : ClassFields) (choices : HeaderFields → List SlotFields)
     (parts : List (List Row)) (placed : List Placed) → IsFitPlanInput class (plan_input parts)
     → PartsChooseInOrder choices (needs_in_parts (plan_input parts).needs (plan_input parts).places)
@@ -301,16 +301,16 @@ parts-plan class choices parts placed fit in_order =
     (subst (λ (n : ℕ). ArePartsFeasible n (map (map need_of) parts)) fit.window
     (subst (ArePartsFeasible (window_in (plan_input parts).needs)) are fit.planned.feasible))
 
--- ---- one part more
+-- ---- one more part
 
--- one part more adds its needs
+-- one more part adds its needs
 pub needs-push : (parts : List (List Row)) (rows : List Row)
     → needs_of_parts (parts ++ rows ∷ []) ≡ needs_of_parts parts ++ map need_of rows
 unfolding needs_of_parts
 needs-push parts rows = flat_map-append (map need_of) parts (rows ∷ [])
     ∙ ap (λ l. needs_of_parts parts ++ l) (append-nil (map need_of rows))
 
--- and its place, where those before it end
+-- one more part adds its place, where those before it end
 pub places-push : (at : ℕ) (parts : List (List Row)) (rows : List Row)
     → part_places at (parts ++ rows ∷ [])
     ≡ part_places at parts ++ (at + length (needs_of_parts parts)) ∷ []
@@ -320,7 +320,7 @@ places-push at (first ∷ parts) rows =
     ap (λ l. at ∷ l) (places-push (at + length first) parts rows ∙ ap (λ n.
     part_places (at + length first) parts ++ n ∷ []) (omega (arith, length-needs first parts)))
 
--- what was asked, with a part more after it
+-- the input of the planner, with one more part at its end
 pub asked-push : (parts : List (List Row)) (rows : List Row) (needs : List Need) (places : List ℕ)
     (place : ℕ) (all : List Need) (all_places : List ℕ)
     → record { needs = needs; places = places } ≡ plan_input parts → place ≡ length needs

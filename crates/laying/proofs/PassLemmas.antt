@@ -1,4 +1,4 @@
--- Steps of a pass, one after the other.
+-- Steps of a pass, in order.
 use Rattle.std.proofs.Common.{ap, append-nil, append_assoc, arith, Err, IsErrAnd, length}
 use Rattle.std.proofs.Common.{length-append, List, Ok, OnOk, refl, Result, subst, sym, take, ℕ, []}
 use Rattle.std.proofs.{Common.{◌++◌, ◌+◌, ◌∙◌, ◌∷◌, ◌≡◌, ◌≢◌, ◌≤◌}, Math.Seq.take-append-add}
@@ -15,8 +15,8 @@ use Rattle.outside.specs.Files.{Files, Holds, IsFileThere, with_appended_bytes}
 use Rattle.outside.specs.{Pass.{IsPassReady, IsReadPassFault}, declared.pass.PassFault.PassFault}
 use Rattle.sync_survey.specs.Faults.{SurveyFields}
 
--- all is ready for the next step once some bytes were
--- appended to the output, and the feed is still of the input
+-- all is ready for the next step after bytes were appended
+-- to the output, with the feed still on the input
 pub ready-with : (relay : Relay) (old new : Files) (fed now : Fed) (more : List ℕ)
     → new ≡ with_appended_bytes old relay.pass.output.now more → IsRelayReady relay old fed
     → IsPassReady relay.pass new now → IsRelayReady relay new now
@@ -28,21 +28,21 @@ ready-with relay old new fed now more is ready pass = record {
   laid = ready.laid;
 }
 
--- after bytes were appended to the output all is ready for the next step
+-- after bytes were appended to the output, all is ready for the next step
 pub ready-later : (relay : Relay) (old new : Files) (fed : Fed) (more : List ℕ)
     → new ≡ with_appended_bytes old relay.pass.output.now more → IsRelayReady relay old fed
     → IsRelayReady relay new fed
 ready-later relay old new fed more is ready = ready-with relay old new fed fed more is ready
     (ready_later relay.pass old new fed more is ready.pass)
 
--- so it is after a buffer passed something on
+-- after a buffer passed something on, all is ready for the next step
 pub ready-passed : (relay : Relay) {before after : List ℕ} {old new : Files} {fed : Fed}
     → AppendsWaiting relay.pass.output.now before after old new → IsRelayReady relay old fed
     → IsRelayReady relay new fed
 ready-passed relay {before} {after} {old} {new} {fed} passed ready =
     ready-later relay old new fed passed.passed passed.files ready
 
--- where no file changed all is ready for the next step
+-- if no file changed, all is ready for the next step
 pub ready-filled : (relay : Relay) (old new : Files) (fed now : Fed) → new ≡ old
     → IsRelayReady relay old fed → IsPassReady relay.pass new now → IsRelayReady relay new now
 ready-filled relay old new fed now same ready pass = record {
@@ -53,7 +53,8 @@ ready-filled relay old new fed now same ready pass = record {
   laid = ready.laid;
 }
 
--- and the window still holds the last of the input's main data
+-- after bytes were appended to another file, the
+-- window still holds the last of the input's main data
 pub holds-later : (window input output : List ℕ) (s : SurveyFields) (at count i : ℕ)
     (old new : Files) (more : List ℕ) → input ≢ output → new ≡ with_appended_bytes old output more
     → HoldsLastAreas window input old s at count i → HoldsLastAreas window input new s at count i
@@ -66,7 +67,7 @@ holds-later window input output s at count i old new more apart is over = record
   is = λ file holds. over.is file (input_held old new input output more file apart is holds);
 }
 
--- a write failed
+-- after a failed write a pass ended early
 pub ends-short : {name bytes : List ℕ} {old new : Files} {fault : PassFault}
     → AppendedPrefix name bytes old new → PassEndsEarly name bytes old new fault
 ends-short part = record {
@@ -77,9 +78,9 @@ ends-short part = record {
       part.files;
 }
 
--- ---- frames that were given to the writer
+-- ---- frames passed to the writer
 
--- main data that begin within one reach do within a longer one
+-- main data that begin within one reach begin within a longer one
 pub begins_more : (reach free : ℕ) (ps : List FrameData) → reach ≤ free → BeginsWithin reach ps
     → BeginsWithin free ps
 begins_more reach free [] within begins = tt
@@ -99,7 +100,7 @@ module _ (input output : List ℕ) where
         (sym (append-nil out)) (subst (IsWriterOf base out w) (sym (append-nil fs)) are);
   }
 
-  -- a frame that was given is one that was laid
+  -- a frame that the writer accepted was laid
   pub lays_one : (made : List ℕ → List Frame) (f : Frame) (old new : Writing) (before after : Files)
       → ((file : List ℕ) → Holds before input file → f ∷ [] ≡ made file)
       → AcceptsFrame output f old new before after
@@ -107,7 +108,7 @@ module _ (input output : List ℕ) where
   lays_one made f old new before after is on =
       record { frames = f ∷ []; is = is; passed = on.passed; files = on.files; writer = on.writer }
 
-  -- to lay some frames is to lay others that are the same
+  -- laying some frames is laying any others that are equal
   pub lays_as : (made other : List ℕ → List Frame) (old new : Writing) (before after : Files)
       → ((file : List ℕ) → Holds before input file → made file ≡ other file)
       → LaysFrames input output made old new before after
@@ -120,7 +121,7 @@ module _ (input output : List ℕ) where
     writer = lays.writer;
   }
 
-  -- the first of them, and a write failed at the last
+  -- a write failed at the first of them
   pub part_one : (made : List ℕ → List Frame) (reach : ℕ) (f : Frame) (old : Writing)
       (held : WaitingFrames)
       (before after : Files) {fault : PassFault}
@@ -140,7 +141,7 @@ module _ (input output : List ℕ) where
     );
   }
 
-  -- none of them, where a read failed
+  -- none of them was laid, as a read failed
   pub part_none : (made : List ℕ → List Frame) (reach : ℕ) (w : Writing) (files : Files)
       {fault : PassFault} → IsReadPassFault fault → IsFileThere files output
       → ((file : List ℕ) → Holds files input file → (more : List Frame) → BeginsWithin reach
@@ -164,7 +165,7 @@ module _ (input output : List ℕ) where
 
   module _ (made next : List ℕ → List Frame) (old mid : Writing) (before now : Files)
       (apart : input ≢ output) (lays : LaysFrames input output made old mid before now) where
-    -- what two steps laid is what they made, one after the other
+    -- two steps lay what they made, concatenated
     pub lays_then : (new : Writing) (after : Files) → LaysFrames input output next mid new now after
         → LaysFrames input output (λ file. made file ++ next file) old new before after
     lays_then new after more = record {
@@ -183,7 +184,7 @@ module _ (input output : List ℕ) where
           (lays.writer base out fs are)));
     }
 
-    -- if the second failed, a part of that was laid
+    -- if the second step failed, a part of that was laid
     pub part_then : (reach : ℕ) (after : Files) {fault : PassFault}
         → LaysPart input output next reach mid now after fault
         → LaysPart input output (λ file. made file ++ next file) reach old before after fault
@@ -222,7 +223,7 @@ module _ (input output : List ℕ) where
           );
     }
 
--- a call that failed didn't succeed, so all holds where it did
+-- a call that failed didn't succeed, so whatever is to hold on success holds
 pub ok_never : {T E : Type 0} (P : Type 0) (Q : E → Type 0) (r : Result T E) → IsErrAnd r Q
     → OnOk r P
 ok_never P Q (Ok x) is = absurd is

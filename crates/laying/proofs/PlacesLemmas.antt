@@ -1,4 +1,4 @@
--- The first places of a plan, which all frames of one input take, and those after them.
+-- The first places of a plan, which the frames of one input take, and those after them.
 use Rattle.std.proofs.Common.{ap, ap₂, arith, Bool, drop, false, flat_map, length, length-append}
 use Rattle.std.proofs.Common.{List, map, None, Option, option_map, refl, slice_range, Some, subst}
 use Rattle.std.proofs.Common.{suc, sym, true, unwrap_or, zero, ℕ, [], ◌++◌, ◌+◌, ◌-◌, ◌<◌, ◌∙◌, ◌∷◌}
@@ -70,12 +70,12 @@ unfolding places_for
 places-none [] = refl
 places-none (p ∷ placed) = refl
 
--- of no places none are taken
+-- no places can be taken of none
 pub places-end : (frames : ℕ) → places_for frames [] ≡ 0
 unfolding places_for
 places-end frames = refl
 
--- frames take the first place, and then as many as those behind it take
+-- frames take the first place, and then as many as the frames left after it take
 pub places-next : (frames : ℕ) (p : Placed) (placed : List Placed) → 0 < frames
     → places_for frames (p ∷ placed)
     ≡ places_for (frame_count_behind p.lead_in (frames - 1)) placed + 1
@@ -85,13 +85,13 @@ places-next (suc frames) p placed some =
     let same : frames ≡ suc frames - 1 = omega arith in
     ap (λ n. suc (places_for (frame_count_behind p.lead_in n) placed)) same ∙ omega arith
 
--- behind a lead-in all frames are left
+-- after a lead-in all frames are left
 pub behind-lead : (b : Bool) (frames next : ℕ) → 0 < frames → b ≡ true → next ≡ frames
     → frame_count_behind b (frames - 1) ≡ next
 behind-lead true frames next some is same = omega (arith, some, same)
 behind-lead false frames next some is same = absurd cc
 
--- behind a frame there is one less
+-- after a frame one fewer is left
 pub behind-frame : (b : Bool) (frames next : ℕ) → b ≡ false → next ≡ frames - 1
     → frame_count_behind b (frames - 1) ≡ next
 behind-frame true frames next is same = absurd cc
@@ -109,7 +109,7 @@ behind-length : {X : Type 0} (b : Bool) (x : X) (xs : List X)
 behind-length true x xs = refl
 behind-length false x xs = refl
 
--- frames and others are laid in the first places and in those behind them
+-- of two lists of frames, the first is laid in the first places and the second in those after them
 pub relaid-append : (xs ys : List Frame) (placed : List Placed) → relaid_frames (xs ++ ys) placed
     ≡ relaid_frames xs placed ++ relaid_frames ys (drop (places_for (length xs) placed) placed)
 unfolding relaid_frames places_for
@@ -124,7 +124,7 @@ relaid-append (x ∷ xs) ys (p ∷ placed) =
     ∙ ap (λ n. one p.lead_in p x ∷ (relaid_frames (rest_behind p.lead_in x xs) placed
     ++ relaid_frames ys (drop (places_for n placed) placed))) (behind-length p.lead_in x xs)
 
--- and if they all fit there, so do the first, and the others behind what these reach
+-- if both lists fit, so does the first, and the second from where the first one's reach ends
 pub fits-append : (window reach : ℕ) (xs ys : List Need) (placed : List Placed)
     → FitsFromReach window reach (xs ++ ys) placed
     → FitsFromReach window reach xs (own_places (length xs) placed) × FitsFromReach window
@@ -162,7 +162,7 @@ relaid-own (x ∷ xs) (p ∷ placed) =
     ∙ ap (λ (l : List Frame). one p.lead_in p x ∷ l)
     (relaid-own (rest_behind p.lead_in x xs) placed)
 
--- and main data may begin as far before what is behind them
+-- main data after them may begin as far back if only their own places are taken
 pub last-own : (window reach : ℕ) (xs : List Need) (placed : List Placed)
     → last_reach window reach xs (own_places (length xs) placed) ≡ last_reach window reach xs placed
 unfolding last_reach places_for
@@ -174,6 +174,6 @@ last-own window reach (x ∷ xs) (p ∷ placed) =
     (own_places n placed)) (sym (behind-length p.lead_in x xs))
     ∙ last-own window (reach_behind window p x) (rest_behind p.lead_in x xs) placed
 
--- a slice of all is all
+-- the slice from the beginning to the end is the whole list
 pub range-whole : {X : Type 0} (xs : List X) → slice_range xs 0 (length xs) ≡ xs
 range-whole xs = take_all (length xs - 0) xs (omega arith)

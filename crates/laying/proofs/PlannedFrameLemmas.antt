@@ -1,5 +1,5 @@
--- Frames in the slots and with the main_data_begin
--- of their plan can be laid, and are what they were.
+-- Frames in the slots and with the main_data_begin of
+-- their plan can be laid, and are otherwise unchanged.
 use Rattle.std.proofs.Common.{ap, ap₂, arith, Bool, cond, Contains, drop, false, length, List, map}
 use Rattle.std.proofs.Common.{refl, slice_index, subst, sym, take, true, ℕ, [], ◌*◌, ◌+◌, ◌-◌, ◌/◌}
 use Rattle.std.proofs.{Common.{◌<◌, ◌==◌, ◌^◌, ◌∙◌, ◌∷◌, ◌≡◌, ◌≤◌}, lemmas.List.get_or_default}
@@ -28,14 +28,14 @@ one lead_in p f = cond lead_in (lead_in_with_place p f) (frame_with_place p f)
 abbrev pub one_in_stream : Bool → StreamFrame → StreamFrame
 one_in_stream lead_in f = cond lead_in (silent_lead_in f) f
 
--- the first place has the first frame or a lead-in, and the others those that are left
+-- the first place has the first frame or a lead-in, and the others have the frames that are left
 pub relaid-cons : (p : Placed) (placed : List Placed) (f : Frame) (fs : List Frame)
     → relaid_frames (f ∷ fs) (p ∷ placed)
     ≡ one p.lead_in p f ∷ relaid_frames (rest_behind p.lead_in f fs) placed
 unfolding relaid_frames
 relaid-cons p placed f fs = refl
 
--- so it is in the stream
+-- the same in the stream
 pub stream-cons : (p : Placed) (placed : List Placed) (f : StreamFrame) (fs : List StreamFrame)
     → stream_with_lead_ins (p ∷ placed) (f ∷ fs)
     ≡ one_in_stream p.lead_in f ∷ stream_with_lead_ins placed (rest_behind p.lead_in f fs)
@@ -129,19 +129,19 @@ module _ (c : ClassFields) (p : Placed) (f : Frame) (slot : IsSlot p.slot)
         (sym (bits_begun f.kept.side p.begin));
   }
 
-  -- what the place has can be laid
+  -- the frame at the place can be laid
   pub one-entry : (b : Bool) → IsStreamEntry c (one b p f)
   one-entry true = lead_in-entry
   one-entry false = moved-entry
 
--- ---- it is the same in a stream
+-- ---- it is unchanged in a stream
 
 lengths_begun : (h : HeaderFields) (s : Side) (begin : ℕ)
     → granule_lengths h (record s { main_data_begin = begin }) ≡ granule_lengths h s
 unfolding granules_in
 lengths_begun h s begin = refl
 
--- what a place has is, in the stream, the frame or an empty one
+-- in the stream, the frame at a place is the frame or an empty one
 pub one-stream : (b : Bool) (p : Placed) (f : Frame)
     → stream_entry (one b p f) ≡ one_in_stream b (stream_entry f)
 unfolding bits payload_bits
@@ -158,13 +158,13 @@ one-stream false p f =
     })
     (lengths_begun f.kept.header f.kept.side p.begin) (bits_begun f.kept.side p.begin)
 
--- what is left behind a place is left when each is changed too
+-- mapping what is left after a place is what is left of the mapped items
 pub next-map : {X Y : Type 0} (g : X → Y) (b : Bool) (x : X) (xs : List X)
     → map g (rest_behind b x xs) ≡ rest_behind b (g x) (map g xs)
 next-map g true x xs = refl
 next-map g false x xs = refl
 
--- and can still be laid
+-- what is left after a place can still be laid
 pub next-entries : (c : ClassFields) (b : Bool) (f : Frame) (fs : List Frame) → IsStreamEntry c f
     → AreStreamEntries c fs → AreStreamEntries c (rest_behind b f fs)
 next-entries c true f fs is are = (is, are)
@@ -172,7 +172,7 @@ next-entries c false f fs is are = are
 
 -- ---- all of them
 
--- they can be laid from here on, and are what they were
+-- these frames can be laid from here on, and are otherwise unchanged
 pub record AreLaidFrom (c : ClassFields) (end before : ℕ) (fs : List Frame)
     (stream : List StreamFrame) : Type 0 where
   pub entries : AreStreamEntries c fs
@@ -185,7 +185,7 @@ pub none_laid : (c : ClassFields) (end before : ℕ) (placed : List Placed)
 unfolding relaid_frames stream_with_lead_ins
 none_laid c end before placed = record { entries = tt; fit = tt; stream_is = refl }
 
--- one frame more in front of others that are laid is laid
+-- one more frame before others that are laid is laid
 pub laid_more : (c : ClassFields) (end before bytes area : ℕ) (g : Frame) (gs : List Frame)
     (q : StreamFrame) (qs : List StreamFrame) → IsStreamEntry c g → stream_entry g ≡ q
     → length g.payload
@@ -209,7 +209,7 @@ laid_more c end before bytes area g gs q qs is same long wide starts ends behind
 
 -- ---- the frames that the plan was made for
 
--- this is what a plan is given of these frames
+-- the needs of these frames, as a plan is given them
 abbrev pub AreNeedsOf : List Need → List Frame → Type 0
 AreNeedsOf [] [] = Unit {0}
 AreNeedsOf (need ∷ needs) (f ∷ fs) =

@@ -21,14 +21,14 @@ use Rattle.sync_survey.specs.{Row.Row, Survey.IsWellPlaced}
 
 -- ---- how far back later main data may begin
 
--- how many bytes before a frame's own area are before the end of its main data
+-- `taken` of the bytes before a frame's own area are before the end of its main data
 abbrev pub IsTaken : (before bytes begin taken : ℕ) → Type 0
 IsTaken before bytes begin taken =
     (bytes ≡ 0 → taken ≡ 0) × (0 < bytes → taken ≡ min before (before + bytes - begin))
 
--- From the end of the last main data on there are no more bytes than before and
--- the frame's area. Where main data of the frame end after the first of the
--- bytes before its area, there are no more before it than are left of these.
+-- After the frame the bytes from the end of the last main data on are at most
+-- those before and the frame's area. If some of the bytes before its area were
+-- taken, at most as many are between that end and the area as are left of them.
 abbrev LeavesBytes : (place ended behind area bytes begin : ℕ) → Type 0
 LeavesBytes place ended behind area bytes begin =
     (place + area - behind ≤ (place - ended) + area) × ((before taken : ℕ)
@@ -74,7 +74,7 @@ leaves s i r found is =
     (leaves_by at ended r (is_silent r) r.lost refl
     (λ none. data-none_well at ended r is.sound (sym is.mark ∙ none)))
 
--- a frame's area and its main_data_begin are few bytes
+-- a frame's area and its main_data_begin are at most 1,939 bytes
 pub area-held : (s : SurveyFields) (i : ℕ) (r : Row) → IsWellPlaced s.head s.class s.frames i r
     → own_area r.header + r.side.main_data_begin ≤ 1939
 area-held s i r is =
@@ -82,7 +82,7 @@ area-held s i r is =
 
 -- ---- a window
 
--- one over all areas holds enough
+-- a window over all areas holds enough
 pub over-holds : (window input : List ℕ) (files : Files) (s : SurveyFields) (i : ℕ)
     → IsWindowOverFrames window input files s i → HoldsLastAreas window input files s 0 0 i
 over-holds window input files s i over =
@@ -111,7 +111,7 @@ holds-given window last input files s at count i over given = record {
 
 module _ (before after last input : List ℕ) (files : Files) (s : SurveyFields) (i : ℕ)
     (over : HoldsLastWithBytes before last input files s i) where
-  -- the last 2,048 bytes of some that are the last of all before frame i
+  -- the last 2,048 bytes of a list that ends all areas before frame i are the last of these
   holds_by : (front kept : List ℕ) → front ++ kept ≡ over.passed ++ (before ++ last)
       → IsWindowOver after kept
       → (passed : List ℕ) × (length passed + length after ≡ place s.head s.frames i)
@@ -135,7 +135,7 @@ module _ (before after last input : List ℕ) (files : Files) (s : SurveyFields)
         whole,
       )
 
-  -- all were pushed
+  -- with everything before frame i pushed into the window
   pub holds-pushed : (at : ℕ) → at ≤ s.length → IsWindowOver after (before ++ last)
       → HoldsLastAreas after input files s at 0 i
   holds-pushed at within is =
@@ -149,7 +149,7 @@ module _ (before after last input : List ℕ) (files : Files) (s : SurveyFields)
         is = λ file holds. append-nil (by.0 ++ after) ∙ by.3 ∙ over.is file holds;
       }
 
-  -- a frame of a survey was read
+  -- when the area of frame i was read
   module _ (own : List ℕ) (r : Row) (found : slice_get s.frames i ≡ Some r)
       (has : IsAreaOf own input files r) where
     holds_on : (front kept : List ℕ) → front ++ kept ≡ over.passed ++ (before ++ last)
@@ -172,7 +172,7 @@ module _ (before after last input : List ℕ) (files : Files) (s : SurveyFields)
               ∙ sym (main-next file s.head s.frames i r found);
         }
 
-    -- then the window holds all that later main data can reach
+    -- the window holds all that later main data can reach
     pub holds-next : IsWellPlaced s.head s.class s.frames i r → (taken : ℕ)
         → IsTaken (length last) (need_of r).bytes r.side.main_data_begin taken
         → KeepsReach before after last (length own) taken → (at : ℕ)

@@ -1,4 +1,4 @@
--- The main data of frames as they are read, area by area.
+-- The main data of frames, read area by area.
 use Rattle.std.proofs.Common.{ap, append-nil, append_assoc, ap₂, arith, Bool, cond, drop, eqb}
 use Rattle.std.proofs.Common.{false, flat_map, IfSome, inl, inr, length, length-append, length-drop}
 use Rattle.std.proofs.Common.{List, min, Option, refl, replicate, slice_get, Some, subst, suc}
@@ -38,7 +38,7 @@ pub area-at : (file : List ℕ) (offset : ℕ) (h : HeaderFields) (at size : ℕ
 area-at file offset h at size at_is size_is = ap₂ (λ m n. take m (drop n file)) size_is at_is
     ∙ ap (take (own_area h)) (sym (drop-drop (overhead_of (class_of h) h.protected) offset file))
 
--- frames that follow each other end no earlier than they begin
+-- consecutive frames end no earlier than they begin
 pub laid-behind : (from to : ℕ) (rows : List Row) → FramesAreLaid from rows to → from ≤ to
 laid-behind from to [] laid = laid
 laid-behind from to (r ∷ rows) laid = omega (
@@ -47,7 +47,7 @@ laid-behind from to (r ∷ rows) laid = omega (
   laid-behind (r.offset + length_of (class_of r.header) r.header.slot) to rows laid.2,
 )
 
--- each of them ends before all end
+-- each of consecutive frames ends no later than the last
 pub laid-within : (from to : ℕ) (rows : List Row) (i : ℕ) (r : Row) → FramesAreLaid from rows to
     → slice_get rows i ≡ Some r → r.offset + length_of (class_of r.header) r.header.slot ≤ to
 laid-within from to [] i r laid is = absurd cc
@@ -58,7 +58,7 @@ laid-within from to (q ∷ rows) zero r laid is =
 laid-within from to (q ∷ rows) (suc i) r laid is =
     laid-within (q.offset + length_of (class_of q.header) q.header.slot) to rows i r laid.2 is
 
--- ---- one area more
+-- ---- one more area
 
 take-next : (rows : List Row) (i : ℕ) (r : Row) → slice_get rows i ≡ Some r
     → take (i + 1) rows ≡ take i rows ++ r ∷ []
@@ -85,7 +85,7 @@ areas-last file (q ∷ rows) r =
     ∙ sym (append_assoc (area_bytes file q.offset q.header) (flat_map
     (λ (x : Row). area_bytes file x.offset x.header) rows) (area_bytes file r.offset r.header))
 
--- the place after a frame is its own area further on
+-- the place of the next frame is further on by the area of this one
 pub place-next : (head : Option Head) (rows : List Row) (i : ℕ) (r : Row)
     → slice_get rows i ≡ Some r → place head rows (i + 1) ≡ place head rows i + own_area r.header
 unfolding place
@@ -93,7 +93,7 @@ place-next head rows i r is =
     ap (λ (l : List Row). head_area head + sum_by (λ (q : Row). own_area q.header) l)
     (take-next rows i r is) ∙ ap (λ n. head_area head + n) (sum-last (take i rows) r) ∙ omega arith
 
--- one frame more adds the bytes of its area to the main data
+-- one more frame adds the bytes of its area to the main data
 pub main-next : (file : List ℕ) (head : Option Head) (rows : List Row) (i : ℕ) (r : Row)
     → slice_get rows i ≡ Some r → main_bytes file head (take (i + 1) rows)
     ≡ main_bytes file head (take i rows) ++ area_bytes file r.offset r.header
@@ -105,7 +105,7 @@ main-next file head rows i r is =
     ∙ sym (append_assoc (head_bytes file head) (flat_map (λ (q : Row). area_bytes file
     q.offset q.header) (take i rows)) (area_bytes file r.offset r.header))
 
--- the areas of the first frames are the first of all
+-- the areas of concatenated frames are the areas of the first frames, then of the others
 areas-append : (file : List ℕ) (rows more : List Row)
     → flat_map (λ (q : Row). area_bytes file q.offset q.header) (rows ++ more)
     ≡ flat_map (λ (q : Row). area_bytes file q.offset q.header) rows
@@ -116,7 +116,7 @@ areas-append file (q ∷ rows) more =
     ∙ sym (append_assoc (area_bytes file q.offset q.header) (flat_map (λ (x : Row). area_bytes file
     x.offset x.header) rows) (flat_map (λ (x : Row). area_bytes file x.offset x.header) more))
 
--- the main data of the first frames begin those of all
+-- the main data of the first frames are the beginning of the main data of all
 pub main-front : (file : List ℕ) (head : Option Head) (rows : List Row) (n : ℕ)
     → (rest : List ℕ) × (main_bytes file head rows ≡ main_bytes file head (take n rows) ++ rest)
 unfolding main_bytes
@@ -131,7 +131,7 @@ main-front file head rows n =
 
 -- ---- the main data of one frame in a window
 
--- where they are and how far a window has to reach
+-- where the main data are, and how far a window has to reach
 pub record IsWithin (head : Option Head) (rows : List Row) (i : ℕ) (r : Row) : Type 0 where
   pub begins : r.side.main_data_begin ≤ place head rows i
   pub apart : data_end_before head rows i ≤ place head rows i - r.side.main_data_begin
@@ -167,7 +167,7 @@ data-within head c rows i r is kept =
       );
     }
 
--- the bytes of bits hold them
+-- the bytes for this many bits hold them
 pub bits-least : (n : ℕ) → n ≤ 8 * ((n + 7) / 8)
 bits-least n = omega arith
 
@@ -180,7 +180,7 @@ packed-is new bs count octets are many is =
     bits-injective new (packed_bytes bs) octets (packed-bytes bs are)
     (is.same ∙ ap (λ (l : List ℕ). bs ++ l) same ∙ sym (packed-bits bs are))
 
--- the bits that are cut from the window are the frame's main data
+-- the bits cut from the window are the frame's main data
 pub cut-is : (file main new : List ℕ) (s : SurveyFields) (i : ℕ) (r : Row) (area begin count : ℕ)
     → slice_get s.frames i ≡ Some r → r.lost ≡ false → IsWithin s.head s.frames i r → length main
     ≡ place s.head s.frames (i + 1) → main ≡ main_bytes file s.head (take (i + 1) s.frames)
@@ -222,7 +222,7 @@ cut-is file main new s i r area begin count found kept within long is area_is be
     packed_bytes (payload_at (main_bytes file s.head s.frames) at (cond lost no_side r.side)))
     (sym kept)
 
--- a lost frame has none
+-- a lost frame has no main data
 no_data : (main : List ℕ) (at : ℕ) → [] ≡ packed_bytes (payload_at main at no_side)
 unfolding bytes payload_bits
 no_data main at = refl
@@ -236,7 +236,7 @@ lost-is file s i r lost =
     packed_bytes (payload_at (main_bytes file s.head s.frames) at (cond b no_side r.side)))
     (sym lost)
 
--- a window over so many bytes holds as many, or 2,048
+-- a window holds as many bytes as it is over, or 2,048
 pub window-holds : (held main : List ℕ) → IsWindowOver held main
     → min 2048 (length main) ≤ length held
 window-holds held main is = omega (arith, ap length is ∙ length-drop (length main - 2048) main)
@@ -251,7 +251,7 @@ bytes-are s = refl
 abbrev some : List ℕ → Option (List ℕ)
 some l = Some l
 
--- with the area of the next frame the window is over one frame more
+-- with the area of the next frame the window is over one more frame
 pub last-next : (before after area input : List ℕ) (files : Files) (s : SurveyFields) (first i : ℕ)
     (r : Row) → slice_get s.frames i ≡ Some r → IsWindowOverLast before input files s first i
     → IsAreaOf area input files r
@@ -276,7 +276,7 @@ last-next before after area input files s first i r found over has more = record
       );
 }
 
--- nothing yet
+-- with no area read yet
 pub last-none : (window input : List ℕ) (files : Files) (s : SurveyFields) (first : ℕ)
     → (first ≡ 0 → ⊥) → IsWindowOver window []
     → ((file : List ℕ) → Holds files input file → CanBeRelaid file s)
@@ -305,7 +305,7 @@ last-none window input files s first some held has =
     other : (n : ℕ) → (n ≡ 0 → ⊥) → (n == 0) ≡ false
     other n some = told n some (eqb_tells n 0)
 
--- the last 2,048 bytes of all are those of the last areas
+-- the last 2,048 bytes of the last areas are the last of all areas
 last-kept : (held front main : List ℕ) → 2048 ≤ length main → IsWindowOver held main
     → IsWindowOver held (front ++ main)
 last-kept held front main many is =
@@ -322,7 +322,7 @@ skipped-most s first = by (first == 0)
     by true = omega arith
     by false = omega arith
 
--- with the last 2,048 bytes, or all, a window is over all
+-- a window over the last areas is over all, if those have 2,048 bytes or are all
 pub last-whole : (window input : List ℕ) (files : Files) (s : SurveyFields) (first i : ℕ)
     → IsFileThere files input
     → (first ≡ 0) ⊎ (place s.head s.frames first + 2048 ≤ place s.head s.frames i)
@@ -365,12 +365,12 @@ last-whole window input (Told f) s first i there (inr far) over =
 
 -- ---- before the first frame
 
--- before the first frame the place is after the head's area
+-- the place of the first frame is after the head's area
 pub place-first : (head : Option Head) (rows : List Row) → place head rows 0 ≡ head_area head
 unfolding place
 place-first head rows = omega arith
 
--- before it the main data are the head's area
+-- before the first frame the main data are the head's area
 pub main-first : (file : List ℕ) (head : Option Head) (rows : List Row)
     → main_bytes file head (take 0 rows) ≡ head_bytes file head
 unfolding main_bytes

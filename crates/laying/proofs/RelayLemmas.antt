@@ -1,4 +1,4 @@
--- Frames one after another, as they are planned.
+-- Frames in order, as they are planned.
 use Rattle.std.proofs.Common.{ap, append-nil, append_assoc, ap₂, arith, Bool, cond, drop, false}
 use Rattle.std.proofs.Common.{get_or, inl, inr, length, List, map, min, refl, slice_get}
 use Rattle.std.proofs.Common.{slice_range, Some, subst, suc, sym, take, true, zero, ℕ, [], ◌++◌}
@@ -25,14 +25,14 @@ drop-next (y ∷ xs) (suc i) x is =
     let more : suc i + 1 ≡ suc (i + 1) = omega arith in
     drop-next xs i x is ∙ ap (λ n. x ∷ drop n (y ∷ xs)) (sym more)
 
--- a stretch is its first and those behind it
+-- a stretch is its first item and those after it
 pub range-next : {X : Type 0} (xs : List X) (i to : ℕ) (x : X) → slice_get xs i ≡ Some x → i < to
     → slice_range xs i to ≡ x ∷ slice_range xs (i + 1) to
 range-next xs i to x is within =
     let one_more : to - i ≡ suc (to - (i + 1)) = omega (arith, within) in
     ap₂ (λ n l. take n l) one_more (drop-next xs i x is)
 
--- behind its end there is nothing
+-- after its end there is nothing
 pub range-none : {X : Type 0} (xs : List X) (i to : ℕ) → to ≤ i → slice_range xs i to ≡ []
 range-none xs i to past = let none : to - i ≡ 0 = omega (arith, past) in
     ap (λ n. take n (drop i xs)) none
@@ -42,14 +42,14 @@ pub found-at : {X : Type 0} (xs : List X) (i : ℕ) (x : X) → i < length xs �
     → slice_get xs i ≡ Some x
 found-at xs i x within is = slice_get-get_or xs i x within ∙ ap (λ y. Some y) (sym is)
 
--- an item of a list is one of any list that is the same
+-- the item at a place of a list is at that place of an equal list
 pub read-at : {X : Type 0} (xs ys : List X) (i : ℕ) (x : X) → i < length ys → xs ≡ ys
     → x ≡ get_or xs i x → slice_get ys i ≡ Some x
 read-at {X} xs ys i x within same is =
     let here : i < length xs = omega (arith, within, ap length same) in
     ap (λ (l : List X). slice_get l i) (sym same) ∙ found-at xs i x here is
 
--- what is left from a place on is the one there and those behind it
+-- what is left from a place on is the item there and those after it
 pub item-next : {X : Type 0} (xs : List X) (i : ℕ) (x : X) → i < length xs → x ≡ get_or xs i x
     → drop i xs ≡ x ∷ drop (i + 1) xs
 item-next xs i x within is = drop-next xs i x (found-at xs i x within is)
@@ -77,7 +77,7 @@ each-get f n (q ∷ rows) (suc i) r is =
     let at : n + 1 + i ≡ n + suc i = omega arith in
     each-get f (n + 1) rows i r is ∙ ap (λ m. Some (f m r)) at
 
--- a frame of the survey is the one of its row
+-- the frame at a place of the survey is made from the row there
 pub all-get : (file : List ℕ) (s : SurveyFields) (i : ℕ) (r : Row) → slice_get s.frames i ≡ Some r
     → slice_get (all_frames file s) i ≡ Some (survey_frame file s i r)
 unfolding all_frames
@@ -99,7 +99,7 @@ module _ (s : SurveyFields) (i to next : ℕ) (row : Row) (p : Placed) (placed :
   needs-left = sym (next-map need_of p.lead_in row (slice_range s.frames (i + 1) to))
       ∙ ap (map need_of) (left-range s.frames i to next row p.lead_in found within next_is)
 
-  -- the first place fits, and the others behind what it reaches
+  -- the first place fits, and the others from the reach after it
   pub fits-next : (window reach : ℕ)
       → FitsFromReach window reach (map need_of (slice_range s.frames i to)) (p ∷ placed)
       → (p.begin ≤ reach)
@@ -117,7 +117,7 @@ module _ (s : SurveyFields) (i to next : ℕ) (row : Row) (p : Placed) (placed :
             needs-left opened.2,
       )
 
-  -- all reach as far as those behind it do
+  -- all places reach as far as those after the first do
   pub last-next : (window reach : ℕ)
       → last_reach window reach (map need_of (slice_range s.frames i to)) (p ∷ placed)
       ≡ last_reach window (reach_behind window p (need_of row))
@@ -128,7 +128,7 @@ module _ (s : SurveyFields) (i to next : ℕ) (row : Row) (p : Placed) (placed :
       ∙ ap (λ (l : List Need). last_reach window (reach_behind window p (need_of row)) l placed)
       needs-left
 
-  -- the first is the frame in its place, and the others are behind it
+  -- the first is the frame in its place, and the others come after it
   pub relaid-next : (file : List ℕ)
       → relaid_frames (slice_range (all_frames file s) i to) (p ∷ placed) ≡
       planned_frame p (survey_frame file s i row)
@@ -161,7 +161,7 @@ fits-some window reach s i to p placed fits = by_cases (cases_lt i to)
 
 -- ---- the end
 
--- behind no places the reach stays
+-- after no places the reach stays
 pub fits-none : (window reach : ℕ) (needs : List Need) → last_reach window reach needs [] ≡ reach
 unfolding last_reach
 fits-none window reach [] = refl
@@ -172,13 +172,13 @@ pub relaid-none : (placed : List Placed) → relaid_frames [] placed ≡ []
 unfolding relaid_frames
 relaid-none placed = refl
 
--- nor are frames in no places
+-- no frames are laid in no places
 pub relaid-end : (frames : List Frame) → relaid_frames frames [] ≡ []
 unfolding relaid_frames
 relaid-end [] = refl
 relaid-end (f ∷ frames) = refl
 
--- ---- where frames that follow begin
+-- ---- where later frames begin
 
 one_begin : (b : Bool) (p : Placed) (f : Frame) → (one b p f).kept.side.main_data_begin ≡ p.begin
 one_begin true p f = refl
@@ -197,7 +197,7 @@ begins-left window reach (need ∷ needs) (f ∷ fs) (p ∷ placed) more are fit
     omega (arith, one_begin p.lead_in p f, fits.0)
 begins-left window reach _ _ _ more are fits begins = absurd fits
 
--- frames that are left after those of which a write failed
+-- a failed write among the first frames is one among all of them
 pub part_more : (input output : List ℕ) (made rest whole : List ℕ → List Frame) (reach last : ℕ)
     (old : Writing) (before after : Files) {fault : PassFault}
     → ((file : List ℕ) → Holds before input file → (more : List Frame) → BeginsWithin last
@@ -222,7 +222,7 @@ part_more input output made rest whole reach last old before after begins same p
 
 -- ---- one place, by whether it is a lead-in
 
--- behind a lead-in the reach is longer by its area, up to a window
+-- after a lead-in the reach is longer by its area, up to a window
 pub reach-lead : (window : ℕ) (p : Placed) (need : Need) → p.lead_in ≡ true
     → reach_behind window p need
     ≡ min window (p.begin + area_of (class_of need.header) p.slot false)
@@ -232,21 +232,21 @@ reach-lead window p need is =
     ap (λ b. min window (p.begin + area_of (class_of need.header)
     p.slot (cond b false need.header.protected) - cond b 0 need.bytes)) is ∙ ap (min window) none
 
--- The first of these frames were given to the writer, and the rest of them are to follow.
+-- The first of these frames were passed to the writer, and the rest of them are to follow.
 pub record LaysUpTo (input output : List ℕ) (whole rest : List ℕ → List Frame) (old new : Writing)
     (before after : Files) : Type 0 where
   pub made : List ℕ → List Frame
   pub lays : LaysFrames input output made old new before after
   pub left : (file : List ℕ) → Holds before input file → whole file ≡ made file ++ rest file
 
--- a place takes one frame at most
+-- a place takes at most one frame
 pub step-most : (b : Bool) → cond b 0 1 ≤ 1
 step-most true = omega arith
 step-most false = omega arith
 
 module _ (input output : List ℕ) (whole rest : List ℕ → List Frame) (old new : Writing)
     (before after : Files) (sofar : LaysUpTo input output whole rest old new before after) where
-  -- where nothing is left to lay, all frames were laid
+  -- if nothing is left to lay, all frames were laid
   pub lays-all : ((file : List ℕ) → Holds before input file → rest file ≡ [])
       → LaysFrames input output whole old new before after
   lays-all none =

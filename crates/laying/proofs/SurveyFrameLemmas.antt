@@ -1,5 +1,5 @@
--- The frames of a surveyed file: their main data are within
--- the file, and as many bits as their side information says.
+-- The frames of a surveyed file: their main data are within the
+-- file, and have as many bits as their side information says.
 use Rattle.std.proofs.Common.{ap, ap₂, arith, Bool, cond, drop, false, flat_map, length}
 use Rattle.std.proofs.Common.{length-append, length-drop, List, map, None, Ok, Option, option_map}
 use Rattle.std.proofs.Common.{refl, slice_get, Some, subst, suc, sum_by, sym, take, true, zero, ℕ}
@@ -102,7 +102,7 @@ marks-whole file head rows n (r ∷ more) are = (
   marks-whole file head rows (n + 1) more are.1,
 )
 
--- rows that are whole in the file are so when they are marked
+-- rows that are whole in the file are whole when marked
 pub marked-whole : (file : List ℕ) (head : Option Head) (rows : List Row) → AreWholeRows file rows
     → AreWholeRows file (marked_rows head rows)
 unfolding marked_rows
@@ -115,7 +115,7 @@ head_by : (file : List ℕ) (p : PlacedFrame) (o : Option ℕ) → IsWholeFrameA
 head_by file p None is = tt
 head_by file p (Some at) is = is
 
--- the head of a frame that is whole is whole
+-- the head of a whole frame is whole
 pub head-whole : (file : List ℕ) (p : PlacedFrame) → IsWholeFrameAt file p.offset p.header
     → HasWholeHead file (head_of file p)
 unfolding head_of
@@ -191,7 +191,7 @@ rows-first file zero (r ∷ rows) are = tt
 rows-first file (suc i) [] are = tt
 rows-first file (suc i) (r ∷ rows) are = (are.0, rows-first file i rows are.1)
 
--- so many main data are before frame i
+-- the main data before frame i have as many bytes as its place says
 pub main-place : (file : List ℕ) (head : Option Head) (rows : List Row) (i : ℕ)
     → HasWholeHead file head → AreWholeRows file rows
     → length (main_bytes file head (take i rows)) ≡ place head rows i
@@ -228,11 +228,11 @@ module _ (bs : List ℕ) (are : AreBits bs) where
   pub packed-length : length (packed_bytes bs) ≡ count
   packed-length = length-bytes count (bs ++ filling) whole
 
-  -- these are bytes
+  -- the packed bits are bytes
   pub packed-bytes : AreBytes (packed_bytes bs)
   packed-bytes = AreBytes-bytes (bs ++ filling) filled-bits
 
-  -- their bits are those, and zeros behind them
+  -- the bits of the packed bytes are the bits, followed by zeros
   pub packed-bits : bits (packed_bytes bs) ≡ bs ++ filling
   packed-bits = bits-bytes count (bs ++ filling) filled-bits whole
 
@@ -243,7 +243,7 @@ pub side_paired : (lost : Bool) (s : Side) → HasPairs s → HasPairs (cond los
 side_paired true s pairs = record { scfsi = refl; granules = refl; first = refl; second = refl }
 side_paired false s pairs = pairs
 
--- and its fields are within their bits
+-- the fields of the side information are within their bits, whether or not the frame was lost
 pub side_fits : (c : ClassFields) (lost : Bool) (s : Side) → SideFits c s
     → SideFits c (cond lost no_side s)
 side_fits c true s fits = SideFits-no_side c
@@ -253,7 +253,7 @@ bytes_of_bits : (s : Side) (n : ℕ) → n ≡ payload_bits s → (n + 7) / 8 �
 unfolding payload_bytes
 bytes_of_bits s n is = ap (λ m. (m + 7) / 8) is
 
--- a lost frame has none, and another's end within its own area
+-- a lost frame has no main data, and those of another frame end within its own area
 data-ends : (head : Option Head) (c : ClassFields) (rows : List Row) (i : ℕ) (r : Row)
     → IsWellPlaced head c rows i r → (lost : Bool) → r.lost ≡ lost
     → payload_bytes (cond lost no_side r.side)
@@ -328,7 +328,7 @@ module _ (file : List ℕ) (head : Option Head) (c : ClassFields) (rows : List R
           filled = own-filled;
         }
 
-    -- in the stream it is the frame that its row tells
+    -- in the stream it is the frame of its row
     pub own-stream : stream_entry own ≡ stream_frame main head rows i r
     own-stream =
         let all : take (payload_bits (row_side r)) (bits (packed_bytes own_bits)) ≡ own_bits =
@@ -377,12 +377,12 @@ module _ (file : List ℕ) (head : Option Head) (c : ClassFields) (rows : List R
 
 -- ---- the frames of a survey
 
--- they are entries, and what they are in its stream
+-- the frames are entries, and their stream is the survey's
 pub record AreFramesOf (file : List ℕ) (s : SurveyFields) : Type 0 where
   pub entries : AreStreamEntries s.class (all_frames file s)
   pub stream_is : map stream_entry (all_frames file s) ≡ stream_of_survey file s
 
--- the frames of a survey that is had are frames with side information and main data
+-- the frames of a survey whose file can be repacked are frames with side information and main data
 pub frames-of : (file : List ℕ) (s : SurveyFields) → CanBeRelaid file s → AreFramesOf file s
 unfolding all_frames stream_of_survey stream_frames
 frames-of file s has =
@@ -423,7 +423,7 @@ surveyed-whole file allowed s e =
           start.first.offset stream.items stream.stop (run-ends Stream file start.first.offset))));
     })
 
--- a survey without fault is had by its file
+-- by a survey without fault its file can be repacked
 pub surveys-had : SurveysCanBeRelaid
 surveys-had file allowed s e =
     let is = surveyed-whole file allowed s e in
@@ -435,7 +435,7 @@ surveys-had file allowed s e =
       blocks = surveyed-blocks file allowed s e;
     }
 
--- so is that of a file that isn't too long
+-- by a survey of a file that isn't too long its file can be repacked
 pub survey-had : (file : List ℕ) (allowed : ℕ) (s : SurveyFields) → survey_of file allowed ≡ Ok s
     → CanBeRelaid file s
 survey-had file allowed s e = surveys-had file allowed s (survey_of-parts file allowed s e).1

@@ -1,4 +1,4 @@
--- Bytes that are items, one after the other: where they are in a file, they are its run.
+-- Bytes that are concatenated items: where they are in a file, the items are its run.
 use Rattle.std.proofs.Common.{ap, append_assoc, arith, drop, length, length-append, length-drop}
 use Rattle.std.proofs.Common.{List, None, option_map, option_to_list, refl, Some, subst, sym, take}
 use Rattle.std.proofs.{Common.{true, ℕ, [], ◌++◌, ◌+◌, ◌∙◌, ◌∷◌, ◌≡◌, ◌≤◌}, Math.Seq.take-length}
@@ -14,13 +14,13 @@ use Rattle.tag_blocks.specs.{Blocks.block_front, declared.block.Block.Block as T
 
 -- ---- whole items
 
--- these bytes are these items of the part, one after the other
+-- these bytes are these items of the part, concatenated
 abbrev pub AreWhole : Region → List Item → List ℕ → Type 0
 AreWhole part [] bytes = bytes ≡ []
 AreWhole part (item ∷ items) bytes = (own : List ℕ) × (rest : List ℕ) × (bytes ≡ own ++ rest)
     × IsItem item own × (belongs part item ≡ true) × AreWhole part items rest
 
--- whole items and more of them are whole items
+-- whole items concatenated with whole items are whole items
 pub whole-append : (part : Region) (xs ys : List Item) (front back : List ℕ)
     → AreWhole part xs front → AreWhole part ys back → AreWhole part (xs ++ ys) (front ++ back)
 whole-append part [] ys front back are behind =
@@ -36,7 +36,7 @@ whole-append part (x ∷ xs) ys front back are behind = (
 
 -- ---- where they are
 
--- the items one after the other, the first of them at an offset
+-- the items placed end to end, the first of them at an offset
 abbrev pub placed : ℕ → List Item → List PlacedItem
 placed at [] = []
 placed at (item ∷ items) = record { offset = at; item = item } ∷ placed (at + size_of item) items
@@ -72,7 +72,7 @@ whole-end part file at (item ∷ items) bytes behind are within is =
           (whole-end part file (at + size) items rest behind are.5 room next),
     )
 
--- they are the run, if no further item of the part is after them
+-- the items are the run, if no further item of the part is after them
 pub whole-run : (part : Region) (file : List ℕ) (at : ℕ) (items : List Item) (bytes behind : List ℕ)
     → AreWhole part items bytes → at ≤ length file → drop at file ≡ bytes ++ behind
     → whole_item_at part file (at + length bytes) ≡ None
@@ -94,25 +94,25 @@ block_item bytes is =
       known = λ rest. sym (stands-only (bytes ++ rest) (Block block) (stands rest));
     }
 
--- the items that blocks are
+-- the items of blocks
 abbrev pub block_items : (blocks : List (List ℕ)) → AreBlocks blocks → List Item
 block_items [] are = []
 block_items (b ∷ blocks) are = Block are.0.0 ∷ block_items blocks are.1
 
--- blocks, one after the other, are whole items
+-- concatenated blocks are whole items
 pub blocks-whole : (part : Region) (blocks : List (List ℕ)) (are : AreBlocks blocks)
     → AreWhole part (block_items blocks are) (concat blocks)
 blocks-whole part [] are = refl
 blocks-whole part (b ∷ blocks) are =
     (b, concat blocks, refl, block_item b are.0, refl, blocks-whole part blocks are.1)
 
--- no frame is among them
+-- no frame is among the items of blocks
 pub blocks-no_frame : (at : ℕ) (blocks : List (List ℕ)) (are : AreBlocks blocks)
     → frames_of (placed at (block_items blocks are)) ≡ []
 blocks-no_frame at [] are = refl
 blocks-no_frame at (b ∷ blocks) are = blocks-no_frame (at + are.0.0.length) blocks are.1
 
--- they follow one after the other
+-- the items of blocks, placed, are the consecutive blocks
 pub blocks-placed : (at : ℕ) (blocks : List (List ℕ)) (are : AreBlocks blocks)
     → blocks_of (placed at (block_items blocks are)) ≡ blocks_from at blocks
 blocks-placed at [] are = refl

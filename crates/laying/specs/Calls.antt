@@ -1,4 +1,4 @@
--- What calls of a relay need, answer and leave.
+-- What calls of a relay require, return and leave.
 use Rattle.std.specs.Prelude.{drop, IfErr, length, List, OnErr, OnOk, Result, slice_get, Some, take}
 use Rattle.std.specs.Prelude.{ℕ, [], ◌+◌, ◌≡◌, ◌≤◌}
 use Rattle.frame_header.specs.Tables.{class_of, overhead_of}
@@ -18,15 +18,15 @@ use Rattle.side_info.specs.{Side.{payload_bits, SideFits}, declared.frame_front.
 use Rattle.sync_survey.specs.{Faults.{survey_view, SurveyFields}, MainData.own_area, Row.Row}
 use Rattle.sync_survey.specs.Survey.{AreWellPlaced}
 
--- ---- how it stands
+-- ---- the state
 
--- The input can be read, and frames of its class can be given to the writer.
+-- The input can be read, and frames of its class can be passed to the writer.
 pub record IsRelayOpen (relay : Relay) (files : Files) (b : RelayBuffers) : Type 0 where
   pub ready : IsRelayReady relay files b.feed
   pub class : b.writer.class ≡ (survey_view relay.survey.now).class
   pub unsettled : IsNextSettled b.writer → ⊥
 
--- So it stands, and what the next frame can reach is held.
+-- The relay is open, and what the next frame can reach is held.
 pub record IsRelayAtFrame (relay : Relay) (files : Files) (b : RelayBuffers)
     (reading : Reading) : Type 0 where
   pub on : IsRelayOpen relay files b
@@ -38,8 +38,8 @@ pub record IsNextFrame (relay : Relay) (reading : Reading) (next : NextFrame) : 
   pub known : next.class ≡ (survey_view relay.survey.now).class
   pub found : slice_get (survey_view relay.survey.now).frames reading.next ≡ Some next.row.now
 
--- The writer takes the frame: it is of the writer's class, and
--- its main data begin within reach and end in its own area.
+-- The writer can take the frame: it is of the writer's class,
+-- and its main data begin within reach and end in its own area.
 pub record CanGiveFrame (held : WaitingFrames) (f : Frame) : Type 0 where
   pub class : class_of f.kept.header ≡ held.class
   pub fits : SideFits held.class f.kept.side
@@ -50,7 +50,7 @@ pub record CanGiveFrame (held : WaitingFrames) (f : Frame) : Type 0 where
 
 -- ---- what is read
 
--- The input was read, or couldn't be; the files stay, and it can be read on.
+-- The input was read or couldn't be; the files stay, and reading can continue.
 pub record RelayReadAnswer {T : Type 0} (relay : Relay) (fed : Fed) (old new : Seen)
     (result : Result T PassFault) : Type 0 where
   pub done : OnOk result (new.counts ≡ old.counts)
@@ -59,8 +59,8 @@ pub record RelayReadAnswer {T : Type 0} (relay : Relay) (fed : Fed) (old new : S
   pub files : new.files ≡ old.files
   pub ready : IsRelayReady relay new.files fed
 
--- The bytes for the next frame were given: those of its own
--- area, and before them those that the window doesn't have.
+-- The feed holds the bytes for the next frame: those of its
+-- own area, and before them those that the window lacks.
 pub record GivesArea (relay : Relay) (reading : Reading) (row : Row) (files : Files)
     (window given : List ℕ) (span : AreaSpan) : Type 0 where
   pub over : HoldsLastWithBytes window (take span.before given) relay.pass.input.now files
@@ -71,8 +71,8 @@ pub record GivesArea (relay : Relay) (reading : Reading) (row : Row) (files : Fi
   pub at : span.at ≡ row.offset + overhead_of (class_of row.header) row.header.protected
   pub ends : span.at + length (drop span.skip given) ≤ (survey_view relay.survey.now).length
 
--- The main data of frame i can be cut out: so many bits, which begin so
--- many bytes before its own area, and don't reach back to what isn't held.
+-- The main data of frame i can be cut out: they have `extent.bits` bits, begin
+-- `extent.begin` bytes before its own area, and don't reach back to what isn't held.
 pub record CanCutData (s : SurveyFields) (i : ℕ) (row : Row) (extent : Extent)
     (held : AreasHeld) : Type 0 where
   pub placed : AreWellPlaced s.head s.class s.frames
@@ -85,7 +85,7 @@ pub record CanCutData (s : SurveyFields) (i : ℕ) (row : Row) (extent : Extent)
 
 -- ---- what is written
 
--- A frame was given to the writer, or a write failed.
+-- A frame was passed to the writer, or a write failed.
 pub record TakesFrame (relay : Relay) (f : Frame) (was now : Writing) (old new : Seen)
     (result : Result (Unit {0}) PassFault) : Type 0 where
   pub written : OnOk result (AcceptsFrame relay.pass.output.now f was now old.files new.files)
@@ -96,8 +96,8 @@ pub record TakesFrame (relay : Relay) (f : Frame) (was now : Writing) (old new :
   pub done : OnOk result (new.counts ≡ old.counts)
   pub cause : IfErr result (HasPassCause (route_of relay.pass) old.files old.counts new.counts)
 
--- These frames were given to the writer, after which main data may
--- begin so many bytes before their own area, or only a part of them.
+-- These frames were passed to the writer, after which main data may begin
+-- at most `behind` bytes before their own area, or only part of them was.
 pub record RelayFramesAnswer {T : Type 0} (relay : Relay) (made : List ℕ → List Frame) (behind : ℕ)
     (was now : RelayBuffers) (old new : Seen) (result : Result T PassFault) : Type 0 where
   pub lays : OnOk result (GivesFrames relay made was now old.files new.files)
@@ -106,7 +106,7 @@ pub record RelayFramesAnswer {T : Type 0} (relay : Relay) (made : List ℕ → L
   pub done : OnOk result (new.counts ≡ old.counts)
   pub cause : IfErr result (HasPassCause (route_of relay.pass) old.files old.counts new.counts)
 
--- These bytes were handed on to the output, but for
+-- These bytes were forwarded to the output, except for
 -- those that still wait for it, or a write failed.
 pub record ForwardAnswer (relay : Relay) (bytes after : List ℕ) (old new : Seen)
     (result : Result (Unit {0}) PassFault) : Type 0 where
@@ -115,7 +115,8 @@ pub record ForwardAnswer (relay : Relay) (bytes after : List ℕ) (old new : See
   pub done : OnOk result (new.counts ≡ old.counts)
   pub cause : IfErr result (HasPassCause (route_of relay.pass) old.files old.counts new.counts)
 
--- What is made of the input was added to what waits for the output, or only a prefix was appended.
+-- What is made from the input was added to what waits
+-- for the output, or only a prefix was appended.
 pub record AddMadeAnswer (relay : Relay) (made : List ℕ → List ℕ) (before after : List ℕ)
     (fed : Fed)
     (old new : Seen) (result : Result (Unit {0}) PassFault) : Type 0 where
@@ -125,7 +126,7 @@ pub record AddMadeAnswer (relay : Relay) (made : List ℕ → List ℕ) (before 
   pub cause : IfErr result (HasPassCause (route_of relay.pass) old.files old.counts new.counts)
   pub ready : OnOk result (IsRelayReady relay new.files fed)
 
--- What is made of the input was appended to the output, or only a prefix.
+-- What is made from the input was appended to the output, or only a prefix of it.
 pub record AppendMadeAnswer (relay : Relay) (made : List ℕ → List ℕ) (b : RelayBuffers)
     (old new : Seen)
     (result : Result (Unit {0}) PassFault) : Type 0 where
@@ -133,7 +134,7 @@ pub record AppendMadeAnswer (relay : Relay) (made : List ℕ → List ℕ) (b : 
       (AppendsMadeBytes relay.pass.input.now relay.pass.output.now made old.files new.files)
   pub prefix : IfErr result
       (AppendsPrefix relay.pass.input.now relay.pass.output.now made old.files new.files)
-  -- then nothing waits
+  -- on success nothing waits
   pub none : OnOk result (b.waiting ≡ [])
   pub done : OnOk result (new.counts ≡ old.counts)
   pub cause : IfErr result (HasPassCause (route_of relay.pass) old.files old.counts new.counts)

@@ -5,7 +5,7 @@ use Rattle.laying.specs.Relaid.{AreParts, AreSlots, FilePart, part_frames, part_
 use Rattle.laying.specs.{Relaid.relaid_frames, Written.slot_in}
 use Rattle.slot_plan.specs.{Plans.IsPlan, declared.needs.Placed.Placed}
 
--- the frames of parts as they were planned are in the slots of the plan, one for each
+-- the frames of parts, placed as planned, are in the slots of the plan, one for each place
 abbrev pub SlotsArePlanned : Type 0
 SlotsArePlanned =
     (c : ClassFields) (choices : HeaderFields → List SlotFields) (parts : List FilePart)

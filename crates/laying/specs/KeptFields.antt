@@ -1,4 +1,4 @@
--- What is read and kept of the head of an input.
+-- What is read and kept from the head of an input.
 use Rattle.std.specs.Prelude.{IfErr, IfOk, IsErrOf, List, None, Ok, OnOk, Option, replicate, Result}
 use Rattle.std.specs.Prelude.{Some, ℕ, ◌≡◌}
 use Rattle.info_header.specs.declared.fields.Info.{Info}
@@ -16,7 +16,7 @@ fields_of_head file (Some head) = Some (head_info file (Some head))
 pub record HeadAnswer (name : List ℕ) (s : SurveyFields) (old new : Seen)
     (result : Result (Option Info) PassFault) : Type 0 where
   pub fields : IfOk result (λ info. OnFile old name (λ file. info ≡ fields_of_head file s.head))
-  -- whether the files are told or not
+  -- whether or not the file's content is known
   pub none : s.head ≡ None → result ≡ Ok None
   pub done : OnOk result (new.counts ≡ old.counts)
   pub cause : IfErr result (HasInputCause name s.length old.files old.counts new.counts)
@@ -30,7 +30,7 @@ pub record KeptAnswer (name : List ℕ) (s : SurveyFields) (old new : Seen)
   pub kept : IfOk result
       (λ kept. OnFile old name (λ file. (kept.quality ≡ (head_info file s.head).quality)
       × (kept.extension ≡ (head_info file s.head).extension)))
-  -- whether the files are told or not
+  -- whether or not the file's content is known
   pub none : s.head ≡ None → result ≡ Ok (record { quality = None; extension = replicate 36 0 })
   pub done : OnOk result (new.counts ≡ old.counts)
   pub cause : IfErr result (HasInputCause name s.length old.files old.counts new.counts)

@@ -1,5 +1,5 @@
--- A file of frames of another in the slots of a plan,
--- whichever planner made it, and what is made ready for it.
+-- A file of another file's frames in the slots of a plan,
+-- whichever planner made it, and what is prepared for it.
 use Rattle.std.specs.List.{concat}
 use Rattle.std.specs.Prelude.{length, List, map, None, Option, slice_get, slice_range, Some, ℕ, []}
 use Rattle.std.specs.Prelude.{◌++◌, ◌<◌, ◌≡◌, ◌≤◌}
@@ -14,8 +14,8 @@ use Rattle.laying.specs.declared.selected.Selected.{Selected}
 use Rattle.slot_plan.specs.{Plans.entries, declared.needs.{Need.Need, Placed.Placed}}
 use Rattle.sync_survey.specs.{Faults.SurveyFields, MainData.StreamFrame, Row.Row}
 
--- The frames from one up to, but not including, another, the slots of their
--- plan, and the quality and extension for the Info frame before them.
+-- The frames from number `from` up to, but not including, number `to`, the slots
+-- of their plan, and the quality and extension for the Info frame before them.
 pub record LaidPart : Type 0 where
   pub from : ℕ
   pub to : ℕ
@@ -23,11 +23,11 @@ pub record LaidPart : Type 0 where
   pub quality : Option ℕ
   pub extension : List ℕ
 
--- the frames that are laid, as a part of their file
+-- the chosen frames, as a part of their file
 abbrev pub source_part : LaidPart → List ℕ → SurveyFields → FilePart
 source_part laid file s = record { file = file; survey = s; from = laid.from; to = laid.to }
 
--- what their plan was made for: what each frame needs
+-- what each of these frames needs, which their plan was made for
 abbrev pub needs_laid : LaidPart → SurveyFields → List Need
 needs_laid laid s = map need_of (slice_range s.frames laid.from laid.to)
 
@@ -39,8 +39,8 @@ frames_laid laid file s = relaid_frames (part_frames (source_part laid file s)) 
 abbrev pub info_laid : LaidPart → List ℕ → SurveyFields → Info
 info_laid laid file s = info_for s.class (frames_laid laid file s) laid.quality laid.extension
 
--- The ID3v2 blocks before the first frame of the file, an Info frame with the header of
--- the first chosen frame, the frames, and all other blocks; of no frames there is no file.
+-- The ID3v2 blocks before the first frame of the file, an Info frame with the header of the
+-- first chosen frame, the frames, and all other blocks; without a first frame there is no file.
 abbrev pub file_with_first : Option Row → LaidPart → List ℕ → SurveyFields → List ℕ
 file_with_first None laid file s = []
 file_with_first (Some first) laid file s = laid_file (front_blocks file s)
@@ -59,10 +59,10 @@ abbrev pub IsLaidInfo : LaidPart → List ℕ → SurveyFields → List ℕ → 
 IsLaidInfo laid file s bytes = (first : Row) → slice_get s.frames laid.from ≡ Some first
     → bytes ≡ info_frame first.header (info_laid laid file s)
 
--- ---- what is made ready
+-- ---- what is prepared
 
--- the frames from one up to, but not including, another,
--- in these slots, with what is kept for their Info frame
+-- the frames from number `from` up to, but not including, number
+-- `to`, in these slots, with what is kept for their Info frame
 abbrev pub laid_part : ℕ → ℕ → Kept → List Placed → LaidPart
 laid_part from to kept placed = record {
   from = from;
@@ -72,11 +72,11 @@ laid_part from to kept placed = record {
   extension = kept.extension;
 }
 
--- the same of what was made ready
+-- the part that a selection describes
 abbrev pub selected_part : Selected → LaidPart
 selected_part selected = laid_part selected.from selected.to selected.kept (entries selected.plan)
 
--- the frames that were made ready, with all main data
+-- the frames of a selection, with all main data
 abbrev pub selected_frames : SurveyFields → Selected → List ℕ → List Frame
 selected_frames s selected file = frames_laid (selected_part selected) file s
 
@@ -85,8 +85,8 @@ abbrev pub selected_front : SurveyFields → Selected → List ℕ → List ℕ
 selected_front s selected file = (concat (front_blocks file s) ++ selected.info.items)
     ++ bytes_of_frames (selected_frames s selected file)
 
--- There is a frame, all are there, the plan can be written frame
--- by frame, and these are the bytes of the Info frame before them.
+-- The selection has a frame, the survey has all its frames, the plan can be
+-- written frame by frame, and the bytes are those of the Info frame before them.
 pub record IsWritableSelection (s : SurveyFields) (selected : Selected) : Type 0 where
   pub some : selected.from < selected.to
   pub within : selected.to ≤ length s.frames

@@ -32,7 +32,7 @@ abbrev pub block_bytes : List ℕ → Piece → List ℕ
 block_bytes file p = take p.block.length (drop p.offset file)
 
 -- the lists of side information have two granules of two channels
--- each, and scfsi two channels, also if the class has fewer
+-- each, and scfsi has two channels, even if the class has fewer
 pub record HasPairs (s : Side) : Type 0 where
   pub scfsi : length s.scfsi ≡ 2
   pub granules : length s.granules ≡ 2
@@ -40,7 +40,7 @@ pub record HasPairs (s : Side) : Type 0 where
   pub second : length (slice_index_or s.granules 1 []) ≡ 2
 
 -- a frame of the class and its main data, as many bytes as its
--- side information says, the last of them filled up with zeros
+-- side information says, the last byte filled up with zeros
 pub record IsStreamEntry (c : ClassFields) (f : Frame) : Type 0 where
   pub header : IsHeader f.kept.header
   pub class : class_of f.kept.header ≡ c
@@ -51,7 +51,7 @@ pub record IsStreamEntry (c : ClassFields) (f : Frame) : Type 0 where
   pub filled : drop (payload_bits f.kept.side) (bits f.payload)
       ≡ zeros (8 * payload_bytes f.kept.side - payload_bits f.kept.side)
 
--- so is each of these
+-- each of these is such a frame
 abbrev pub AreStreamEntries : ClassFields → List Frame → Type 0
 AreStreamEntries c [] = Unit {0}
 AreStreamEntries c (f ∷ frames) = IsStreamEntry c f × AreStreamEntries c frames
@@ -72,7 +72,7 @@ pub record HasInfoSizes (info : Info) : Type 0 where
 
 -- ---- the file
 
--- blocks, an Info frame by this header, the frames
+-- blocks, an Info frame made from this header, the frames
 -- with all main data laid into their areas, and blocks
 unfoldable pub laid_file : List (List ℕ) → HeaderFields → Info → List Frame → List (List ℕ) → List ℕ
 laid_file front first info frames back =
@@ -91,20 +91,20 @@ pub record IsLaidFile (c : ClassFields) (front : List (List ℕ)) (first : Heade
   pub laid : CanDataBeLaid (all_frame_data frames)
   pub blocks_behind : AreBlocks back
 
--- ---- what a survey tells of it
+-- ---- what a survey finds in it
 
 -- the length of a frame in bytes
 abbrev pub frame_length : Frame → ℕ
 frame_length f = length_of (class_of f.kept.header) f.kept.header.slot
 
--- frames one after the other, the first of them at an offset; none is lost
+-- the rows of consecutive frames, the first of them at an offset; none is lost
 abbrev pub rows_from : ℕ → List Frame → List Row
 rows_from at [] = []
 rows_from at (f ∷ frames) =
     record { offset = at; header = f.kept.header; side = f.kept.side; lost = false }
     ∷ rows_from (at + frame_length f) frames
 
--- blocks one after the other, the first of them at an offset
+-- consecutive blocks, the first of them at an offset
 abbrev pub blocks_from : ℕ → List (List ℕ) → List Piece
 blocks_from at [] = []
 blocks_from at (b ∷ blocks) =
@@ -119,12 +119,11 @@ head_at at first = record {
   text_at = low_place (info_header_of first);
 }
 
--- where the frames after the Info frame begin
+-- the offset of the first frame after the Info frame
 abbrev pub frames_offset : List (List ℕ) → HeaderFields → Info → ℕ
 frames_offset front first info = length (concat front) + length (info_frame first info)
 
--- There is no junk, the Info frame is the head, and
--- the frames and blocks are those that were given.
+-- There is no junk, the Info frame is the head, and the frames and blocks are the given ones.
 unfoldable pub laid_fields : List (List ℕ) → HeaderFields → Info → List Frame → List (List ℕ)
     → SurveyFields
 laid_fields front first info frames back = record {

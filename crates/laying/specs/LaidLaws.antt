@@ -8,14 +8,15 @@ use Rattle.laying.specs.LaidFiles.{stream_entry}
 use Rattle.sync_survey.specs.Faults.{HoldsStream, IsWellFormed, survey_fields, SurveyFields}
 use Rattle.sync_survey.specs.{HeadApart.head_apart, Row.Row}
 
--- such a file is well-formed, and its stream is the frames that were given
+-- such a file is well-formed, and its stream is the given frames
 abbrev pub LaidStream : Type 0
 LaidStream =
     (c : ClassFields) (front : List (List ℕ)) (first : HeaderFields) (info : Info)
     (frames : List Frame) (back : List (List ℕ)) → IsLaidFile c front first info frames back
     → HoldsStream (laid_file front first info frames back) (map stream_entry frames)
 
--- a survey of it that allows as many frames tells where they, the Info frame and the blocks are
+-- a survey of it that allows as many frames finds them,
+-- the Info frame and the blocks where they were put
 abbrev pub LaidSurvey : Type 0
 LaidSurvey =
     (c : ClassFields) (front : List (List ℕ)) (first : HeaderFields) (info : Info)
@@ -31,7 +32,7 @@ SurveyedBlocks = (file : List ℕ) (allowed : ℕ) (s : SurveyFields)
 
 -- ---- no frame of it is lost
 
--- no frame is lost, and to set the head apart changes nothing, so none is lost then
+-- no frame is lost, and setting the head apart changes nothing, so none is lost then either
 pub record HasNoneLost (s : SurveyFields) : Type 0 where
   pub kept : (i : ℕ) (r : Row) → slice_get s.frames i ≡ Some r → r.lost ≡ false
   pub apart : head_apart s ≡ s
@@ -41,7 +42,7 @@ pub record LosesNoFrame (file : List ℕ) : Type 0 where
   pub well_formed : IsWellFormed file
   pub none : (allowed : ℕ) (s : SurveyFields) → survey_fields file allowed ≡ Ok s → HasNoneLost s
 
--- so is every such file: no main data were laid into its Info frame
+-- no such file loses a frame: no main data were laid into its Info frame
 abbrev pub LaidFramesStay : Type 0
 LaidFramesStay =
     (c : ClassFields) (front : List (List ℕ)) (first : HeaderFields) (info : Info)

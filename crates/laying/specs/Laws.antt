@@ -17,8 +17,8 @@ use Rattle.slot_plan.specs.declared.needs.Placed.{Placed}
 use Rattle.sync_survey.specs.Faults.{HoldsStream, survey_fields, SurveyFields}
 use Rattle.sync_survey.specs.{MainData.StreamFrame, Row.Row}
 
--- there are frames; they are of this class, their main data can
--- be laid as they say, and this is what they are in a stream
+-- there are frames; they are of this class, their main data can be
+-- laid where their side information says, and this is their stream
 pub record AreFramesOfStream (c : ClassFields) (frames : List Frame)
     (stream : List StreamFrame) : Type 0 where
   pub some : 0 < length frames
@@ -26,8 +26,8 @@ pub record AreFramesOfStream (c : ClassFields) (frames : List Frame)
   pub fit : CanDataBeLaid (all_frame_data frames)
   pub stream_is : map stream_entry frames ≡ stream
 
--- the frames of parts as they were planned can be laid, and are the
--- lead-ins and, otherwise as they were, the frames of the files' streams
+-- the frames of parts, placed as planned, can be laid, and are the
+-- lead-ins and the otherwise unchanged frames of the files' streams
 abbrev pub EntriesHold : Type 0
 EntriesHold =
     (c : ClassFields) (choices : HeaderFields → List SlotFields) (parts : List FilePart)
@@ -36,7 +36,7 @@ EntriesHold =
     (relaid_frames (flat_map part_frames parts) placed)
     (stream_with_lead_ins placed (flat_map part_stream parts))
 
--- so a file of them between blocks and after an Info frame is well-formed, and that is its stream
+-- a file of them between blocks and after an Info frame is well-formed and has that stream
 abbrev pub FilesHold : Type 0
 FilesHold =
     (c : ClassFields) (choices : HeaderFields → List SlotFields) (parts : List FilePart)
@@ -47,24 +47,24 @@ FilesHold =
     (laid_file front first info (relaid_frames (flat_map part_frames parts) placed) back)
     (stream_with_lead_ins placed (flat_map part_stream parts))
 
--- the survey of a file without fault is one by which its frames can be laid out again
+-- by a survey of a file without fault its frames can be repacked
 abbrev pub SurveysCanBeRelaid : Type 0
 SurveysCanBeRelaid = (file : List ℕ) (allowed : ℕ) (s : SurveyFields)
     → survey_fields file allowed ≡ Ok s → CanBeRelaid file s
 
--- the blocks of a file that are kept may be in such a file
+-- the blocks kept from a file may be in such a file
 abbrev pub BlocksAreKept : Type 0
 BlocksAreKept = (file : List ℕ) (s : SurveyFields) → CanBeRelaid file s
     → AreBlocks (front_blocks file s) × AreBlocks (back_blocks file s)
 
--- a plan of parts can be written frame by frame, after no frames
+-- a plan of parts can be written frame by frame, with no frames before it
 abbrev pub PlansFit : Type 0
 PlansFit =
     (window : ℕ) (choices : HeaderFields → List SlotFields) (parts : List (List Row))
     (placed : List Placed) → IsPlan window choices (map (map need_of) parts) placed
     → FitsFromReach window 0 (needs_of_parts parts) placed
 
--- what is planned of parts put together as the planner takes them is a plan of the parts
+-- a plan made for parts concatenated as the planner takes them is a plan of the parts
 abbrev pub PlansAreOfParts : Type 0
 PlansAreOfParts =
     (c : ClassFields) (choices : HeaderFields → List SlotFields) (parts : List (List Row))
@@ -73,8 +73,8 @@ PlansAreOfParts =
     choices (needs_in_parts (plan_input parts).needs (plan_input parts).places) placed
     → IsPlan (window_of c.version) choices (map (map need_of) parts) placed
 
--- a file of the frames of a part in the slots of any plan by which they can be
--- laid is well-formed, and its stream is the lead-ins of the plan and the frames
+-- a file of the frames of a part in the slots of any plan that can be written frame
+-- by frame is well-formed, and its stream is the lead-ins of the plan and the frames
 abbrev pub FittingFilesHold : Type 0
 FittingFilesHold =
     (c : ClassFields) (part : FilePart) (placed : List Placed) → IsPart c part
@@ -84,7 +84,7 @@ FittingFilesHold =
     info (relaid_frames (part_frames part) placed) back)
     (stream_with_lead_ins placed (part_stream part))
 
--- they are in the slots of the plan, one for each
+-- these frames are in the slots of the plan, one for each place
 abbrev pub FittingSlots : Type 0
 FittingSlots =
     (c : ClassFields) (part : FilePart) (placed : List Placed) → IsPart c part
@@ -93,8 +93,8 @@ FittingSlots =
 
 -- ---- no frame of them is lost
 
--- no frame of a file of chosen frames is lost, whether its
--- head is set apart or not, in whatever slots they can be laid
+-- no frame of a file of chosen frames is lost, whether or not
+-- its head is set apart, whatever slots they can be laid in
 abbrev pub ChosenFramesStay : Type 0
 ChosenFramesStay =
     (laid : LaidPart) (file : List ℕ) (s : SurveyFields) → CanBeRelaid file s → laid.from < laid.to
@@ -102,7 +102,7 @@ ChosenFramesStay =
     → IsFittingPlan (window_of s.class.version) (needs_laid laid s) laid.placed
     → LosesNoFrame (file_laid laid file s)
 
--- nor is any frame of a file of parts as they were planned
+-- no frame of a file of parts placed as planned is lost either
 abbrev pub PlannedFramesStay : Type 0
 PlannedFramesStay =
     (c : ClassFields) (choices : HeaderFields → List SlotFields) (parts : List FilePart)

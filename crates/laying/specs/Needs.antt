@@ -1,4 +1,4 @@
--- What frames of surveys need when they are placed again, part by part.
+-- What frames of surveys need to be placed again, part by part.
 use Rattle.std.specs.Prelude.{false, flat_map, if◌then◌else◌, length, List, map, ℕ, [], ◌+◌, ◌∷◌}
 use Rattle.std.specs.Prelude.{◌≡◌}
 use Rattle.frame_header.specs.Fields.{HeaderFields}
@@ -10,16 +10,16 @@ use Rattle.sync_survey.specs.Row.{Row}
 abbrev pub need_of : Row → Need
 need_of r = record { header = r.header; bytes = if r.lost then 0 else payload_bytes r.side }
 
--- a frame isn't lost, and its header is this but for slot and mode extension
+-- a frame isn't lost, and its header is `h` except for slot and mode extension
 pub record IsUsualFrame (h : HeaderFields) (r : Row) : Type 0 where
   pub like : r.header ≡ header_like h r.header
   pub here : r.lost ≡ false
 
--- the frames of several parts, one part after the other
+-- the needs of the frames of several parts, concatenated
 unfoldable pub needs_of_parts : List (List Row) → List Need
 needs_of_parts parts = flat_map (map need_of) parts
 
--- the place of each part's first frame, if so many frames are before all of them
+-- the place of each part's first frame, if `at` frames are before all of them
 unfoldable pub part_places : ℕ → List (List Row) → List ℕ
 part_places at [] = []
 part_places at (rows ∷ parts) = at ∷ part_places (at + length rows) parts

@@ -1,4 +1,4 @@
--- Parts of streams, and that they can be planned.
+-- Parts of streams, and when they can be planned.
 use Rattle.std.specs.Prelude.{All, length, List, slice_range, ℕ, [], ◌<◌, ◌∷◌, ◌≡◌, ◌≤◌}
 use Rattle.frame_header.specs.{Fields.{ClassFields, HeaderFields, SlotFields}, Slots.all_slots}
 use Rattle.frame_header.specs.Tables.{window_of}
@@ -7,13 +7,14 @@ use Rattle.slot_plan.specs.Laws.{PartsChooseInOrder}
 use Rattle.slot_plan.specs.Parts.{AreNeedsOfClass, CanBePlanned, needs_in_parts, window_in}
 use Rattle.sync_survey.specs.{Faults.SurveyFields, Row.Row, Survey.AreWellPlaced}
 
--- the frames of this survey are of its class, and their main data have no fault
--- (`surveys_are_placed` says so of every well-formed file, and the clause `laid` of every survey of
--- a folder)
+-- the frames of this survey are of its class, and their main data
+-- have no fault (`surveys_are_placed` says so for every well-formed
+-- file, and the clause `laid` for every survey of a folder)
 abbrev pub IsPlacedSurvey : SurveyFields → Type 0
 IsPlacedSurvey s = AreWellPlaced s.head s.class s.frames
 
--- frames of a stream of this class, from one on and before another; there is at least one
+-- frames of a stream of this class, from number `from` up
+-- to, but not including, number `to`; there is at least one
 pub record IsPartOf (class : ClassFields) (rows : List Row) : Type 0 where
   pub survey : SurveyFields
   pub from : ℕ
@@ -24,7 +25,7 @@ pub record IsPartOf (class : ClassFields) (rows : List Row) : Type 0 where
   pub within : to ≤ length survey.frames
   pub are : rows ≡ slice_range survey.frames from to
 
--- a frame keeps its own slot, or may have any
+-- a frame keeps its own slot
 abbrev pub own_choice : HeaderFields → List SlotFields
 own_choice h = h.slot ∷ []
 
@@ -32,8 +33,8 @@ own_choice h = h.slot ∷ []
 abbrev pub any_choice : HeaderFields → List SlotFields
 any_choice h = all_slots
 
--- parts can be planned, all frames are of this class, also part
--- by part, and their choices are in order by either policy
+-- parts can be planned, all frames are of this class, in each
+-- part too, and their choices are in order under either policy
 pub record IsFitPlanInput (class : ClassFields) (asked : PlanInput) : Type 0 where
   pub all : AreNeedsOfClass class asked.needs
   pub each : All (λ part. AreNeedsOfClass class part) (needs_in_parts asked.needs asked.places)

@@ -1,5 +1,5 @@
--- Frames that are chosen from surveyed files, and the same frames in the slots of a plan with all
--- main data laid out again (main_data_begin and main data, ISO/IEC 11172-3 and 13818-3, 2.4.2.7).
+-- Frames chosen from surveyed files, and the same frames in the slots of a plan with all
+-- main data repacked (main_data_begin and main data, ISO/IEC 11172-3 and 13818-3, 2.4.2.7).
 use Rattle.std.specs.List.{enumerate_from}
 use Rattle.std.specs.Prelude.{Bool, Contains, false, if◌then◌else◌, length, List, map, slice_range}
 use Rattle.std.specs.Prelude.{true, ℕ, [], ◌*◌, ◌++◌, ◌+◌, ◌-◌, ◌/◌, ◌<◌, ◌∷◌, ◌≡◌, ◌≤◌}
@@ -15,7 +15,7 @@ use Rattle.sync_survey.specs.{MainData.{split_bits, start_of_data, StreamFrame},
 
 -- ---- the frames of a surveyed file
 
--- as few bytes as hold these bits, the unused low bits of the last 0
+-- these bits in as few bytes as hold them, with the unused low bits of the last byte 0
 abbrev pub packed_bytes : List ℕ → List ℕ
 packed_bytes bs = bytes (bs ++ zeros (8 * ((length bs + 7) / 8) - length bs))
 
@@ -37,14 +37,14 @@ all_frames file s = map (λ (p : ℕ × Row). survey_frame file s p.0 p.1) (enum
 
 -- ---- the frames that are chosen
 
--- the frames of a surveyed file from one up to, but not including, another
+-- the frames of a surveyed file from number `from` up to, but not including, number `to`
 pub record FilePart : Type 0 where
   pub file : List ℕ
   pub survey : SurveyFields
   pub from : ℕ
   pub to : ℕ
 
--- the frames of a part, as the survey tells of them
+-- the rows of the survey for the frames of a part
 abbrev pub part_rows : FilePart → List Row
 part_rows p = slice_range p.survey.frames p.from p.to
 
@@ -52,7 +52,7 @@ part_rows p = slice_range p.survey.frames p.from p.to
 abbrev pub part_frames : FilePart → List Frame
 part_frames p = slice_range (all_frames p.file p.survey) p.from p.to
 
--- what they are in the stream of the file
+-- the frames of a part in the stream of the file
 abbrev pub part_stream : FilePart → List StreamFrame
 part_stream p = slice_range (stream_of_survey p.file p.survey) p.from p.to
 
@@ -63,16 +63,16 @@ pub record IsPart (c : ClassFields) (p : FilePart) : Type 0 where
   pub some : p.from < p.to
   pub within : p.to ≤ length p.survey.frames
 
--- so is each of these
+-- each of these is such a part
 abbrev pub AreParts : ClassFields → List FilePart → Type 0
 AreParts c [] = Unit {0}
 AreParts c (p ∷ parts) = IsPart c p × AreParts c parts
 
--- what a plan is given for them
+-- what the planner is given for a part
 abbrev pub part_needs : FilePart → List Need
 part_needs p = map need_of (part_rows p)
 
--- ---- the same frames as they were planned
+-- ---- the chosen frames as planned
 
 -- a frame in its slot, with its main_data_begin
 abbrev pub frame_with_place : Placed → Frame → Frame
@@ -84,7 +84,7 @@ frame_with_place p f = record {
   payload = f.payload;
 }
 
--- a lead-in: an empty frame without a check word, else with the header of the frame after it
+-- a lead-in: an empty frame without a check word, otherwise with the header of the frame after it
 abbrev pub lead_in_before : Placed → HeaderFields → Frame
 lead_in_before p h = record {
   kept = record {
@@ -94,7 +94,7 @@ lead_in_before p h = record {
   payload = [];
 }
 
--- a lead-in with its place in the plan, before this frame
+-- the lead-in at this place of the plan, before this frame
 abbrev pub lead_in_with_place : Placed → Frame → Frame
 lead_in_with_place p behind = lead_in_before p behind.kept.header
 
@@ -102,7 +102,7 @@ lead_in_with_place p behind = lead_in_before p behind.kept.header
 abbrev pub planned_frame : Placed → Frame → Frame
 planned_frame p f = if p.lead_in then lead_in_with_place p f else frame_with_place p f
 
--- after a lead-in all frames are left, after a frame the others
+-- what is left after a place: after a lead-in all frames, after a frame the others
 abbrev pub rest_behind : {X : Type 0} → Bool → X → List X → List X
 rest_behind true x xs = x ∷ xs
 rest_behind false x xs = xs
@@ -116,8 +116,8 @@ relaid_frames (f ∷ frames) (p ∷ placed) =
 
 -- ---- their stream
 
--- a lead-in as a frame of a stream, by the frame after it: all
--- fields of its side information are 0, and it has no main data
+-- a lead-in as a frame of a stream, made from the frame after it:
+-- all fields of its side information are 0, and it has no main data
 abbrev pub silent_lead_in : StreamFrame → StreamFrame
 silent_lead_in behind = record {
   header = record behind.header { protected = false };
@@ -125,14 +125,14 @@ silent_lead_in behind = record {
   payload = split_bits (granule_lengths behind.header no_side) [];
 }
 
--- the frames of a stream with the lead-ins of a plan, and otherwise as they are
+-- the frames of a stream with the lead-ins of a plan, otherwise unchanged
 unfoldable pub stream_with_lead_ins : List Placed → List StreamFrame → List StreamFrame
 stream_with_lead_ins placed [] = []
 stream_with_lead_ins [] (f ∷ stream) = []
 stream_with_lead_ins (p ∷ placed) (f ∷ stream) = (if p.lead_in then silent_lead_in f else f)
     ∷ stream_with_lead_ins placed (rest_behind p.lead_in f stream)
 
--- the slots among which frames choose are slots
+-- the slots that frames may choose from are slots of the standard
 abbrev pub AreSlots : (HeaderFields → List SlotFields) → Type 0
 AreSlots choices =
     (h : HeaderFields) (slot : SlotFields) → IsHeader h → Contains (choices h) slot → IsSlot slot

@@ -1,7 +1,7 @@
--- What laying frames out again asks of the survey of a file: that its frames
--- and blocks are whole in the file, and that the main data of each frame are
--- within the areas. The survey of a file without fault is such a one
--- (`SurveysCanBeRelaid`), and so is that of what can be read of a damaged file.
+-- What repacking frames requires of the survey of a file: that its frames and
+-- blocks are whole in the file, and that the main data of each frame are within
+-- the areas. The survey of a file without fault meets this (`SurveysCanBeRelaid`),
+-- and so does the survey of what can be read of a damaged file.
 use Rattle.std.specs.Prelude.{length, List, map, None, Option, Some, ℕ, [], ◌+◌, ◌∷◌, ◌≡◌, ◌≤◌}
 use Rattle.frame_header.specs.{Fields.{HeaderFields, IsHeader}, Tables.{class_of, length_of}}
 use Rattle.laying.specs.LaidFiles.{AreBlocks, block_bytes, HasPairs}
@@ -13,23 +13,23 @@ pub record IsWholeFrameAt (file : List ℕ) (offset : ℕ) (h : HeaderFields) : 
   pub header : IsHeader h
   pub within : offset + length_of (class_of h) h.slot ≤ length file
 
--- so is the head
+-- the head, if there is one, is such a frame
 abbrev pub HasWholeHead : List ℕ → Option Head → Type 0
 HasWholeHead file None = Unit {0}
 HasWholeHead file (Some head) = IsWholeFrameAt file head.offset head.header
 
--- so is a frame
+-- a frame of the survey is such a frame, and its side information has pairs
 pub record IsWholeRow (file : List ℕ) (r : Row) : Type 0 where
   pub frame : IsWholeFrameAt file r.offset r.header
   pub pairs : HasPairs r.side
 
--- so is each frame
+-- each frame is whole in the file
 abbrev pub AreWholeRows : List ℕ → List Row → Type 0
 AreWholeRows file [] = Unit {0}
 AreWholeRows file (r ∷ rows) = IsWholeRow file r × AreWholeRows file rows
 
--- The length is the file's; the head, the frames and the blocks are whole in it; and the frames
--- are of one class, their side fields are within their bits, and their main data have no fault.
+-- The length is the file's; the head, the frames and the blocks are whole in it; the frames are
+-- of one class, their side fields are within their bits, and their main data have no fault.
 pub record CanBeRelaid (file : List ℕ) (s : SurveyFields) : Type 0 where
   pub long : length file ≡ s.length
   pub head : HasWholeHead file s.head

@@ -1,5 +1,5 @@
--- A file of chosen frames: blocks, an Info frame, the frames
--- with all main data laid out again, and other blocks.
+-- A file of chosen frames: blocks, an Info frame, the
+-- frames with all main data repacked, and other blocks.
 use Rattle.std.specs.List.{range_with_len}
 use Rattle.std.specs.Prelude.{Bool, drop, false, filter, length, List, map, nat_lt, None, not}
 use Rattle.std.specs.Prelude.{Option, replicate, Some, take, true, ℕ, [], ◌&&◌, ◌*◌, ◌+◌, ◌/◌}
@@ -22,11 +22,11 @@ is_id3v2_kind _ = false
 abbrev pub goes_in_front : SurveyFields → Piece → Bool
 goes_in_front s p = is_id3v2_kind p.block.kind && nat_lt p.offset s.first
 
--- the bytes of these
+-- the bytes of the blocks that go before the frames
 abbrev pub front_blocks : List ℕ → SurveyFields → List (List ℕ)
 front_blocks file s = map (block_bytes file) (filter (goes_in_front s) s.blocks)
 
--- those of all others, in the order of the file
+-- the bytes of all other blocks, in the order of the file
 abbrev pub back_blocks : List ℕ → SurveyFields → List (List ℕ)
 back_blocks file s = map (block_bytes file) (filter (λ p. not (goes_in_front s p)) s.blocks)
 
@@ -52,11 +52,11 @@ info_for c frames quality extension = record {
   extension = extension;
 }
 
--- without a quality, and with an extension that is all 0
+-- the fields of an Info frame without a quality, with an extension that is all 0
 abbrev pub plain_info : ClassFields → List Frame → Info
 plain_info c frames = info_for c frames None (replicate 36 0)
 
--- the fields of the head of a file, from its text on; without a head none
+-- the fields of the head of a file, read from its text on; without a head no fields
 unfoldable pub head_info : List ℕ → Option Head → Info
 head_info file None = info_in []
 head_info file (Some head) = info_in (drop head.text_at

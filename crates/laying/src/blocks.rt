@@ -20,8 +20,7 @@ impl<'a> Relay<'a> {
         block.block.kind == Kind::Id3v2 && block.offset < self.survey.first()
     }
 
-    /// Copies a block if it is one of those that go before the frames, or with `in_front` false if it is
-    /// one of the others.
+    /// Copies a block if it goes before the frames or, with `in_front` false, if it doesn't.
     ///
     /// # Errors
     /// `Read` or `Shrunk` where the input can't be read, `Write` where a write failed.
@@ -48,8 +47,8 @@ impl<'a> Relay<'a> {
         }
     }
 
-    /// Copies the blocks that go before the frames, or with `in_front` false all others, in the order of
-    /// the input.
+    /// Copies the blocks that go before the frames or, with `in_front` false, all others, in the
+    /// order of the input.
     ///
     /// # Errors
     /// `Read` or `Shrunk` where the input can't be read, `Write` where a write failed.

@@ -1,4 +1,4 @@
-//! All memory of a pass that lays frames out again.
+//! All memory of a pass that repacks frames.
 ghost use Rattle.std.specs.Prelude.{IfOk};
 ghost use Rattle.laying.specs.Passing.{IsRelayFresh};
 
@@ -8,9 +8,9 @@ use outside::{Feed, WriteBuffer};
 use reservoir::Window;
 use std::alloc::{AllocError, Global};
 
-/// All memory of a pass that lays frames out again: the bytes of the input that are read, the areas in
-/// reach, the frames that wait, and the bytes that wait for the output. It is taken before the first output
-/// is created, and serves for all.
+/// All memory of a pass that repacks frames: the bytes read from the input, the areas in reach, the
+/// frames that wait, and the bytes that wait for the output. It is taken before the first output is
+/// created, and serves all outputs.
 #[derive(Drop)]
 pub struct RelayBuffers {
     pub feed: Feed,
@@ -20,10 +20,10 @@ pub struct RelayBuffers {
 }
 
 impl RelayBuffers {
-    /// Buffers that hold nothing, for frames of this class. They take all their memory here.
+    /// Empty buffers for frames of this class. They take all their memory here.
     ///
     /// # Errors
-    /// Where there is no memory.
+    /// If memory runs out.
     pub fn new(alloc: Global, class: Class) -> Result<RelayBuffers, AllocError>
         ensures { IfOk result (IsRelayFresh class) }
     {

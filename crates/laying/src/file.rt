@@ -35,8 +35,9 @@ impl<'a> Relay<'a> {
         self.pass.finish(folder, waiting)
     }
 
-    /// Appends to the output what waits for it, the blocks that go before the frames, and an Info frame of
-    /// these bytes, so that what players read first is there before the frames. It takes no memory.
+    /// Appends to the output what waits for it, the blocks that go before the frames, and an Info
+    /// frame with these bytes, so that what players read first is in the file before the frames. It
+    /// takes no memory.
     ///
     /// # Errors
     /// As `write`.
@@ -57,7 +58,8 @@ impl<'a> Relay<'a> {
         self.send(folder, info, waiting)
     }
 
-    /// Adds to what waits for the output the file of these frames, except the blocks after them.
+    /// Adds the file of these frames, except for the blocks after them, to what waits for the
+    /// output.
     ///
     /// # Errors
     /// As `lay`.
@@ -83,15 +85,17 @@ impl<'a> Relay<'a> {
         self.lay(folder, selected, buffers)
     }
 
-    /// Appends to the output the file of these frames of the input: the input's ID3v2 blocks that are before
-    /// its first frame, the Info frame, the frames in the slots and with the lead-ins of their plan, with all
-    /// main data laid out again, and all other blocks of the input. Nothing waits for the output at first; what else the buffers hold may be
-    /// of whatever was written before. It takes no memory.
+    /// Appends to the output the file of these frames of the input: the input's ID3v2 blocks before
+    /// its first frame, the Info frame, the frames in the slots and with the lead-ins of their
+    /// plan, with all main data repacked, and all other blocks of the input. Nothing waits for the
+    /// output at first; otherwise the buffers may hold whatever earlier writes left. It takes no
+    /// memory.
     ///
     /// # Errors
-    /// `Read` where a read failed; `Shrunk`, the length with which the input was found and the one at which
-    /// it ended when it was read, where a read gave no byte before that length; `Write` where a write
-    /// failed. Then a prefix of the bytes was appended, and with `Write` not all of them.
+    /// `Read` where a read failed; `Shrunk`, with the length of the input when it was found and the
+    /// length at which it ended when it was read, where a read gave no byte before the former;
+    /// `Write` where a write failed. Then a prefix of the bytes was appended, and with `Write` not
+    /// all of them.
     pub fn write<D: Folder>(
         &self,
         folder: &mut D,

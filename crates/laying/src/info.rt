@@ -24,7 +24,8 @@ use outside::{Folder, PassFault, read_exact};
 use slot_plan::Placed;
 use sync_survey::Survey;
 
-/// What an Info frame takes over from the head of an input: its quality, and the 36 bytes of its extension.
+/// What an Info frame takes over from the head of an input: its quality and the 36 bytes of its
+/// extension.
 #[derive(Clone, Copy, Debug, PartialEq, Eq)]
 pub struct Kept {
     pub quality: Option<u32>,
@@ -56,14 +57,15 @@ impl Kept {
     }
 }
 
-/// The seek table has 100 entries. It runs nothing: the type says so, and its contract hands that to a proof.
+/// The seek table has 100 entries. The function does nothing: the type says so, and its contract
+/// gives that to a proof.
 fn has_all(table: &[u8; 100])
     ensures { length table.now ≡ 100 }
 {
     let _ = table;
 }
 
-/// The sizes of fields are those of their types. As `has_all`, it stands for its contract.
+/// The sizes of fields are those of their types. Like `has_all`, it is there for its contract.
 fn are_sized(info: &Info)
     ensures { HasInfoSizes info.now }
 {
@@ -72,9 +74,9 @@ fn are_sized(info: &Info)
     }
 }
 
-/// The fields of the Info frame before the frames of a plan, of which there are at most 2,900,064: how many
-/// they are, the bytes of the Info frame and of all of them, the seek table, and what is kept of a head.
-/// The text is `Info` if all have one bit rate, else `Xing`.
+/// The fields of the Info frame before the frames of a plan of at most 2,900,064 places: how many
+/// frames there are, the bytes of the Info frame and of all of them, the seek table, and what is
+/// kept from a head. The text is `Info` if all have one bit rate, otherwise `Xing`.
 pub fn info_of(class: Class, placed: &[Placed], kept: &Kept) -> Info
     requires few { length placed.now ≤ most_output_frames }
     ensures info { (frames : List Frame) → map slot_in frames ≡ map
@@ -91,8 +93,8 @@ pub fn info_of(class: Class, placed: &[Placed], kept: &Kept) -> Info
     info
 }
 
-/// The bytes of the Info frame before frames of a surveyed input in the slots of a plan, of which there are at most
-/// 2,900,064. The first of the frames is frame `from`, whose header it has.
+/// The bytes of the Info frame before frames of a surveyed input in the slots of a plan of at most
+/// 2,900,064 places. The first of these frames is frame `from`, whose header the Info frame has.
 pub fn info_bytes(
     survey: &Survey,
     from: usize,
@@ -114,7 +116,7 @@ pub fn info_bytes(
     info
 }
 
-/// The fields that the bytes of a head's frame have. Its text is at byte `text_at`.
+/// The fields in the bytes of a head's frame. Its text is at byte `text_at`.
 fn fields_in(frame: &[u8], text_at: u32) -> Info
     ensures { result ≡ info_in (drop text_at frame.now) }
 {
@@ -122,14 +124,15 @@ fn fields_in(frame: &[u8], text_at: u32) -> Info
     Info::read(&frame[at..])
 }
 
-/// The fields that the head of an input has, and `None` if there is no head. It reads the head's frame, at most 1,441
-/// bytes, and takes no memory. The files stay.
+/// The fields of the head of an input, or `None` if there is no head. It reads the head's frame, at
+/// most 1,441 bytes, and takes no memory. The files stay as they are.
 ///
 /// # Errors
-/// Without a head none, else:
+/// None without a head, otherwise:
 /// - `Read` where a read failed;
-/// - `Shrunk`, the length with which the input was found and the one at which it ended when it was read,
-///   where a read gave no byte before that length. It comes only where the folder doesn't tell its files.
+/// - `Shrunk`, with the length of the input when it was found and the length at which it ended when
+///   it was read, where a read gave no byte before the former. It occurs only in a folder whose
+///   contents aren't known.
 pub fn head_fields<D: Folder>(
     folder: &mut D,
     name: &str,
@@ -152,14 +155,15 @@ pub fn head_fields<D: Folder>(
     Ok(Some(fields_in(frame, head.text_at)))
 }
 
-/// The quality and the extension that the head of an input has, and `Kept::none` if there is no head. It
-/// reads the head's frame, at most 1,441 bytes, and takes no memory. The files stay.
+/// The quality and the extension of the head of an input, or `Kept::none` if there is no head. It
+/// reads the head's frame, at most 1,441 bytes, and takes no memory. The files stay as they are.
 ///
 /// # Errors
-/// Without a head none, else:
+/// None without a head, otherwise:
 /// - `Read` where a read failed;
-/// - `Shrunk`, the length with which the input was found and the one at which it ended when it was read,
-///   where a read gave no byte before that length. It comes only where the folder doesn't tell its files.
+/// - `Shrunk`, with the length of the input when it was found and the length at which it ended when
+///   it was read, where a read gave no byte before the former. It occurs only in a folder whose
+///   contents aren't known.
 pub fn kept_fields<D: Folder>(
     folder: &mut D,
     name: &str,

@@ -1,5 +1,6 @@
-//! Writes frames of surveyed files in the slots of a plan, with all main data laid out again, to cut, split, join and pack; what the
-//! planner is given of these frames; and what a survey of such a file tells.
+//! Writes frames of surveyed files into the slots of a plan with all main data repacked, to cut,
+//! split, join and pack; also what the planner is given for these frames, and what a survey of such
+//! a file finds.
 //!
 //! ```text
 //! let mut parts = Parts::new(alloc);
@@ -7,7 +8,8 @@
 //! let plan = plan(alloc, parts.needs(), parts.places(), &Keep)?;
 //! ```
 //!
-//! The law `parts_fit` says that `slot_plan::plan` may be called, `one_part_fits` for one part.
+//! The law `parts_fit` says that `slot_plan::plan` may be called; `one_part_fits` says so for one
+//! part.
 #![tactic(auto)]
 
 mod blocks;

@@ -1,4 +1,4 @@
-//! The parts of a plan, put together one after the other.
+//! The parts of a plan, concatenated.
 ghost use Rattle.std.specs.Prelude.{◌≡◌, ◌↔◌, ◌+◌, ◌<◌, ◌≤◌, List, [], ◌∷◌, ◌++◌, length, map, vec_len, vec_capacity, IsTrue, IfOk, OnOk, OnErr};
 ghost use Rattle.frame_header.specs.Tables.{class_of};
 ghost use Rattle.side_info.specs.FrameFields.{header_like};
@@ -14,7 +14,7 @@ use std::marker::Model;
 use std::mem;
 use sync_survey::Row;
 
-/// Frames that are to be placed, and where each part of them begins: what `plan` is given.
+/// Frames to be placed, and where each part of them begins: the input of `plan`.
 #[derive(Drop)]
 pub struct Parts {
     needs: Vec<Need>,
@@ -44,8 +44,10 @@ fn need_of(row: &Row) -> Need
     }
 }
 
-/// Adds a need of so many bytes for a frame whose header is that of another frame but for slot and mode extension.
-// It copies the whole need and then writes over it, which takes fewer steps than its fields one by one.
+/// Adds a need of `bytes` bytes for a frame whose header is that of `like` except for slot and mode
+/// extension.
+// Copies the whole need and then writes over it, which takes fewer steps than setting its fields
+// one by one.
 #[inline(always)]
 fn push_like(like: &Need, front: &FrameFront, bytes: u32, needs: &mut Vec<Need>)
     requires { vec_len needs.old < vec_capacity needs.old }
@@ -64,7 +66,7 @@ fn push_like(like: &Need, front: &FrameFront, bytes: u32, needs: &mut Vec<Need>)
     need.bytes = bytes;
 }
 
-/// Whether a frame isn't lost and has the header of another but for slot and mode extension.
+/// Whether a frame isn't lost and has the header of `first` except for slot and mode extension.
 #[inline(always)]
 fn is_usual(first: &FrameFront, row: &Row) -> bool
     ensures { IsTrue result ↔ IsUsualFrame first.now.header row.now }
@@ -72,7 +74,8 @@ fn is_usual(first: &FrameFront, row: &Row) -> bool
     row.front().is_like(first) && !row.lost()
 }
 
-/// Adds what such a frame needs, where `like` is the need of the other, whose class is given.
+/// Adds what such a frame needs. `like` is the need of the frame that it is compared with, and
+/// `class` the class of that frame.
 #[inline(always)]
 #[tactic(auto, unfolding(side_info::specs::Side::payload_bytes))]
 fn push_usual(class: Class, like: &Need, row: &Row, needs: &mut Vec<Need>)
@@ -85,9 +88,11 @@ fn push_usual(class: Class, like: &Need, row: &Row, needs: &mut Vec<Need>)
     push_like(like, front, front.extent_in(class).bytes(), needs);
 }
 
-/// The needs with what these frames need after them. `like` is the need of a frame with the front `first`: most frames of
-/// a stream have its header but for slot and mode extension, and only the others' headers are decoded and judged again.
-// Given by value, the vector's place and length stay in registers; `like` is by reference, so that it is copied at once.
+/// The needs with what these frames need after them. `like` is the need of a frame with the front
+/// `first`: most frames of a stream have its header except for slot and mode extension, and only
+/// the headers of the others are decoded and checked again.
+// Passed by value, the vector keeps its place and length in registers; `like` is passed by
+// reference, so that it is copied at once.
 #[inline(never)]
 fn append_like(first: &FrameFront, like: &Need, rows: &[Row], needs: Vec<Need>) -> Vec<Need>
     requires like { like.now.header ≡ first.now.header }
@@ -110,7 +115,7 @@ fn append_like(first: &FrameFront, like: &Need, rows: &[Row], needs: Vec<Need>) 
 /// Adds what these frames need.
 ///
 /// # Errors
-/// Where there is no memory. Then nothing is added.
+/// If memory runs out. Then nothing is added.
 fn append_needs(rows: &[Row], needs: &mut Vec<Need>) -> Result<(), AllocError>
     ensures added { OnOk result (needs.new.items ≡ needs.old.items ++ map need_of rows.now) }
     ensures stays { OnErr result (needs.new.items ≡ needs.old.items) }
@@ -125,7 +130,7 @@ fn append_needs(rows: &[Row], needs: &mut Vec<Need>) -> Result<(), AllocError>
 }
 
 impl Parts {
-    /// Without parts. It takes no memory.
+    /// No parts. It takes no memory.
     #[tactic(auto, unfolding(crate::specs::Needs::needs_of_parts, crate::specs::Needs::part_places))]
     pub fn new(alloc: Global) -> Parts
         ensures parts { result ≡ plan_input [] }
@@ -138,24 +143,24 @@ impl Parts {
         }
     }
 
-    /// What the frames of all parts need, in their order.
+    /// What the frames of all parts need, in order.
     pub fn needs(&self) -> &[Need]
         ensures { result.now ≡ self.now.needs }
     {
         &self.needs
     }
 
-    /// The place of each part's first frame among these, counted from 0.
+    /// The place of each part's first frame among the needs, counted from 0.
     pub fn places(&self) -> &[u32]
         ensures { result.now ≡ self.now.places }
     {
         &self.places
     }
 
-    /// Adds a part after those that are there: these frames of a survey.
+    /// Adds a part, these frames of a survey, after those that are there.
     ///
     /// # Errors
-    /// Where there is no memory. Then nothing is added.
+    /// If memory runs out. Then nothing is added.
     pub fn push(&mut self, rows: &[Row]) -> Result<(), AllocError>
         requires few { length self.old.needs ≤ 4294967295 }
         ensures { PushPartAnswer rows.now self.old self.new result }

@@ -1,4 +1,4 @@
-//! The frames of a surveyed input, read once from its beginning to its end and given to the writer of an
+//! The frames of a surveyed input, read once from beginning to end and passed to the writer of an
 //! output.
 ghost use Rattle.std.specs.Prelude.{◌≡◌, ◌⊎◌, false, if◌then◌else◌, ◌+◌, ◌-◌, ◌^◌, ◌<◌, ◌≤◌, ◌++◌, min, List, ℕ, [], length, take, drop, slice_get, Some, IfOk, IfErr, OnOk, OnErr};
 ghost use Rattle.frame_header.specs.Tables.{class_of, area_of, length_of, overhead_of, window_of};
@@ -33,17 +33,17 @@ use side_info::{Extent, FrameFront, Side};
 use slot_plan::Placed;
 use sync_survey::{Row, Survey};
 
-/// A surveyed input, and the output to which its frames go.
+/// A surveyed input, and the output that its frames are written to.
 #[derive(Clone, Copy)]
 pub struct Relay<'a> {
     pub pass: Pass<'a>,
     pub survey: &'a Survey,
 }
 
-/// How far the frames of an input were read: the number of the next frame, and of the area before it, if it
-/// isn't in the window yet, the offset in bytes and the length; 0 if it is. It is given by the feed again
-/// together with the next one, so that its bytes are copied into the window only if more main data reach
-/// them.
+/// How far the frames of an input were read: the number of the next frame, and the offset and
+/// length in bytes of the area before it if that area isn't in the window yet; the length is 0 if
+/// it is. The feed reads that area again together with the next one, so that its bytes are copied
+/// into the window only if later main data reach them.
 #[derive(Clone, Copy)]
 struct Reading {
     next: usize,
@@ -51,15 +51,15 @@ struct Reading {
     count: usize,
 }
 
-/// What the survey says of the next frame: its class, which is that of all, and its row.
+/// What the survey says about the next frame: the class, which all frames share, and its row.
 #[derive(Clone, Copy)]
 struct NextFrame<'r> {
     class: Class,
     row: &'r Row,
 }
 
-/// Where a feed gives the bytes for a frame: `before` bytes of the area before it, and its own area from
-/// byte `skip` on, which is in the input at the offset `at`.
+/// Where a feed holds the bytes for a frame: `before` bytes of the area before it, and from byte
+/// `skip` on its own area, which is at offset `at` in the input.
 #[derive(Clone, Copy)]
 struct AreaSpan {
     before: usize,
@@ -67,8 +67,8 @@ struct AreaSpan {
     at: u64,
 }
 
-/// The bytes in which the main data of a frame are: its own area, the area before it if the window doesn't have
-/// it, and the window before these.
+/// The bytes that hold the main data of a frame: its own area, the area before it if that isn't in
+/// the window, and the window before these.
 #[derive(Clone, Copy)]
 struct HeldAreas<'w> {
     window: &'w Window,
@@ -76,7 +76,7 @@ struct HeldAreas<'w> {
     own: &'w [u8],
 }
 
-/// Where the area of a frame is in the input: the offset at which it begins, and how many bytes it has.
+/// Where the area of a frame is in the input: its offset, and its length in bytes.
 #[derive(Clone, Copy)]
 struct AreaPlace {
     at: u64,
@@ -102,9 +102,9 @@ fn area_place(class: Class, row: &Row) -> AreaPlace
     }
 }
 
-/// Puts header and side information of a frame, which are `front`, in its place of a plan. The side information of a
-/// lost frame becomes all 0, but for main_data_begin.
-// In place, since the compiler copies an answer byte by byte here.
+/// Moves the header and side information `front` of a frame to its place in a plan: slot and
+/// main_data_begin. The side information of a lost frame becomes all 0 except for main_data_begin.
+// In place, since the compiler copies a return value byte by byte here.
 #[inline(always)]
 fn place_front(row: &Row, place: &Placed, front: &mut FrameFront)
     requires begin { place.now.begin < 2 ^ front_width (class_of row.now.header) 0 }
@@ -122,7 +122,7 @@ fn place_front(row: &Row, place: &Placed, front: &mut FrameFront)
 }
 
 impl<'a> Relay<'a> {
-    /// Gives a frame to the writer.
+    /// Passes a frame to the writer.
     ///
     /// # Errors
     /// `Write` where a write failed.
@@ -145,8 +145,8 @@ impl<'a> Relay<'a> {
         }
     }
 
-    /// Gives a lead-in to the writer: an empty frame without a check word, else with the header of the
-    /// frame after it.
+    /// Passes a lead-in to the writer: an empty frame without a check word, otherwise with the
+    /// header of the frame after it.
     ///
     /// # Errors
     /// `Write` where a write failed.
@@ -173,7 +173,7 @@ impl<'a> Relay<'a> {
         self.write_frame(folder, &frame, writer, unsent)
     }
 
-    /// Gives bytes of the input by the feed, from an offset on.
+    /// Reads `count` bytes of the input at offset `at` into the feed.
     ///
     /// # Errors
     /// `Read` or `Shrunk` where the input can't be read.
@@ -195,7 +195,7 @@ impl<'a> Relay<'a> {
         self.pass.fill(folder, at, count, feed)
     }
 
-    /// Gives the area of frame `i` by the feed.
+    /// Reads the area of frame `i` into the feed.
     ///
     /// # Errors
     /// `Read` or `Shrunk` where the input can't be read.
@@ -243,8 +243,8 @@ impl<'a> Relay<'a> {
         Ok(())
     }
 
-    /// Begins to read the areas of frames from this first one on: with that of the head, if it is the first
-    /// frame of all.
+    /// Begins to read the areas of the frames from frame `first` on: reads the head's area if that
+    /// is the first frame of all.
     ///
     /// # Errors
     /// `Read` or `Shrunk` where the input can't be read.
@@ -268,8 +268,8 @@ impl<'a> Relay<'a> {
         }
     }
 
-    /// Reads into the window, whatever it held, the last 2,048 bytes of the areas of the head and of all
-    /// frames before frame `i`, or all where there are fewer.
+    /// Fills the window, whatever it held, with the last 2,048 bytes of the areas of the head and
+    /// of all frames before frame `i`, or with all of them if there are fewer.
     ///
     /// # Errors
     /// `Read` or `Shrunk` where the input can't be read.
@@ -299,7 +299,7 @@ impl<'a> Relay<'a> {
         Ok(())
     }
 
-    /// Reads the area that isn't in the window yet into it.
+    /// Reads into the window the area that isn't in it yet.
     ///
     /// # Errors
     /// `Read` or `Shrunk` where the input can't be read.
@@ -324,8 +324,9 @@ impl<'a> Relay<'a> {
         Ok(())
     }
 
-    /// The offset of the first byte that a frame needs, and how many bytes of the area before it: that area
-    /// is read into the window first, if the feed can't give it together with the frame's `own`.
+    /// The offset of the first byte to be read for a frame, and how many bytes of the area before
+    /// the frame are read with it: if the feed can't hold that area together with the frame's area
+    /// `own`, it is read into the window first, and the number is 0.
     ///
     /// # Errors
     /// `Read` or `Shrunk` where the input can't be read.
@@ -358,8 +359,8 @@ impl<'a> Relay<'a> {
         Ok((own.at, 0))
     }
 
-    /// Gives by the feed the area of a frame, and with it that of the frame before it if this isn't in the
-    /// window.
+    /// Reads the area of a frame into the feed, together with the area of the frame before it if
+    /// that isn't in the window.
     ///
     /// # Errors
     /// `Read` or `Shrunk` where the input can't be read.
@@ -391,7 +392,7 @@ impl<'a> Relay<'a> {
         })
     }
 
-    /// Reads the next frame and gives it to the writer.
+    /// Reads the next frame and passes it to the writer.
     ///
     /// # Errors
     /// `Read` or `Shrunk` where the input can't be read, `Write` where a write failed.
@@ -448,7 +449,7 @@ impl<'a> Relay<'a> {
         })
     }
 
-    /// Gives to the writer what is at a place of the plan: a lead-in before the next frame, or
+    /// Passes to the writer what is at a place of the plan: a lead-in before the next frame, or
     /// that frame.
     ///
     /// # Errors
@@ -488,8 +489,8 @@ impl<'a> Relay<'a> {
         }
     }
 
-    /// Reads the frames from frame `from` up to, but not including, frame `to`, and gives them to the
-    /// writer as they were planned, with the lead-ins of the plan.
+    /// Reads the frames from frame `from` up to, but not including, frame `to`, and passes them to
+    /// the writer as planned, with the lead-ins of the plan.
     ///
     /// # Errors
     /// `Read` or `Shrunk` where the input can't be read, `Write` where a write failed.
@@ -530,8 +531,9 @@ impl<'a> Relay<'a> {
         Ok(())
     }
 
-    /// Gives the frames of the input from frame `from` on to the writer as the first of these places say, and
-    /// answers how many places they take. The window may hold anything. It takes no memory.
+    /// Passes the frames of the input from frame `from` on to the writer as the first of these
+    /// places say, and returns how many places they take. The window may hold anything. It takes no
+    /// memory.
     ///
     /// # Errors
     /// As `frames`.
@@ -564,7 +566,8 @@ impl<'a> Relay<'a> {
         Ok(count)
     }
 
-    /// Hands on all that waits in the writer to the buffer before the output. It takes no memory.
+    /// Forwards everything that waits in the writer to the buffer before the output. It takes no
+    /// memory.
     ///
     /// # Errors
     /// `Write` where a write failed. Then a prefix of what waits was appended.
@@ -584,14 +587,15 @@ impl<'a> Relay<'a> {
         }
     }
 
-    /// Adds to what waits for the output frames of the input, in the slots and with the lead-ins of their
-    /// plan, with all main data laid out again. The writer is new; the window may hold anything. It
+    /// Adds frames of the input to what waits for the output, in the slots and with the lead-ins of
+    /// their plan, with all main data repacked. The writer is new; the window may hold anything. It
     /// takes no memory.
     ///
     /// # Errors
-    /// `Read` where a read failed; `Shrunk`, the length with which the input was found and the one at which
-    /// it ended when it was read, where a read gave no byte before that length; `Write` where a write
-    /// failed. Then a prefix of what waited and the bytes was appended, and with `Write` not all of them.
+    /// `Read` where a read failed; `Shrunk`, with the length of the input when it was found and the
+    /// length at which it ended when it was read, where a read gave no byte before the former;
+    /// `Write` where a write failed. Then a prefix of what waited and of these bytes was appended,
+    /// and with `Write` not all of them.
     pub(crate) fn lay<D: Folder>(
         &self,
         folder: &mut D,
@@ -612,8 +616,8 @@ impl<'a> Relay<'a> {
     }
 }
 
-/// The frame of a survey from which on a window has to be over the areas before frame `i`: these have at
-/// least 2,048 bytes, or it is the first frame of all.
+/// The frame from whose area on a window has to be filled before frame `i`: the areas from there up
+/// to frame `i` have at least 2,048 bytes, or it is the first frame of all.
 pub fn first_held(survey: &Survey, i: usize) -> usize
     requires within { i ≤ length (survey_view survey.now).frames }
     ensures before { result ≤ i }
@@ -630,7 +634,7 @@ pub fn first_held(survey: &Survey, i: usize) -> usize
     first
 }
 
-/// How many places of a plan so many frames take, together with their lead-ins.
+/// How many places of a plan `frames` frames take, together with their lead-ins.
 fn places_for(frames: usize, placed: &[Placed]) -> usize
     ensures places { result ≡ places_for frames placed.now }
     ensures within { result ≤ length placed.now }
@@ -677,8 +681,9 @@ fn cut_payload<'w>(
     }
 }
 
-/// How many of the `before` bytes before a frame's own area are before the end of its main data. These have
-/// `bytes` bytes, and begin `begin` bytes before that area; where there are none they end nowhere.
+/// How many of the `before` bytes before a frame's own area are before the end of its main data.
+/// The main data have `bytes` bytes and begin `begin` bytes before that area; if there are none,
+/// the result is 0.
 #[inline]
 fn taken_before(before: usize, bytes: usize, begin: usize) -> usize
     requires few { (before ≤ 1939) × (bytes ≤ window_size) }
@@ -691,11 +696,11 @@ fn taken_before(before: usize, bytes: usize, begin: usize) -> usize
     (before + bytes).saturating_sub(begin).min(before)
 }
 
-/// The place in an area of `area` bytes from which on later main data can reach it, or a place before it.
-/// Its first `taken` bytes are before the end of the last main data, `own` bytes of areas follow it, and
-/// main data begin at most 511 bytes before their own area (main_data_begin, ISO/IEC 11172-3 and 13818-3,
-/// 2.4.2.7). As the ring copies 32 bytes at a time, what is after the place has a multiple of 32, where the
-/// area has as many.
+/// A place in an area of `area` bytes that is no later than the first byte that later main data can
+/// reach. The first `taken` bytes of the area are before the end of the last main data, `own` bytes
+/// of areas follow it, and main data begin at most 511 bytes before their own area
+/// (main_data_begin, ISO/IEC 11172-3 and 13818-3, 2.4.2.7). As the ring copies 32 bytes at a time,
+/// the number of bytes from the place on is a multiple of 32, unless the area has fewer.
 #[inline]
 fn first_kept(area: usize, own: usize, taken: usize) -> usize
     requires within { taken ≤ area }
@@ -707,8 +712,8 @@ fn first_kept(area: usize, own: usize, taken: usize) -> usize
     area - reach.next_multiple_of(32).min(area)
 }
 
-/// Forgets what is in the window, unless later main data may reach it, so that nothing of the area after it
-/// was taken or is left out.
+/// Clears the window unless later main data may reach it, which they can only if no byte of the
+/// area after it was taken or is left out.
 #[inline]
 fn forget_before(window: &mut Window, taken: usize, first: usize)
     requires few { taken + first ≤ most_waiting }
@@ -720,8 +725,8 @@ fn forget_before(window: &mut Window, taken: usize, first: usize)
     }
 }
 
-/// Adds to the window what later main data can reach of an area that `own` bytes of areas follow. Its first
-/// `taken` bytes are before the end of the last main data.
+/// Adds to the window the part of an area that later main data can reach. `own` bytes of areas
+/// follow it, and its first `taken` bytes are before the end of the last main data.
 #[inline]
 fn pass_area(window: &mut Window, area: &[u8], own: usize, taken: usize)
     requires within { taken ≤ length area.now }

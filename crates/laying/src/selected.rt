@@ -1,4 +1,4 @@
-//! Frames of a surveyed input that are to be written.
+//! Frames of a surveyed input to be written.
 ghost use Rattle.std.specs.Prelude.{◌≡◌, ◌<◌, ◌≤◌, length};
 ghost use Rattle.frame_header.specs.Limits.{most_output_frames};
 ghost use Rattle.frame_header.specs.Tables.{window_of};
@@ -12,8 +12,9 @@ use arrayvec::ArrayVec;
 use slot_plan::Plan;
 use sync_survey::Survey;
 
-/// The frames of a surveyed input from frame `from` up to, but not including, frame `to`, counted from 0, with the plan of
-/// their slots, what the Info frame before them takes over from the head of the input, and its bytes, at most 1,441.
+/// The frames of a surveyed input from frame `from` up to, but not including, frame `to`, counted
+/// from 0, with the plan of their slots, what the Info frame before them takes over from the head
+/// of the input, and the bytes of the Info frame, at most 1,441.
 #[derive(Drop)]
 pub struct Selected {
     pub from: usize,

@@ -1,4 +1,4 @@
--- The frames and blocks follow one after the other.
+-- The frames and blocks are consecutive.
 use Rattle.laying.proofs.LaidFileLemmas.{laid-survey}
 use Rattle.laying.proofs.laid_laws.laid_survey.Goals as goal
 

@@ -1,4 +1,4 @@
--- They are laid behind the Info frame.
+-- They are laid after the Info frame.
 use Rattle.laying.proofs.LaidLemmas.{chosen-frames-stay}
 use Rattle.laying.proofs.laws.chosen_frames_stay.Goals as goal
 

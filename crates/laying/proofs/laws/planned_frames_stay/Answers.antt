@@ -1,4 +1,4 @@
--- They are laid behind the Info frame.
+-- They are laid after the Info frame.
 use Rattle.laying.proofs.FittingFrameLemmas.{planned-frames-stay}
 use Rattle.laying.proofs.laws.planned_frames_stay.Goals as goal
 

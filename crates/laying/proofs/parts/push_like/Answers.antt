@@ -4,7 +4,7 @@ use Rattle.std.proofs.{Common.{◌∙◌, ◌∷◌, ◌≡◌}, Math.Seq.{get_o
 use Rattle.slot_plan.specs.declared.needs.Need.{Need}
 use Rattle.laying.proofs.parts.push_like.Goals as goal
 
--- the last of a list, and another in its place
+-- the last of a list, and another instead of it
 last : (xs : List Need) (x d : Need) (all : List Need) (n : ℕ) → all ≡ xs ++ x ∷ [] → n ≡ length xs
     → slice_index_or all n d ≡ x
 last xs x d all n is at = ap₂ (λ l k. slice_index_or l k d) is at ∙ get_or-append_seam xs x [] d

@@ -20,7 +20,7 @@ within c =
 begin_is : (c : After-from-begin) → c.from-begin.result ≡ c.args.row.now.side.main_data_begin
 begin_is c = c.from-begin.ensures ∙ c.requires.begin
 
--- as many bytes as hold the bits
+-- the number of bytes is the least that holds the bits
 size_is : (c : After-from-begin)
     → (c.args.extent.now.bits + 7) / 8 ≡ payload_bytes c.args.row.now.side
 size_is c = ap (λ n. (n + 7) / 8) c.requires.bits ∙ sym (bytes-are c.args.row.now.side)

@@ -1,4 +1,4 @@
--- One frame more is before those whose areas were counted.
+-- One more frame is before those whose areas were counted.
 use Rattle.std.proofs.Common.{ap, arith, slice_get, Some, ◌+◌, ◌-◌, ◌∙◌, ◌≡◌}
 use Rattle.laying.proofs.{ReadLemmas.place-next, RelayLemmas.read-at}
 use Rattle.sync_survey.specs.{Faults.survey_view, MainData.{own_area, place}}

@@ -1,4 +1,4 @@
--- One place of the plan after another.
+-- The places of the plan, in order.
 use Rattle.std.proofs.Common.{ap, arith, drop, length, rules, [], ◌+◌, ◌-◌, ◌<◌, ◌∙◌, ◌∷◌, ◌≡◌}
 use Rattle.std.proofs.lemmas.List.{drop_all}
 use Rattle.laying.proofs.PlacesLemmas.{behind-frame, behind-lead, places-end, places-next}

@@ -1,4 +1,4 @@
--- A part more after those before.
+-- One more part after those before.
 use Rattle.std.proofs.Common.{ap, arith, length, length-append, map, rules, [], ◌++◌, ◌∙◌, ◌∷◌}
 use Rattle.std.proofs.lemmas.List.{length-map}
 use Rattle.laying.{proofs.PartsLemmas.asked-push, specs.Needs.{need_of, PlanInput}}

@@ -1,4 +1,4 @@
--- Nothing is read, unless the first is the first frame of all.
+-- Nothing is read, unless `first` is the first frame of all.
 use Rattle.laying.proofs.ReadLemmas.{last-none}
 use Rattle.sync_survey.specs.Faults.{survey_view}
 use Rattle.laying.proofs.relay.Relay.begin_at.Goals as goal

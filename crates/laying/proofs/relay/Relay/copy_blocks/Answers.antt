@@ -1,4 +1,4 @@
--- One block more is copied, if it is chosen.
+-- One more block is copied, if it is chosen.
 use Rattle.std.proofs.Common.{ap, arith, drop, length, List, refl, rules, slice_index_or, subst}
 use Rattle.std.proofs.{Common.{sym, ℕ, [], ◌++◌, ◌+◌, ◌∙◌, ◌∷◌, ◌≡◌, ◌≤◌}, lemmas.List.drop_all}
 use Rattle.std.proofs.lemmas.Result.{err_from_is_err_and}
@@ -13,7 +13,7 @@ use Rattle.tag_blocks.specs.declared.block.Kind.TheVariants.{Id3v2}
 use Rattle.laying.proofs.relay.Relay.copy_blocks.Given as given
 use Rattle.laying.proofs.relay.Relay.copy_blocks.Goals as goal
 
--- what a list without blocks gives
+-- the item at any place of an empty list of blocks
 abbrev no_block : Piece
 no_block = record { offset = 0; block = record { kind = Id3v2; length = 0 } }
 
@@ -40,7 +40,7 @@ copy_chosen-requires-clause-within g c =
     (block-within 0 s.length s.blocks k (slice_index_or s.blocks k no_block)
     (drop (k + 1) s.blocks) here c.requires.ready.laid.blocks)
 
--- the block that was asked for, and those after it
+-- the requested block, and those after it
 module _ (g : given.Over) (c : After-copy_chosen g) where
   abbrev s : SurveyFields
   s = survey_view c.args.self.now.survey.now

@@ -1,4 +1,4 @@
--- The blocks before went on.
+-- The blocks before were passed on.
 use Rattle.std.proofs.Common.{drop, ◌≡◌}
 use Rattle.laying.specs.{Copying.chosen_bytes, Passing.IsRelayReady}
 use Rattle.outside.proofs.PassLemmas.{WritesUpTo}

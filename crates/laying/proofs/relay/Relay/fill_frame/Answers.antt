@@ -1,5 +1,5 @@
--- Both areas are within the input, and the feed gives all
--- from the first one's beginning to the second one's end.
+-- Both areas are within the input, and the feed holds all
+-- from the beginning of the first to the end of the second.
 use Rattle.std.proofs.Common.{ap, arith, drop, length-drop, rules, subst, sym, take, ◌+◌, ◌-◌, ◌∙◌}
 use Rattle.std.proofs.Common.{◌≡◌, ◌≤◌}
 use Rattle.std.proofs.lemmas.List.{drop-drop, drop-take, length-take-le, take-take}

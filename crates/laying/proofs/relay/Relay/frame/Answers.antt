@@ -1,4 +1,4 @@
--- The frame is read, and given to the writer in its slot.
+-- The frame is read, and passed to the writer in its slot.
 use Rattle.std.proofs.Common.{ap, arith, drop, length, List, min, rules, subst, sym, take, ℕ, []}
 use Rattle.std.proofs.{Common.{◌++◌, ◌+◌, ◌-◌, ◌<◌, ◌^◌, ◌∙◌, ◌∷◌, ◌≡◌, ◌≤◌}, lemmas.List.take_rest}
 use Rattle.frame_header.specs.Fields.{ClassFields, HeaderFields}
@@ -20,7 +20,7 @@ use Rattle.sync_survey.specs.{Faults.{survey_view, SurveyFields}, MainData.row_s
 use Rattle.laying.proofs.relay.Relay.frame.Given as given
 use Rattle.laying.proofs.relay.Relay.frame.Goals as goal
 
--- header and side information in a place of a plan
+-- header and side information at a place of a plan
 abbrev placed : Row → PlacedFields → FrameFields
 placed r p = record {
   header = record r.header { slot = p.slot };
@@ -74,7 +74,7 @@ told g c file holds =
     ap (λ (f : Frame). f ∷ []) (front g c ∙
     (λ j. record { kept = placed c.args.known.now.row.now c.args.place.now; payload = payload j }))
 
--- how far back main data may begin behind it
+-- how far back main data may begin after it
 writer-reach : (g : given.Over) (c : After-with_area-frame g) (reach : ℕ)
     → reach ≡ reach_after_frame c.args.buffers.now.writer.class c.with_area-frame.result
     → reach ≡ own_reach c.args.self.now c.args.known.now.row.now c.args.place.now
@@ -87,7 +87,7 @@ writer-reach g c reach is =
     is ∙ ap (reach_after_frame c.args.buffers.now.writer.class) (front g c)
     ∙ (λ j. behind (class j) h begin (size j))
 
--- the class of the survey is that of the frame
+-- the class of the survey is the class of the frame
 class : (g : given.Over) (c : Start g)
     → c.args.known.now.class ≡ class_of c.args.known.now.row.now.header
 class g c = c.requires.next.known ∙ sym (c.requires.stands.on.ready.laid.placed

@@ -1,4 +1,4 @@
--- One place of the plan after another.
+-- The places of the plan, in order.
 use Rattle.std.proofs.Common.{ap, append_assoc, arith, cond, drop, get_or, length, List, map, refl}
 use Rattle.std.proofs.Common.{rules, slice_get, slice_range, Some, subst, sym, ℕ, [], ◌++◌, ◌+◌}
 use Rattle.std.proofs.{Common.{◌<◌, ◌∙◌, ◌∷◌, ◌≡◌, ◌≤◌}, lemmas.List.drop_all}
@@ -42,7 +42,7 @@ loop-place-init g c =
       counts = refl;
     }
 
--- frame i at the place that is next
+-- frame i at the next place
 module _ (g : given.Over) (c : After-index-rows-reading g) where
   abbrev s : SurveyFields
   s = survey_view c.args.self.now.survey.now

@@ -1,4 +1,4 @@
--- The frames before were given to the writer, and the others are to follow.
+-- The frames before were passed to the writer, and the others are to follow.
 use Rattle.std.proofs.Common.{drop, ◌≡◌, ◌≤◌}
 use Rattle.frame_writer.specs.Frames.{reach_of}
 use Rattle.laying.{proofs.RelayLemmas.LaysUpTo, specs.Calls.IsRelayAtFrame}

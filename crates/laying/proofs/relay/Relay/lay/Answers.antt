@@ -1,4 +1,4 @@
--- What was handed on and what waits are the bytes of the frames.
+-- What was passed on and what waits are the bytes of the frames.
 use Rattle.std.proofs.{Common.{ap, arith, rules, subst, sym, ◌∙◌, ◌≡◌}, lemmas.Result.on_ok_weaker}
 use Rattle.frame_header.specs.Tables.{window_of}
 use Rattle.frame_writer.specs.Frames.{bytes_of_frames, reach_of}

@@ -1,4 +1,4 @@
--- The frames from one on, in as many places as they take.
+-- The frames from number `from` on, in as many places as they take.
 use Rattle.std.proofs.Common.{ap, arith, length, rules, subst, sym, ◌-◌, ◌∙◌}
 use Rattle.frame_header.specs.Tables.{window_of}
 use Rattle.frame_writer.specs.Frames.{reach_of}

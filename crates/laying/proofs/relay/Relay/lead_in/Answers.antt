@@ -1,4 +1,4 @@
--- What main_data_begin may be fits its bits.
+-- A main_data_begin within reach fits its bits.
 use Rattle.std.proofs.Common.{ap, arith, rules, subst, sym, ◌∙◌, ◌≡◌}
 use Rattle.frame_header.specs.Tables.{class_of}
 use Rattle.laying.proofs.PlannedFrameLemmas.{begun_fits}

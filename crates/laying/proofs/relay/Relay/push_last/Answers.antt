@@ -1,4 +1,4 @@
--- The area is in the window then.
+-- The area is then in the window.
 use Rattle.std.proofs.Common.{subst, sym}
 use Rattle.laying.{proofs.ReachLemmas.{holds-given, holds-pushed}, specs.Passing.HoldsLastAreas}
 use Rattle.sync_survey.specs.Faults.{survey_view}

@@ -1,4 +1,4 @@
--- One area more is read, up to frame i; then the last 2,048 bytes are there, or all.
+-- One more area is read, up to frame i; then the last 2,048 bytes are there, or all.
 use Rattle.std.proofs.Common.{arith, List, slice_get, Some, subst, sym, ℕ, ◌∙◌, ◌≡◌}
 use Rattle.laying.proofs.{ReadLemmas.{last-next, last-whole}, RelayLemmas.read-at}
 use Rattle.laying.specs.Passing.{IsAreaOf, IsWindowOverLast}

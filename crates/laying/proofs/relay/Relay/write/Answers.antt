@@ -1,5 +1,5 @@
--- What is before the frames and the frames, then what
--- is after them, and then what of these still waits.
+-- The frames with what is before them, then the blocks
+-- after them, and then what still waits of these.
 use Rattle.std.proofs.Common.{append-nil, List, rules, sym, ℕ, [], ◌++◌, ◌∙◌}
 use Rattle.std.{proofs.lemmas.Result.{err_from_is_err_and, on_ok_weaker}, specs.List.concat}
 use Rattle.laying.proofs.{LaidLemmas.written-is, PassLemmas.ready-later}

@@ -1,4 +1,4 @@
--- The Info frame tells of the slots of the plan, which are those of the frames.
+-- The Info frame counts the slots of the plan, which are those of the frames.
 use Rattle.std.proofs.Common.{ap, arith, length, map, sym, ◌∙◌}
 use Rattle.laying.{proofs.LaidLemmas.laid-slots, specs.Laid.{frames_laid, laid_part}}
 use Rattle.slot_plan.specs.{Plans.entries, declared.needs.Placed.Placed}
