@@ -12,7 +12,7 @@ part_later m n xs few =
     let sum : m ≡ n + (m - n) = omega (arith, few) in
     ap (λ k. drop n (take k xs)) sum ∙ drop-take n (m - n) xs
 
--- what is held after the next bytes went on
+-- what is held after the next bytes were passed on
 pub held_later : (room : List ℕ) (done end n : ℕ) → done + n ≤ end
     → take (end - (done + n)) (drop (done + n) room) ≡ drop n (take (end - done) (drop done room))
 held_later room done end n few =
@@ -20,7 +20,7 @@ held_later room done end n few =
     sym (part_later (end - done) n (drop done room) (omega (arith, few))
     ∙ ap₂ take less (drop-drop n done room))
 
--- the next bytes that are held are those of the file
+-- the next bytes that are held are the file's
 pub held_piece : (fed : Fed) (files : Files) (name : List ℕ) (at n : ℕ) → fed.place ≡ at
     → n ≤ length fed.held → IsFedFrom fed files name → (file : List ℕ) → Holds files name file
     → take n fed.held ≡ take n (drop at file)
@@ -28,7 +28,7 @@ held_piece fed files name at n place enough fed_from file holds =
     ap (take n) (sym (fed_from.same file holds)) ∙ take-take n (length fed.held)
     (drop fed.place file) enough ∙ ap (λ k. take n (drop k file)) place
 
--- other bytes are held of the input, and all else stays
+-- a pass stays ready if other bytes of the input are held
 pub ready_with : (pass : Pass) (files : Files) (fed later : Fed)
     → IsFedFrom later files pass.input.now → IsPassReady pass files fed
     → IsPassReady pass files later
@@ -41,7 +41,7 @@ ready_with pass files fed later fed_from ready = record {
   fed_from = fed_from;
 }
 
--- behind the next bytes what is held of the input is still held
+-- after the next bytes, the bytes that are held are still the input's
 pub ready_after : (pass : Pass) (files : Files) (fed later : Fed) (n : ℕ) → n ≤ length fed.held
     → later.place ≡ fed.place + n → later.held ≡ drop n fed.held → IsPassReady pass files fed
     → IsPassReady pass files later

@@ -1,4 +1,4 @@
--- A file without fault and without junk: all its bytes are items, and they split at its tag.
+-- A file without fault and without junk: all its bytes are items, which split at its tag.
 use Rattle.std.proofs.Common.{ap, ap₂, arith, length, length-drop, List, None, Option}
 use Rattle.std.proofs.Common.{option_to_list, refl, Some, subst, sym, ℕ, [], ◌++◌, ◌+◌, ◌∙◌, ◌∷◌}
 use Rattle.std.{proofs.{Common.{◌≡◌, ◌≤◌}, lemmas.List.Elements.filter_map-append}, specs.List.find}
@@ -27,7 +27,7 @@ some_frames file [] (Some fault) e none = absurd cc
 some_frames file [] None e none = absurd cc
 some_frames file (p ∷ ps) o e none = absurd cc
 
--- the blocks of items and more items are those of the one and then of the other
+-- the blocks of concatenated items are the blocks of the first items, then of the others
 pub blocks-append : (ps qs : List PlacedItem) → blocks_of (ps ++ qs) ≡ blocks_of ps ++ blocks_of qs
 blocks-append ps qs = filter_map-append (λ (p : PlacedItem). block_of_item p.offset p.item) ps qs
 
@@ -75,26 +75,26 @@ module _ (file : List ℕ) (allowed : ℕ) (start : Start) (read : IsRead file a
       (subst (λ n. AreEndToEnd Stream file start.first.offset stream.items n) stop_is
       (run-ends Stream file start.first.offset))
 
-  -- the frames of the stream are the first and the others
+  -- the frames of the stream are the first frame and the others
   pub stream-frames : frames_of stream.items ≡ start.first ∷ rest
   stream-frames =
       let frame = (start-first file start read.start_is).frame in
       frames-next Stream file start.first.offset (Frame start.first.header)
       (first_item file start.first frame.is frame.within)
 
-  -- so are those of all items
+  -- the frames of all items are the frames of the stream
   pub items-frames : frames_of items ≡ start.first ∷ rest
   items-frames = frames-append front.items stream.items
       ∙ ap₂ (λ (a b : List PlacedFrame). a ++ b) (front-frames file 0) stream-frames
 
-  -- their blocks are those of the survey
+  -- the blocks of the items are the survey's
   pub items-blocks : blocks_of items ≡ s.blocks
   items-blocks = blocks-append front.items stream.items
 
   abbrev head : Option Head
   head = head_of file start.first
 
-  -- its frames are all, or all behind the head
+  -- the frames of the survey are all frames, or all after the head
   pub frames-is : frames_from file start ≡ numbered_frames head (start.first ∷ rest)
   frames-is = ap (numbered_frames head) stream-frames
 
@@ -122,7 +122,7 @@ module _ (file : List ℕ) (allowed : ℕ) (start : Start) (read : IsRead file a
       (subst (λ n. IsSplit file items 0 (stop_of (final start.first rest)) n (length file) [])
       (sym next) split)
 
-  -- they split at the tag
+  -- the items split at the tag
   pub split : IsSplit file items 0 (tag_offset s) (tag_offset s + tag_length s) (length file)
       (option_to_list (tag_block s))
   split = split_by (tag_block s) refl

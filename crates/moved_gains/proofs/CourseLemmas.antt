@@ -1,4 +1,4 @@
--- The numbers of the frames of a file by their offsets.
+-- The numbers of the frames of a file at their offsets.
 use Rattle.std.proofs.Common.{ap, arith, Bool, cond, get_or, length, List, Ok, refl, slice_get}
 use Rattle.std.proofs.Common.{Some, subst, suc, sym, zero, ℕ, [], ◌+◌, ◌<◌, ◌∙◌, ◌∷◌, ◌≡◌, ◌≤◌}
 use Rattle.std.proofs.lemmas.{Bool.{le-ltb, lt-ltb}, Option.slice_get_read}
@@ -33,7 +33,7 @@ none_before at from (row ∷ rows) low rise =
     behind row rows at (omega (arith, low, rise.0))
     ∙ none_before at (suc row.offset) rows (omega (arith, low, rise.0)) rise.1
 
--- frames in order have the numbers of their places
+-- the number of a frame in order is its place
 pub rising_numbered : (from : ℕ) (rows : List Row) → AreRising from rows → AreRowsNumbered rows
 rising_numbered from [] rise i row is = absurd cc
 rising_numbered from (q ∷ rows) rise zero row is =
@@ -65,7 +65,7 @@ laid_rising from (row ∷ rows) to known laid =
           (laid_rising next rows to (λ i r is. known (suc i) r is) laid.2),
     )
 
--- there are no more frames than bytes
+-- there are at most as many frames as bytes
 laid_few : (from : ℕ) (rows : List Row) (to : ℕ) → AreKnown rows → FramesAreLaid from rows to
     → from + length rows ≤ to
 laid_few from [] to known laid = omega (arith, laid)
@@ -83,22 +83,22 @@ pub out_rising : (s : SurveyFields) → IsSurveyLaidOut s → AreRising s.first 
 out_rising s laid =
     laid_rising s.first s.frames s.length (λ i row is. (laid.placed i row is).known) laid.frames
 
--- so they have the numbers of their places
+-- the number of a frame of a survey that is laid out is its place
 pub out_numbered : (s : SurveyFields) → IsSurveyLaidOut s → AreRowsNumbered s.frames
 out_numbered s laid = rising_numbered s.first s.frames (out_rising s laid)
 
--- they are of its class
+-- the frames of a survey that is laid out are of its class
 pub out_classed : (s : SurveyFields) → IsSurveyLaidOut s → AreFramesOfClass s.class s.frames
 out_classed s laid i row is = (laid.placed i row is).class_is
 
--- and no more than there are bytes
+-- a survey that is laid out has at most as many frames as bytes
 pub out_few : (s : SurveyFields) → IsSurveyLaidOut s → length s.frames ≤ s.length
 out_few s laid = omega (
   arith,
   laid_few s.first s.frames s.length (λ i row is. (laid.placed i row is).known) laid.frames,
 )
 
--- the steps of frame i are those of the frame at its offset
+-- the steps of frame i are the steps at its offset
 pub frame_steps : (course : Course) (rows : List Row) (i : ℕ) (row : Row) → AreRowsNumbered rows → i
     < length rows → row ≡ get_or rows i row
     → steps_at_offset course rows row.offset ≡ course_steps course i
@@ -106,7 +106,7 @@ frame_steps course rows i row numbered_frames within is =
     ap (course_steps course)
     (numbered_frames i row (slice_get_read rows (length rows) i row refl within is))
 
--- the frames of any file that is surveyed
+-- the number of a frame of a surveyed file is its place
 pub survey_numbered : (file : List ℕ) (allowed : ℕ) (s : SurveyFields)
     → survey_fields file allowed ≡ Ok s → AreRowsNumbered s.frames
 survey_numbered file allowed s e =

@@ -56,14 +56,14 @@ pub moved-nil : (steps : ℕ → Steps) (lost : ℕ → Bool) (file : List ℕ)
 unfolding moved_items
 moved-nil steps lost file = refl
 
--- moved items are the first with its gains moved, and then the others
+-- moved items are the first item with its gains moved, then the others
 pub moved-cons : (steps : ℕ → Steps) (lost : ℕ → Bool) (file : List ℕ) (p : PlacedItem)
     (ps : List PlacedItem) → moved_items steps lost file (p ∷ ps) ≡ moved_item (steps p.offset)
     (lost p.offset) p.item (item_bytes_in file p) ++ moved_items steps lost file ps
 unfolding moved_items
 moved-cons steps lost file p ps = refl
 
--- each of them is still an item
+-- each of the moved items is still an item
 pub moved_are : (steps : ℕ → Steps) (lost : ℕ → Bool) (file : List ℕ) (from : ℕ)
     (ps : List PlacedItem)
     (to : ℕ) → AreBytes file → AreEndToEnd Stream file from ps to
@@ -81,8 +81,8 @@ moved_are steps lost file from (p ∷ ps) to all ends =
 
 -- ---- the frames among them
 
--- the frame of a file is in another one, so many bytes nearer
--- to its beginning, and with moved gains if it isn't lost
+-- the frame of a file is in another file, `gap` bytes nearer
+-- to the beginning, with moved gains if it isn't lost
 pub record IsMovedAt (steps : ℕ → Steps) (lost : ℕ → Bool) (file new : List ℕ) (gap : ℕ)
     (p : PlacedFrame) : Type 0 where
   pub whole : IsWhole p.header (frame_bytes file p)
@@ -106,8 +106,8 @@ module _ (steps : ℕ → Steps) (lost : ℕ → Bool) (file new : List ℕ) (ga
       (record { whole = frame_whole file at h all is within; rest = rest; stands = stands }, later)
   frame_more at _ rest frames all is within stands later = later
 
-  -- the frames among items with moved gains are those of the
-  -- file with moved gains, so much nearer to the beginning
+  -- the frames among items with moved gains are the file's
+  -- with moved gains, `gap` bytes nearer to the beginning
   pub frames_moved : (from at : ℕ) (ps : List PlacedItem) (to : ℕ) (behind : List ℕ) → AreBytes file
       → AreEndToEnd Stream file from ps to → from ≡ at + gap → drop at new
       ≡ moved_items steps lost file ps ++ behind → AreMovedAt steps lost file new gap (frames_of ps)

@@ -1,4 +1,4 @@
--- The runs of the edited file are those of the file, without the junk between them.
+-- The runs of the edited file are the file's, without the junk between them.
 use Rattle.std.proofs.Common.{ap, append-nil, ap₂, arith, Bool, drop, inl, inr, length}
 use Rattle.std.proofs.Common.{length-append, length-drop, List, map, None, Ok, Option, option_map}
 use Rattle.std.proofs.Common.{refl, Some, subst, sym, take, ℕ, [], ◌++◌, ◌+◌, ◌-◌, ◌∙◌, ◌∷◌, ◌≡◌}
@@ -33,7 +33,7 @@ use Rattle.sync_survey.specs.declared.runs.Region.TheVariants.{Front, Stream}
 
 -- ---- the start of the edited file
 
--- the bytes of junk
+-- the number of bytes of junk
 abbrev pub gap_of : Start → ℕ
 gap_of start = start.first.offset - start.front_end
 
@@ -59,8 +59,8 @@ first_bytes steps lost file first None =
     (steps first.offset) first.header (frame_bytes file first)
 first_bytes steps lost file first (Some head) = frame_bytes file first
 
--- the stream begins with the first frame, moved unless it is a head, and goes on with the other
--- items
+-- the stream begins with the first frame, moved unless
+-- it is a head, and continues with the other items
 pub moved_first : (steps : ℕ → Steps) (lost : ℕ → Bool) (file : List ℕ) (first : PlacedFrame)
     (ps : List PlacedItem) (o : Option Head) → moved_stream steps lost file o (record {
       offset = first.offset;
@@ -105,7 +105,7 @@ module _ (steps : ℕ → Steps) (file : List ℕ) (allowed : ℕ) (start : Star
   pub first_whole : IsItemOf Stream file first (Frame h)
   first_whole = (start-first file start read.start_is).frame
 
-  -- the front ends no later than it begins
+  -- the front ends no later than the first frame begins
   pub front_low : front_end ≤ first
   front_low = low_cases file start (start-first file start read.start_is).least
 
@@ -135,7 +135,7 @@ module _ (steps : ℕ → Steps) (file : List ℕ) (allowed : ℕ) (start : Star
   pub front_ends : AreEndToEnd Front file 0 front.items front.stop
   front_ends = run-ends Front file 0
 
-  -- those behind the first frame are too
+  -- the items after the first frame are end to end too
   pub later_ends : AreEndToEnd Stream file (first + size) later.items later.stop
   later_ends = run-ends Stream file (first + size)
 
@@ -152,7 +152,7 @@ module _ (steps : ℕ → Steps) (file : List ℕ) (allowed : ℕ) (start : Star
       ∙ ap (λ l. bytes_of_items file (stream_run file start).items ++ l) (sym (drop-length file))
       ∙ reached
 
-  -- they end with the file
+  -- the items of the stream end with the file
   pub stop_is : later.stop ≡ length file
   stop_is =
       omega (
@@ -206,11 +206,11 @@ module _ (steps : ℕ → Steps) (file : List ℕ) (allowed : ℕ) (start : Star
     front_stop,
   )
 
-  -- from there on the edited file has the first frame and what is behind it
+  -- from there on the edited file has the first frame and what is after it
   pub new-stands : drop front_end new_file ≡ own ++ after
   new-stands = ap (drop front_end) new-is ∙ drop_at before (own ++ after) front_end before_long
 
-  -- it is shorter by the junk
+  -- the edited file is shorter by the junk
   pub new-length : length new_file ≡ length file - gap
   new-length =
       omega (
@@ -234,7 +234,7 @@ module _ (steps : ℕ → Steps) (file : List ℕ) (allowed : ℕ) (start : Star
   new_room : front_end + size ≤ length new_file
   new_room = omega (arith, new-length, front_low, first_whole.within)
 
-  -- its front is that of the file
+  -- the front of the edited file is the file's
   pub new-front : item_run Front new_file 0 ≡ record { items = front.items; stop = front_end }
   new-front =
       let stop : front.stop - 0 ≡ front_end = omega (arith, front_stop) in
@@ -243,7 +243,7 @@ module _ (steps : ℕ → Steps) (file : List ℕ) (allowed : ℕ) (start : Star
       (not_in_front new_file (front.stop - 0) h (ap (item_at new_file) stop ∙ new_first))
       ∙ (λ i. record { items = nearer-none front.items i; stop = stop i })
 
-  -- its stream has the same items, nearer by the junk
+  -- the stream of the edited file has the same items, nearer by the junk
   pub new-stream : item_run Stream new_file front_end
       ≡ record { items = map (nearer gap) items; stop = later.stop - gap }
   new-stream =
@@ -253,7 +253,7 @@ module _ (steps : ℕ → Steps) (file : List ℕ) (allowed : ℕ) (start : Star
       (new-stands ∙ sym (append-nil (own ++ after)))
       (item_of-past Stream new_file (later.stop - gap) (omega (arith, new-length, stop_is)))
 
-  -- it starts with the same frame
+  -- the edited file starts with the same frame
   pub new-start : start_of new_file ≡ Ok (moved_start start)
   new-start = start_by new_file front_end h
       (front_end-is new_file ∙ ap (λ (r : ItemRun). r.stop) new-front) new_first new_room
@@ -268,7 +268,7 @@ module _ (steps : ℕ → Steps) (file : List ℕ) (allowed : ℕ) (start : Star
   pub nearer_first : nearer_frame gap start.first ≡ (moved_start start).first
   nearer_first = ap (λ n. record { offset = n; header = h }) place
 
-  -- behind it is what was behind the first frame
+  -- after the first frame is what was after it
   pub new-later : drop (front_end + size) new_file ≡ after ++ []
   new-later = sym (drop-drop size front_end new_file) ∙ ap (drop size) new-stands
       ∙ drop_at own after size (own_by head).size ∙ sym (append-nil after)
@@ -326,7 +326,7 @@ module _ (steps : ℕ → Steps) (file : List ℕ) (allowed : ℕ) (start : Star
       ≡ drop (overhead_of (class_of h) h.protected) (frame_bytes file start.first)
   new-area = ap (drop (overhead_of (class_of h) h.protected)) near_own ∙ area_by head
 
-  -- the frames are those of the file, nearer by the junk
+  -- the frames are the file's, nearer by the junk
   pub new-frames : frames_from new_file (moved_start start)
       ≡ map (nearer_frame gap) (frames_from file start)
   new-frames =

@@ -1,4 +1,4 @@
--- The survey of the edited file is that of the file, with moved gains and without the junk.
+-- The survey of the edited file is the file's, with moved gains and without the junk.
 use Rattle.std.proofs.Common.{ap, ap₂, arith, Bool, cond, drop, false, length, List, ltb, map, None}
 use Rattle.std.proofs.Common.{not, Ok, Option, option_map, refl, slice_get, Some, subst, suc, sym}
 use Rattle.std.proofs.Common.{take, true, zero, zero-add, ℕ, [], ◌&&◌, ◌++◌, ◌+◌, ◌-◌, ◌<◌, ◌==◌}
@@ -70,9 +70,9 @@ abbrev pub AreRight : List ℕ → List Row → Type 0
 AreRight file rows = (i : ℕ) (r : Row) → slice_get rows i ≡ Some r
     → has_wrong_crc (stored_crc (drop r.offset file)) r ≡ false
 
--- ---- a frame that is in another file, with moved gains where it isn't lost
+-- ---- a frame in another file, with moved gains where it isn't lost
 
--- such a frame, not marked
+-- the row of such a frame, not marked as lost
 abbrev pub moved_plain : (ℕ → Steps) → (ℕ → Bool) → ℕ → Row → Row
 moved_plain steps lost gap r = record r {
   offset = r.offset - gap;
@@ -138,7 +138,7 @@ module _ (steps : ℕ → Steps) (lost : ℕ → Bool) (file new : List ℕ) (ga
         (side_in p.header (drop p.offset file))) side_there p.header.protected refl
 
 module _ (steps : ℕ → Steps) (lost : ℕ → Bool) (file new : List ℕ) (gap : ℕ) where
-  -- the rows of the edited file are those of the file, moved
+  -- the rows of the edited file are the file's, moved
   pub rows-moved : (ps : List PlacedFrame) → AreMovedAt steps lost file new gap ps
       → rows_of new (map (nearer_frame gap) ps) ≡ map (moved_plain steps lost gap) (rows_of file ps)
   rows-moved [] at = refl
@@ -160,7 +160,7 @@ module _ (steps : ℕ → Steps) (lost : ℕ → Bool) (file new : List ℕ) (ga
 
 -- ---- frames without fault
 
--- the shapes of all side information are those that are read
+-- all side information has lists as long as those that are read
 abbrev pub AreShaped : List Row → Type 0
 AreShaped [] = Unit {0}
 AreShaped (r ∷ rows) = IsShaped r.side × AreShaped rows
@@ -170,7 +170,7 @@ pub rows_shaped : (file : List ℕ) (ps : List PlacedFrame) → AreShaped (rows_
 rows_shaped file [] = tt
 rows_shaped file (p ∷ ps) = (shaped-side_in p.header (drop p.offset file), rows_shaped file ps)
 
--- main data begin where they did among all
+-- main data begin where they did before
 pub start-moved : (steps : ℕ → Steps) (gap : ℕ) (o : Option Head) (rows : List Row) (i : ℕ)
     (r : Row) → start_of_data (place (option_map (edited_head gap) o)
     (map (edited_row steps gap) rows) i) (edited_row steps gap r) ≡ start_of_data (place o rows i) r
@@ -212,7 +212,7 @@ module _ (steps : ℕ → Steps) (lost : ℕ → Bool) (gap : ℕ) (o : Option H
   lost-moved i r = lost-by (λ at. at - gap) (λ (q : Row). q.offset - gap) side_by o rows keeps i r
       (begin-unless (lost r.offset) (steps r.offset) r.side)
 
-  -- with right check words they have no fault if they had none
+  -- with right check words the frames have no fault if they had none
   sound-moved : (file new : List ℕ) (class : ClassFields) (allowed : ℕ)
       → ((i : ℕ) (r : Row) → slice_get rows i ≡ Some r
       → has_wrong_crc (stored_crc (drop (r.offset - gap) new)) (moved_plain steps lost gap r)
@@ -243,7 +243,7 @@ module _ (steps : ℕ → Steps) (lost : ℕ → Bool) (gap : ℕ) (o : Option H
       ap₂ (λ (q : Row) (qs : List Row). q ∷ qs) own (marks_moved (n + 1) more
       (λ i q is. agree (suc i) q is ∙ ap (λ m. is_lost o rows m q) (omega arith)))
 
-  -- they are marked so, and those that aren't lost have moved gains
+  -- the same frames are marked as lost, and the others have moved gains
   pub marked-moved : ((i : ℕ) (r : Row) → slice_get rows i ≡ Some r → lost r.offset
       ≡ is_lost o rows i r)
       → marked_rows near_head near_rows ≡ map (edited_row steps gap) (marked_rows o rows)
@@ -288,7 +288,7 @@ module _ (steps : ℕ → Steps) (file : List ℕ) (allowed : ℕ) (start : Star
   moved_frames : AreMovedAt steps lost file new gap (frames_from file start)
   moved_frames = frames-moved steps file allowed start all read
 
-  -- the rows of the edited file are those of the file with moved gains
+  -- the rows of the edited file are the file's with moved gains
   pub new-rows : rows_of new (frames_from new (moved_start start))
       ≡ map (moved_plain steps lost gap) rows
   new-rows = ap (rows_of new) (new-frames steps file allowed start all read)
@@ -313,7 +313,7 @@ module _ (steps : ℕ → Steps) (file : List ℕ) (allowed : ℕ) (start : Star
       (class_from start) allowed
       (rows_right steps lost file new gap (frames_from file start) moved_frames words) sound)
 
-  -- its frames are those of the file with moved gains, lost where they were
+  -- its frames are the file's with moved gains, lost where they were
   pub new-marked : (told_from new (moved_start start)).frames
       ≡ map (edited_row steps gap) (told_from file start).frames
   new-marked =
@@ -375,7 +375,7 @@ module _ (steps : ℕ → Steps) (file : List ℕ) (allowed : ℕ) (start : Star
       ∙ sym (map-append (edited_block first gap) (blocks_of front.items) (blocks_of stream.items)
       ∙ ap₂ (λ (a b : List Piece). a ++ b) front_blocks stream_blocks)
 
-  -- the survey of the edited file is that of the file, moved
+  -- the survey of the edited file is the file's, moved
   pub new-told : told_from new (moved_start start) ≡ edited_survey steps (told_from file start)
   unfolding edited_survey
   new-told =

@@ -1,4 +1,4 @@
--- The least and the greatest of gains: of two lists together, and that they are two of the gains.
+-- The least and the greatest of gains: for two lists together, and that they are two of the gains.
 use Rattle.std.proofs.Common.{ap, ap₂, arith, Contains, drop, fold, get_or, inl, inr, length, List}
 use Rattle.std.proofs.Common.{max, min, None, Option, refl, Some, subst, suc, sym, zero, ℕ, []}
 use Rattle.std.proofs.{Common.{◌++◌, ◌+◌, ◌<◌, ◌∙◌, ◌∷◌, ◌≡◌, ◌≤◌}, lemmas.Bool.cases_lt}
@@ -10,7 +10,7 @@ use Rattle.moved_gains.specs.GainExtremes.{joined_extremes, moving_gains, row_ga
 use Rattle.moved_gains.specs.declared.gain_extremes.Gains.{Gains}
 use Rattle.sync_survey.specs.{Faults.SurveyFields, Row.Row, Survey.IsSurveyLaidOut}
 
--- ---- of two lists together
+-- ---- two lists together
 
 fold-min : (a b : ℕ) (xs : List ℕ) → fold min (min a b) xs ≡ min a (fold min b xs)
 fold-min a b [] = refl
@@ -24,7 +24,7 @@ fold-max a b (x ∷ xs) =
     let one : max (max a b) x ≡ max a (max b x) = omega arith in
     ap (λ n. fold max n xs) one ∙ fold-max a (max b x) xs
 
--- the extreme gains of two lists are those of both together
+-- the extreme gains of two lists, joined, are those of both lists together
 pub joined-extremes : (xs ys : List ℕ)
     → joined_extremes (extremes xs) (extremes ys) ≡ extremes (xs ++ ys)
 unfolding extremes
@@ -35,7 +35,7 @@ joined-extremes (x ∷ xs) (y ∷ ys) =
     let greatest = sym (fold-append max x xs (y ∷ ys) ∙ fold-max (fold max x xs) y ys) in
     ap₂ (λ (a b : ℕ). Some (record { least = a; greatest = b })) least greatest
 
--- of three the first two may be joined first
+-- joining extreme gains is associative
 pub joined-assoc : (f g h : Option Gains)
     → joined_extremes (joined_extremes f g) h ≡ joined_extremes f (joined_extremes g h)
 joined-assoc None g h = refl
@@ -48,19 +48,19 @@ joined-assoc (Some f) (Some g) (Some h) =
     ≡ max f.greatest (max g.greatest h.greatest) = omega arith in
     ap₂ (λ (a b : ℕ). Some (record { least = a; greatest = b })) least greatest
 
--- none beside them change nothing
+-- joining with no gains changes nothing
 pub joined-None : (g : Option Gains) → joined_extremes g None ≡ g
 joined-None None = refl
 joined-None (Some g) = refl
 
--- ---- of frames
+-- ---- frames
 
 -- without frames no gain moves
 pub moving-nil : (channel : ℕ) → moving_gains channel [] ≡ []
 unfolding moving_gains
 moving-nil channel = refl
 
--- the gains of frames are those of the first and those of the others
+-- the gains of frames are those of the first frame, then of the others
 pub moving-cons : (channel : ℕ) (row : Row) (rows : List Row)
     → moving_gains channel (row ∷ rows) ≡ row_gains channel row ++ moving_gains channel rows
 unfolding moving_gains
@@ -71,7 +71,7 @@ pub extremes-nil : extremes [] ≡ None
 unfolding extremes
 extremes-nil = refl
 
--- and so are the least and the greatest of them
+-- the extreme gains of frames are those of the first frame and of the others, joined
 pub extremes-cons : (channel : ℕ) (row : Row) (rows : List Row) → extremes_of channel (row ∷ rows)
     ≡ joined_extremes (extremes (row_gains channel row)) (extremes_of channel rows)
 extremes-cons channel row rows = ap extremes (moving-cons channel row rows)
@@ -79,7 +79,7 @@ extremes-cons channel row rows = ap extremes (moving-cons channel row rows)
 
 -- ---- what they are
 
--- where there are none, there are no gains
+-- if there are no extreme gains, there are no gains
 pub extremes-None : (xs : List ℕ) → extremes xs ≡ None → xs ≡ []
 unfolding extremes
 extremes-None [] e = refl
@@ -141,7 +141,7 @@ are_extremes a xs = record {
   between = λ k d lt. between a xs k d lt;
 }
 
--- where there are some, they are the least and the greatest
+-- if there are extreme gains, they are the least and the greatest
 pub extremes-Some : (xs : List ℕ) (g : Gains) → extremes xs ≡ Some g → AreExtremes xs g
 unfolding extremes
 extremes-Some [] g e = absurd cc
@@ -149,30 +149,30 @@ extremes-Some (x ∷ xs) g e =
     let same : record { least = fold min x xs; greatest = fold max x xs } ≡ g = cc in
     subst (AreExtremes (x ∷ xs)) same (are_extremes x xs)
 
--- so are the two that a call answers
+-- the two gains that a call returns are the least and the greatest
 pub some_extremes : (xs : List ℕ) (o : Option Gains) → o ≡ extremes xs → IfSome o (AreExtremes xs)
 some_extremes xs None is = tt
 some_extremes xs (Some g) is = extremes-Some xs g (sym is)
 
--- where it answers none there are no gains
+-- if a call returns no gains, there are none
 pub no_extremes : (xs : List ℕ) (o : Option Gains) → o ≡ extremes xs → IfNone o (xs ≡ [])
 no_extremes xs None is = extremes-None xs (sym is)
 no_extremes xs (Some g) is = tt
 
 -- ---- frame by frame
 
--- what has no first frame has no frame
+-- frames without a first frame are none
 pub no_first : (rows : List Row) → None ≡ slice_get rows 0 → rows ≡ []
 no_first [] is = refl
 no_first (row ∷ rows) is = absurd cc
 
--- there is none without a frame
+-- without a frame there are no extreme gains
 pub extremes-empty : (channel : ℕ) (rows : List Row) → None ≡ slice_get rows 0
     → None ≡ extremes_of channel rows
 extremes-empty channel rows is = sym (ap (extremes_of channel) (no_first rows is)
     ∙ ap extremes (moving-nil channel) ∙ extremes-nil)
 
--- those of the frames from one on are that one's and those of the frames behind it
+-- the extreme gains from frame i on are those of frame i and of the frames after it, joined
 pub extremes-from : (channel : ℕ) (rows : List Row) (i : ℕ) (row : Row) → i < length rows
     → row ≡ get_or rows i row → extremes_of channel (drop i rows)
     ≡ joined_extremes (extremes (row_gains channel row)) (extremes_of channel (drop (i + 1) rows))
@@ -181,7 +181,7 @@ extremes-from channel rows i row lt is =
     (drop_more rows i row lt ∙ ap (λ (r : Row). r ∷ drop (i + 1) rows) (sym is))
     ∙ extremes-cons channel row (drop (i + 1) rows)
 
--- behind the last frame there are none
+-- after the last frame there are no extreme gains
 pub extremes-behind : (channel : ℕ) (rows : List Row) (i : ℕ) → length rows ≤ i
     → extremes_of channel (drop i rows) ≡ None
 extremes-behind channel rows i end =
@@ -189,7 +189,7 @@ extremes-behind channel rows i end =
 
 -- ---- the channels of frames
 
--- those of a survey are of its class
+-- the channels of a survey's frames are those of its class
 pub has_channel : (channel : ℕ) (s : SurveyFields) → IsSurveyLaidOut s → channel < s.class.channels
     → HasChannel channel s.frames
 has_channel channel s laid below =

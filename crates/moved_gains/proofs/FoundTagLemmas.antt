@@ -1,4 +1,4 @@
--- The tag's block that a survey tells: it is an APEv2 block, within the file, and is there.
+-- The tag's block that a survey finds: it is an APEv2 block, within the file, and is there.
 use Rattle.std.proofs.Common.{ap, arith, Bool, cond, drop, Err, false, length, length-drop, List}
 use Rattle.std.proofs.Common.{None, Ok, Option, refl, Some, subst, suc, sym, take, true, ℕ, [], ◌+◌}
 use Rattle.std.proofs.{Common.{◌-◌, ◌∙◌, ◌∷◌, ◌≡◌, ◌≤◌}, lemmas.Bool.false≢true}
@@ -40,7 +40,7 @@ found_by : (x b : Piece) (xs : List Piece) (P : Type 0) (t : Bool) → is_tag x 
 found_by x b xs P true is e here later = here is cc
 found_by x b xs P false is e here later = later is e
 
--- the first that is a tag is the first of all, or the first of those after it
+-- the first tag is the first block, or the first tag after it
 pub found_case : (x b : Piece) (xs : List Piece) (P : Type 0) → find is_tag (x ∷ xs) ≡ Some b
     → (is_tag x ≡ true → x ≡ b → P) → (is_tag x ≡ false → find is_tag xs ≡ Some b → P) → P
 found_case x b xs P e here later = found_by x b xs P (is_tag x) refl e here later
@@ -67,7 +67,7 @@ tag_laid from (x ∷ xs) to b laid e =
     (laid_from (x.offset + x.block.length) xs to laid.1))
     (λ none rest. tag_laid (x.offset + x.block.length) xs to b laid.1 rest)
 
--- it is within the length
+-- the tag is within the length
 pub tag-within : (s : SurveyFields) (b : Piece) → IsSurveyLaidOut s → tag_block s ≡ Some b
     → b.offset + b.block.length ≤ s.length
 tag-within s b laid e = tag_laid 0 s.blocks s.length b laid.blocks e
@@ -89,7 +89,7 @@ module _ (part : Region) (file : List ℕ) where
       (λ none rest. later rest)
   one_found at _ bs b here later e = later e
 
-  -- among items that follow end to end
+  -- a block found among consecutive items is there
   pub found_item : (from : ℕ) (ps : List PlacedItem) (to : ℕ) (b : Piece)
       → AreEndToEnd part file from ps to → find is_tag (blocks_of ps) ≡ Some b
       → whole_item_at part file b.offset ≡ Some (Block b.block)
@@ -108,7 +108,7 @@ own_block part file at b is =
     let front : item_front own ≡ Block b = ap item_front (sym (append-nil own)) ∙ kept.known [] in
     (here.within, subst (IsItemFront own) front (stands own))
 
--- the bytes of a tag, and how long they are
+-- the bytes of a tag, and their number
 pub record IsTagThere (file : List ℕ) (b : Piece) : Type 0 where
   pub within : b.offset + b.block.length ≤ length file
   pub long : length (take b.block.length (drop b.offset file)) ≡ b.block.length
@@ -141,7 +141,7 @@ all_cases file start b (Some x) found is e =
     there_by Front file b (found_tag (all_blocks file start) b found) (found_item Front file 0
     (item_run Front file 0).items (item_run Front file 0).stop b (run-ends Front file 0) (is ∙ e))
 
--- the tag's block that a survey has is an APEv2 block in the file
+-- the tag's block that a survey finds is an APEv2 block in the file
 pub tag-there : (file : List ℕ) (allowed : ℕ) (s : SurveyFields) (b : Piece)
     → survey_fields file allowed ≡ Ok s → tag_block s ≡ Some b → IsTagThere file b
 tag-there file allowed s b e found =
@@ -160,13 +160,13 @@ survey_cases : (file : List ℕ) (allowed : ℕ) (fault : SurveyFault) (s : Surv
 survey_cases file allowed fault s true e = absurd cc
 survey_cases file allowed fault s false e = e
 
--- the survey of a file that isn't too long is that of its bytes
+-- the survey of a file that isn't too long is the survey of its bytes
 pub survey_of-surveyed : (file : List ℕ) (allowed : ℕ) (s : SurveyFields)
     → survey_of file allowed ≡ Ok s → survey_fields file allowed ≡ Ok s
 unfolding survey_of
 survey_of-surveyed file allowed s e = survey_cases file allowed _ s _ e
 
--- and says how long the file is
+-- a survey says how long the file is
 pub surveyed-length : (file : List ℕ) (allowed : ℕ) (s : SurveyFields)
     → survey_fields file allowed ≡ Ok s → length file ≡ s.length
 surveyed-length file allowed s e = let parts = surveyed-parts file allowed s e in
@@ -174,13 +174,13 @@ surveyed-length file allowed s e = let parts = surveyed-parts file allowed s e i
 
 -- ---- the end of the last frame
 
--- the last frame's end is the same with one frame more in front
+-- one more frame before others doesn't change the end of the last
 pub last_more : (r q : Row) (rows : List Row) → last_end (r ∷ q ∷ rows) ≡ last_end (q ∷ rows)
 last_more r q rows =
     let m : length (r ∷ q ∷ rows) - 1 ≡ suc (length (q ∷ rows) - 1) = omega arith in
     rw m refl
 
--- of one frame it is its own
+-- the end of one frame is its own
 pub last_one : (r : Row) → last_end (r ∷ []) ≡ frame_end r
 last_one r = refl
 
@@ -190,6 +190,6 @@ last_laid from (r ∷ []) to laid = omega (arith, last_one r, laid.2)
 last_laid from (r ∷ q ∷ rows) to laid =
     omega (arith, last_more r q rows, last_laid (frame_end r) (q ∷ rows) to laid.2)
 
--- it isn't past the greatest length of a file
+-- the end of the last frame isn't past the greatest length of a file
 pub last-within : (s : SurveyFields) → IsSurveyLaidOut s → last_end s.frames ≤ longest_file
 last-within s laid = omega (arith, last_laid s.first s.frames s.length laid.frames, laid.few)

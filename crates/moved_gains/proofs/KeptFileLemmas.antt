@@ -1,4 +1,5 @@
--- A changed file differs from what it was in gains, check words, the tag and junk that is left out.
+-- A changed file differs from the original in gains,
+-- check words, the tag and junk that is left out.
 use Rattle.std.proofs.Common.{ap, append_assoc, ap₂, arith, drop, inl, inr, List, map, None, Ok}
 use Rattle.std.proofs.Common.{Option, refl, slice_get, Some, subst, suc, sym, take}
 use Rattle.std.proofs.Common.{take-append-drop, zero, ℕ, [], ◌++◌, ◌+◌, ◌-◌, ◌<◌, ◌∙◌, ◌∷◌, ◌≡◌}
@@ -24,7 +25,7 @@ use Rattle.sync_survey.specs.{Faults.{survey_fields, SurveyFields}, Row.Row}
 
 -- ---- patches in order
 
--- from an earlier offset on there are more bytes before the first patch
+-- patches in order from an offset on are in order from any earlier one
 ordered_earlier : (at to : ℕ) (patches : List Patch) → at ≤ to → ArePatchesInOrder to patches
     → ArePatchesInOrder at patches
 ordered_earlier at to [] low order = tt
@@ -340,7 +341,7 @@ allowed_weaker T U weaker file s (patch ∷ patches) may =
         inr (inl (record { from = tag.from; to = tag.to; now = weaker patch.now tag.now }))
     one (inr (inr frame)) = inr (inr frame)
 
--- more may be the tag
+-- patches are allowed too where more may be the tag
 pub keeps_weaker : (T U : List ℕ → Type 0) → ((tag : List ℕ) → T tag → U tag) → (file : List ℕ)
     (s : SurveyFields) (new : List ℕ) → KeepsAll T file s new → KeepsAll U file s new
 keeps_weaker T U weaker file s new keeps = record {

@@ -1,4 +1,4 @@
--- A frame with moved gains differs from what it was in gains and in the check word alone.
+-- A frame with moved gains differs from the original only in gains and in the check word.
 use Rattle.std.proofs.Common.{ap, append_assoc, ap₂, arith, Bool, cond, drop, false, flat_map}
 use Rattle.std.proofs.Common.{length, length-drop, length-take, List, MatchBool, not, refl, subst}
 use Rattle.std.proofs.Common.{sum, sym, take, take-append-drop, true, ℕ, ℤ, [], ◌++◌, ◌∙◌, ◌∷◌, ◌≡◌}
@@ -31,9 +31,9 @@ use Rattle.side_info.specs.Side.{front_widths, granules_in, side_bits}
 use Rattle.side_info.specs.declared.{granule.Granule.Granule, side.Side.Side}
 use Rattle.sync_survey.specs.Row.{Row}
 
--- ---- fields one after the other
+-- ---- fields in order
 
--- fields that stay, and those behind them
+-- fields that stay, and those after them
 staying_same : (widths xs : List ℕ) (fields : List Field) (old new : List ℕ)
     → length xs ≡ sum widths → DiffersInFields fields old new
     → DiffersInFields (fixed_fields widths ++ fields) (xs ++ old) (xs ++ new)
@@ -50,7 +50,7 @@ staying_same (w ∷ ws) xs fields old new e same =
           (sym (drop-append-le w xs new within)) next),
     )
 
--- one that may change
+-- a field that may change, and those after it
 changing_same : (changes : Bool) (width : ℕ) (xs ys : List ℕ) (fields : List Field)
     (old new : List ℕ) → length xs ≡ width → length ys ≡ width → (changes ≡ false → ys ≡ xs)
     → DiffersInFields fields old new
@@ -110,7 +110,7 @@ moved_same version steps g fields old new later = by_silent (is_silent_granule g
     by_silent false is = other_gain version g (moved_gain steps g.global_gain) fields old new
         (λ silent. absurd (false≢true (sym is ∙ silent))) later
 
--- each of these is one of the others, moved by some steps
+-- each of these granules is one of the others, moved by some steps
 abbrev AreMoved : List Granule → List Granule → Type 0
 AreMoved [] [] = Unit {0}
 AreMoved (g ∷ gs) (h ∷ hs) = ((steps : ℤ) × (moved_granule steps g ≡ h)) × AreMoved gs hs
@@ -160,7 +160,7 @@ granules_moved steps =
 
 -- ---- the side information
 
--- the fields of the side information, and the bits behind them, which are the same
+-- the fields of the side information, and the bits after them, which are the same
 side_same : (steps : Steps) (c : ClassFields) → IsClass c → (s : Side) → IsShaped s
     → (area : List ℕ) → DiffersInFields (fixed_fields (front_widths c)
     ++ flat_map (granule_fields c.version) (granules_in c s))
@@ -301,7 +301,7 @@ frame_differs steps h frame whole right =
           ∙ frame_with-own h frame class whole.all room right;
     }
 
--- a frame of a file: a lost one stays
+-- a frame of a file may become the frame with moved gains; a lost frame stays
 pub row_differs : (steps : Steps) (file : List ℕ) (row : Row) → IsFrameOf file row
     → MayBecome row (frame_of file row) (moved_row_bytes steps file row)
 row_differs steps file row here = by_lost row.lost

@@ -1,5 +1,5 @@
--- Frames are in order. So a frame is lost if a lost frame
--- is at its offset, since no two frames are at one offset.
+-- Frames are in order, so a frame is lost if a lost frame is
+-- at its offset, since no two frames are at the same offset.
 use Rattle.std.proofs.Common.{ap, ap₂, arith, Bool, false, List, map, Option, refl, slice_get, Some}
 use Rattle.std.proofs.Common.{subst, suc, sym, true, zero, zero-add, ℕ, [], ◌&&◌, ◌+◌, ◌<◌, ◌==◌}
 use Rattle.std.proofs.{Common.{◌||◌, ◌∙◌, ◌∷◌, ◌≡◌, ◌≤◌}, lemmas.Bool.{eq-eqb, ne_eqb}}
@@ -15,18 +15,18 @@ use Rattle.sync_survey.specs.declared.runs.Region.{Region, TheVariants.Stream}
 
 -- ---- frames at rising offsets
 
--- the offsets of these frames rise, from one on
+-- the offsets of these frames rise, from an offset on
 abbrev pub AreRising : ℕ → List Row → Type 0
 AreRising at [] = Unit {0}
 AreRising at (r ∷ rows) = (at ≤ r.offset) × AreRising (suc r.offset) rows
 
--- frames in order from an offset on are so from any earlier one
+-- frames in order from an offset on are in order from any earlier one
 pub rising_less : (low high : ℕ) (rows : List Row) → low ≤ high → AreRising high rows
     → AreRising low rows
 rising_less low high [] le rise = tt
 rising_less low high (r ∷ rows) le rise = (omega (arith, le, rise.0), rise.1)
 
--- none of them is before it
+-- no frame in order from an offset on is before it
 pub rising_get : (from : ℕ) (rows : List Row) (i : ℕ) (r : Row) → AreRising from rows
     → slice_get rows i ≡ Some r → from ≤ r.offset
 rising_get from [] i r rise is = absurd cc
@@ -37,25 +37,25 @@ rising_get from (q ∷ rows) (suc i) r rise is =
 
 -- ---- frames between two offsets
 
--- these frames, none of which is empty, are in their order between two offsets
+-- these frames, none of which is empty, are in order between two offsets
 abbrev pub EndBy : ℕ → List Row → ℕ → Type 0
 EndBy from [] to = from ≤ to
 EndBy from (row ∷ rows) to =
     (from ≤ row.offset) × (row.offset < row_end row) × EndBy (row_end row) rows to
 
--- they end no earlier than it
+-- frames between two offsets: the second offset isn't before the first
 pub end_rises : (from : ℕ) (rows : List Row) (to : ℕ) → EndBy from rows to → from ≤ to
 end_rises from [] to ends = ends
 end_rises from (row ∷ rows) to ends =
     omega (arith, ends.0, ends.1, end_rises (row_end row) rows to ends.2)
 
--- frames that follow each other from an offset on do from any earlier one
+-- frames in order between two offsets are in order from any earlier one
 pub end_earlier : (from later : ℕ) (rows : List Row) (to : ℕ) → from ≤ later → EndBy later rows to
     → EndBy from rows to
 end_earlier from later [] to low ends = omega (arith, low, ends)
 end_earlier from later (row ∷ rows) to low ends = (omega (arith, low, ends.0), ends.1, ends.2)
 
--- and end before any later one
+-- frames in order between two offsets end before any later one
 pub end_later : (from : ℕ) (rows : List Row) (to later : ℕ) → to ≤ later → EndBy from rows to
     → EndBy from rows later
 end_later from [] to later up ends = omega (arith, ends, up)
@@ -70,7 +70,7 @@ end_rising from (row ∷ rows) to ends = (
       (end_rising (row_end row) rows to ends.2),
 )
 
--- placed frames, marked by their offsets
+-- the rows of placed frames, marked as lost by offset
 abbrev pub rows_by : (ℕ → Bool) → List ℕ → List PlacedFrame → List Row
 rows_by lost file ps = map (λ (p : PlacedFrame). record (row_of file p) { lost = lost p.offset }) ps
 
@@ -86,7 +86,7 @@ module _ (lost : ℕ → Bool) (file : List ℕ) where
   end_more at _ frames to some ends =
       end_earlier at (at + 0) (rows_by lost file frames) to (omega arith) ends
 
-  -- the frames of items that follow end to end
+  -- the frames of consecutive items
   pub items_end : (part : Region) (from : ℕ) (ps : List PlacedItem) (to : ℕ)
       → AreEndToEnd part file from ps to → EndBy from (rows_by lost file (frames_of ps)) to
   items_end part from [] to ends = omega (arith, ends)
@@ -181,7 +181,7 @@ by_each lost file head all n (p ∷ ps) each =
     (by_each lost file head all (n + 1) ps
     (λ i r is. each (suc i) r is ∙ ap (λ m. is_lost head all m r) (omega arith)))
 
--- the marks of the rows are those of the offsets of lost frames
+-- the rows are marked as lost exactly at the offsets of lost frames
 pub marked-by : (file : List ℕ) (head : Option Head) (from : ℕ) (ps : List PlacedFrame)
     → AreRising from (rows_of file ps) → marked_rows head (rows_of file ps)
     ≡ rows_by (is_lost_at (marked_rows head (rows_of file ps))) file ps

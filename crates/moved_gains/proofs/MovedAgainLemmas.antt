@@ -1,5 +1,5 @@
 -- Frames that are in another file with moved gains, moved again: what is
--- written of them there is what is written here with all steps together.
+-- written for them there is what is written here with both steps together.
 use Rattle.std.proofs.Common.{ap, ap₂, arith, Bool, cond, drop, false, length, List, map, refl}
 use Rattle.std.proofs.Common.{subst, sym, take, true, ℕ, ◌+ℤ◌, [], ◌++◌, ◌+◌, ◌-◌, ◌<◌, ◌∙◌, ◌∷◌}
 use Rattle.std.proofs.{Common.{◌≡◌, ◌≤◌}, lemmas.List.{drop-drop, drop_at, take_at}}
@@ -19,7 +19,7 @@ use Rattle.side_info.proofs.{FrameLemmas.frame_with-again, SideLemmas.IsShaped}
 use Rattle.side_info.specs.{Frame.frame_with_side, Side.granule_in, declared.side.Side.Side}
 use Rattle.sync_survey.specs.Row.{Row}
 
--- all these steps are those of the one change and of the other together
+-- all these steps are the sum of one change and of the other
 pub record AreTogether (one two all : Steps) : Type 0 where
   pub left : all.left ≡ one.left +ℤ two.left
   pub right : all.right ≡ one.right +ℤ two.right
@@ -43,7 +43,7 @@ pub side_again : (one two all : Steps) → AreTogether one two all → (s : Side
     → moved_side two (moved_side one s) ≡ moved_side all s
 side_again one two all sum s shaped = side_twice one two s shaped ∙ sum_side one two all sum s
 
--- such a frame, with moved gains at its offset there
+-- the row of such a frame, with moved gains at its new offset
 abbrev pub stood : (ℕ → ℕ) → (ℕ → Steps) → Row → Row
 stood to steps row =
     record row {
@@ -51,15 +51,15 @@ stood to steps row =
       side = moved_side_unless_lost row.lost (steps row.offset) row.side;
     }
 
--- for each of these frames all steps are those of the one
--- change at its offset and of the other at its offset there
+-- for each of these frames all steps are the sum of one
+-- change at its offset and of the other at its new offset
 abbrev pub IsTogether : (ℕ → Steps) → (ℕ → Steps) → (ℕ → Steps) → (ℕ → ℕ) → Row → Type 0
 IsTogether one two all to row = AreTogether (one row.offset) (two (to row.offset)) (all row.offset)
 
 abbrev pub AllTogether : (ℕ → Steps) → (ℕ → Steps) → (ℕ → Steps) → (ℕ → ℕ) → List Row → Type 0
 AllTogether one two all to rows = Each (IsTogether one two all to) rows
 
--- the same steps for every frame are together for each
+-- if the steps are the same for every frame, their sum is too
 pub even_together : (one two all : Steps) → AreTogether one two all → (to : ℕ → ℕ) (rows : List Row)
     → AllTogether (λ at. one) (λ at. two) (λ at. all) to rows
 even_together one two all sum to [] = tt
@@ -94,11 +94,11 @@ bytes_again steps one two all file row is sum to here =
         ∙ frame_with-again h (moved_side all row.side) (moved_side one row.side) frame (whole_class
         h frame here.whole) (IsShaped-moved one row.side shaped) (whole_room h frame here.whole).0
 
--- each offset from the one on and before the end is moved so
+-- each offset from the first on and before the end is moved in this way
 abbrev pub AreMovedBy : (ℕ → ℕ) → ℕ → ℕ → ℕ → Type 0
 AreMovedBy to at end there = (x : ℕ) → at ≤ x → x < end → to x ≡ x - at + there
 
--- the frames are there in their order
+-- the frames are there in order
 pub ends_again : (steps : ℕ → Steps) (to : ℕ → ℕ) (at end there : ℕ) (rows : List Row)
     → EndBy at rows end → AreMovedBy to at end there
     → EndBy there (map (stood to steps) rows) (end - at + there)

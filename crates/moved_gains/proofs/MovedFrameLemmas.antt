@@ -47,7 +47,7 @@ moved_granules steps m p a b g h k l (suc zero) (suc zero) = moved-alike steps.r
 moved_granules steps m p a b g h k l (suc zero) (suc (suc channel)) = refl
 moved_granules steps m p a b g h k l (suc (suc granule)) channel = refl
 
--- moved side information differs from its own in gains alone
+-- moved side information differs only in gains
 pub other_gains : (steps : Steps) (s : Side) → IsShaped s → HasOtherGains s (moved_side steps s)
 unfolding moved_side
 other_gains steps =
@@ -59,7 +59,7 @@ other_gains steps =
       granules = moved_granules steps m p a b g h k l;
     })
 
--- nor does the last granule and channel of moved side information
+-- the last granule and channel of moved side information differs only in its gain
 last_granule-moved : (steps : Steps) (c : ClassFields) → IsClass c → (s : Side)
     → AreGranulesAlike (last_granule c s) (last_granule c (moved_side steps s))
 unfolding moved_side
@@ -115,7 +115,7 @@ pub record IsWhole (h : HeaderFields) (frame : List ℕ) : Type 0 where
 pub whole_class : (h : HeaderFields) (frame : List ℕ) → IsWhole h frame → IsClass (class_of h)
 whole_class h frame whole = IsClass-class_of h (header_front-in_range frame h whole.header)
 
--- it has room for side information, and more behind it
+-- a whole frame has room for side information, and more after it
 pub whole_room : (h : HeaderFields) (frame : List ℕ) → IsWhole h frame
     → (HasRoom h frame) × (6 + side_size_of (class_of h) < length frame)
 whole_room h frame whole =
@@ -139,7 +139,7 @@ pub record IsMoved (lost : Bool) (steps : Steps) (h : HeaderFields)
   pub side : side_in h new ≡ moved_side_unless_lost lost steps (side_in h frame)
   pub right : (lost ≡ true → IsRight h frame) → IsRight h new
 
--- with moved gains it is whole, and has its header, its length and its area
+-- a whole frame with moved gains is whole, and keeps its header, its length and its area
 pub moved_whole : (lost : Bool) (steps : Steps) (h : HeaderFields) (frame : List ℕ)
     → IsWhole h frame → IsMoved lost steps h frame (moved_frame_unless_lost lost steps h frame)
 moved_whole true steps h frame whole = record {
@@ -173,7 +173,7 @@ moved_whole false steps h frame whole =
           ∙ ap (check_word_of h) (sym side);
     }
 
--- it is an item of its own
+-- a whole frame is an item by itself
 pub whole_item : (h : HeaderFields) (frame : List ℕ) → IsWhole h frame → IsItem (Frame h) frame
 whole_item h frame whole =
     frame_item h frame whole.header whole.size (omega (arith, (whole_room h frame whole).1))
@@ -184,7 +184,7 @@ pub gain_fits : (c : ClassFields) (has : Bool) (g : Granule)
 gain_fits c true g fits = omega (arith, fits.global_gain)
 gain_fits c false g none = omega (arith, ap (λ (h : Granule). h.global_gain) none)
 
--- so are all gains of side information that fits
+-- all gains of side information that fits are below 256
 pub gains_fit : (c : ClassFields) (s : Side) → SideFits c s → GainsFit s
 gains_fit c s fits = record {
   first = gain_fits c (has_granule c 0 0) (granule_in s 0 0) (fits.granules 0 0);

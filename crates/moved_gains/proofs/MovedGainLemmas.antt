@@ -1,4 +1,4 @@
--- Gains that are moved: twice, not at all, and what they leave.
+-- Moved gains: moved twice, not at all, and what moving leaves unchanged.
 use Rattle.std.proofs.Common.{ap, ap₂, arith, Bool, cond, false, flat_map, List, map, negsuc, None}
 use Rattle.std.proofs.Common.{not, Option, pos, refl, Some, suc, sym, take, true, unsigned_abs, ℕ}
 use Rattle.std.proofs.Common.{ℤ, ◌+ℤ◌, [], ◌%◌, ◌&&◌, ◌*◌, ◌+◌, ◌-◌, ◌/◌, ◌<◌, ◌==◌, ◌||◌, ◌∙◌, ◌∷◌}
@@ -21,7 +21,7 @@ use Rattle.sync_survey.specs.MainData.{granule_lengths}
 abbrev pub rem : ℤ → ℕ
 rem z = unsigned_abs (int_rem_euclid z (pos 256))
 
--- the remainder of a sum depends on that of its first part
+-- the remainder of a sum depends on the remainder of its first part
 rem_sum : (z b : ℤ) → rem (pos (rem z) +ℤ b) ≡ rem (z +ℤ b)
 rem_sum (pos n) (pos m) = omega arith
 rem_sum (pos n) (negsuc m) =
@@ -45,7 +45,7 @@ rem_sum (negsuc n) (negsuc m) =
 gain_twice : (a b : ℤ) (gain : ℕ) → moved_gain b (moved_gain a gain) ≡ moved_gain (a +ℤ b) gain
 gain_twice a b gain = rem_sum (pos gain +ℤ a) b ∙ ap rem (+ℤ_assoc (pos gain) a b)
 
--- a gain is its own remainder of 256
+-- a gain is its own remainder modulo 256
 pub gain_as_is : (n : ℕ) → n < 256 → rem (pos n) ≡ n
 gain_as_is n small = omega arith
 
@@ -64,7 +64,7 @@ within (pos n) inside =
     record { gain = n; is = refl; small = omega (arith, ltb-false 255 n inside) }
 within (negsuc n) inside = absurd (false≢true (sym inside))
 
--- if the first sum is within the range, the second is the sum of all
+-- after a sum within the range, the next leaves it exactly if the sum of both moves does
 gain_next : (a b : ℤ) (gain : ℕ) → is_out_of_range (pos gain +ℤ a) ≡ false
     → is_out_of_range (pos (moved_gain a gain) +ℤ b) ≡ is_out_of_range (pos gain +ℤ (a +ℤ b))
 gain_next a b gain inside =
@@ -113,8 +113,8 @@ granule_none g small = by_silence (is_silent_granule g) refl
     by_silence false loud = moved-loud (pos 0) g loud
         ∙ ap (λ n. record g { global_gain = n }) (gain_none g.global_gain small)
 
--- after a change by which it doesn't leave the range, a gain
--- leaves it by another exactly if it does by both together
+-- after a change that keeps it in the range, a gain leaves the
+-- range by another change exactly if it does by both together
 pub granule_next : (a b all : ℤ) → all ≡ a +ℤ b → (g : Granule) → is_stuck a g ≡ false
     → is_stuck b (moved_granule a g) ≡ is_stuck all g
 granule_next a b all sum g first =
@@ -143,7 +143,7 @@ moved-payload steps g = elim (is_silent_granule g) as (λ b. (cond b g (record g
 
 -- ---- the gains of a frame
 
--- one change and then another
+-- the steps of one change and then another
 abbrev pub sum_of : Steps → Steps → Steps
 sum_of a b = record { left = a.left +ℤ b.left; right = a.right +ℤ b.right; wrap = a.wrap || b.wrap }
 
@@ -189,7 +189,7 @@ none-with steps none m p a b g h k l fits =
     λ i. side_with m p a b (left g fits.first i) (right h fits.second i) (left k fits.third i)
     (right l fits.fourth i)
 
--- moved by no step, it stays
+-- moved by no step, side information stays
 pub side_none : (steps : Steps) → IsNoStep steps → (s : Side) → IsShaped s → GainsFit s
     → moved_side steps s ≡ s
 side_none steps none s shaped = each_shaped (NoneGoal steps) (none-with steps none) s shaped
@@ -216,7 +216,7 @@ pub record AreFree (left right : ℤ) (g h k l : Granule) : Type 0 where
   pub fourth : is_stuck right l ≡ false
 
 module _ (steps : Steps) (m p a b : ℕ) (g h k l : Granule) where
-  -- where no gain is stuck, each of the four is free to move
+  -- if no gain would leave the range, each of the four can move
   pub free-parts : steps.wrap ≡ false → side_out_of_range steps (side_with m p a b g h k l) ≡ None
       → AreFree steps.left steps.right g h k l
   unfolding side_out_of_range
@@ -242,7 +242,7 @@ module _ (steps : Steps) (m p a b : ℕ) (g h k l : Granule) where
         fourth = free_of _ _ last.1;
       }
 
-  -- and where each of the four is free, none is stuck
+  -- if each of the four gains can move, none would leave the range
   pub free-whole : AreFree steps.left steps.right g h k l → steps.wrap ≡ false
       → side_out_of_range steps (side_with m p a b g h k l) ≡ None
   unfolding side_out_of_range
@@ -273,7 +273,7 @@ module _ (steps : Steps) (m p a b : ℕ) (g h k l : Granule) where
       let lp = moved-payload steps.right l in
       λ i. 0 + (0 + gp i + hp i) + (0 + kp i + lp i)
 
--- with wrapping none is ever stuck
+-- with wrap no gain ever leaves the range
 pub wrapped-free : (steps : Steps) (s : Side) → steps.wrap ≡ true → side_out_of_range steps s ≡ None
 unfolding side_out_of_range
 wrapped-free steps s wraps =
@@ -308,7 +308,7 @@ then-with one two all strict_one strict_two strict_all left right m p a b g h k 
     strict_two
 
 -- if no gain leaves the range by one change nor by both together, none
--- leaves it by the other change after the one; with wrap none ever does
+-- leaves it by the other change after the first; with wrap none ever does
 pub side_then : (one two all : Steps) (s : Side) → IsShaped s → two.wrap ≡ one.wrap || all.wrap
     → all.left ≡ one.left +ℤ two.left → all.right ≡ one.right +ℤ two.right → side_out_of_range one s
     ≡ None → side_out_of_range all s ≡ None → side_out_of_range two (moved_side one s) ≡ None
@@ -321,7 +321,7 @@ side_then one two all s shaped wraps left right first whole = by_wrap one.wrap a
         (wraps ∙ ap₂ (λ (x y : Bool). x || y) e d) d left right) s shaped first whole
     by_wrap _ _ e d = wrapped-free two (moved_side one s) (wraps ∙ ap₂ (λ (x y : Bool). x || y) e d)
 
--- ---- what moved gains leave
+-- ---- what moved gains leave unchanged
 
 -- the main data have as many bits as before
 pub payload_bits-moved : (steps : Steps) (s : Side) → IsShaped s
@@ -335,7 +335,7 @@ unfolding moved_side
 IsShaped-moved steps s shaped =
     record { scfsi = shaped.scfsi; granules = refl; first = refl; second = refl }
 
--- the same where a lost frame stays
+-- the main data have as many bits as before, also if a lost frame stays
 pub payload_bits-unless : (lost : Bool) (steps : Steps) (s : Side) → IsShaped s
     → payload_bits (moved_side_unless_lost lost steps s) ≡ payload_bits s
 payload_bits-unless true steps s shaped = refl
@@ -347,7 +347,7 @@ pub payload-unless : (lost : Bool) (steps : Steps) (s : Side) → IsShaped s
 unfolding payload_bytes
 payload-unless lost steps s shaped = ap (λ n. (n + 7) / 8) (payload_bits-unless lost steps s shaped)
 
--- and begin where they did
+-- the main data begin where they did, moved or lost
 pub begin-unless : (lost : Bool) (steps : Steps) (s : Side)
     → (moved_side_unless_lost lost steps s).main_data_begin ≡ s.main_data_begin
 unfolding moved_side

@@ -1,4 +1,4 @@
--- Items of a file that are in another one, each at an offset that its own decides.
+-- Items of a file that are in another one, each at an offset that depends only on its own.
 use Rattle.std.proofs.Common.{ap, arith, drop, length, length-drop, List, map, Some, subst, sym}
 use Rattle.std.proofs.Common.{take, ℕ, [], ◌++◌, ◌+◌, ◌-◌, ◌<◌, ◌∙◌, ◌∷◌, ◌≡◌, ◌≤◌}
 use Rattle.std.{proofs.lemmas.List.{length-take, take-append-drop}, specs.List.cons_option}
@@ -42,16 +42,16 @@ item-moved file new at place item is same =
       length-drop place new,
     ))
 
--- ---- several
+-- ---- several items
 
--- the bytes of the file between two offsets are in the other one, where their offsets are then
+-- the bytes of the file between two offsets are in the other file, at their new offsets
 pub record IsMovedTo (to : ℕ → ℕ) (file new : List ℕ) (from end at : ℕ) : Type 0 where
   pub place : (x : ℕ) → from ≤ x → x < end → to x ≡ at + (x - from)
   pub same : (x k : ℕ) → from ≤ x → x < end → x + k ≤ end
       → take k (drop (to x) new) ≡ take k (drop x file)
 
 module _ (to : ℕ → ℕ) (file new : List ℕ) where
-  -- so far after the first offset
+  -- the bytes `size` bytes after the first offset are moved in the same way
   behind : (from end at size : ℕ) → IsMovedTo to file new from end at
       → IsMovedTo to file new (from + size) end (at + size)
   behind from end at size moved = record {
@@ -65,7 +65,7 @@ module _ (to : ℕ → ℕ) (file new : List ℕ) where
   rises from (p ∷ ps) end ends =
       omega (arith, ends.0, rises (p.offset + size_of p.item) ps end ends.2)
 
-  -- items end to end are so there
+  -- items that are end to end are end to end there
   pub ends-moved : (from : ℕ) (ps : List PlacedItem) (end at : ℕ)
       → AreEndToEnd Stream file from ps end → IsMovedTo to file new from end at
       → AreEndToEnd Stream new at (map (placed_by to) ps) (at + (end - from))
@@ -100,7 +100,7 @@ module _ (to : ℕ → ℕ) (file new : List ℕ) where
   AreKept [] = Unit {0}
   AreKept (p ∷ ps) = IsKept p × AreKept ps
 
-  -- frames that are kept, and others, are kept together
+  -- two lists of frames that are kept are kept together
   pub kept-append : (ps qs : List PlacedFrame) → AreKept ps → AreKept qs → AreKept (ps ++ qs)
   kept-append [] qs kept more = more
   kept-append (p ∷ ps) qs kept more = (kept.0, kept-append ps qs kept.1 more)
@@ -119,7 +119,7 @@ module _ (to : ℕ → ℕ) (file new : List ℕ) where
   kept_more at Free frames is same kept = kept
   kept_more at _ frames is same kept = kept
 
-  -- the frames of items that are elsewhere in another file are kept there
+  -- the frames of items that were moved to another file are kept there
   pub frames-kept : (from : ℕ) (ps : List PlacedItem) (end at : ℕ)
       → AreEndToEnd Stream file from ps end → IsMovedTo to file new from end at
       → AreKept (frames_of ps)
@@ -135,7 +135,7 @@ module _ (to : ℕ → ℕ) (file new : List ℕ) where
       ends.1 (moved.same p.offset size (omega (arith, ends.0)) high rise)
       (frames-kept (p.offset + size) ps end (at + size) ends.2 next)
 
--- ---- one list after another
+-- ---- concatenated lists
 
 -- items end to end, and more from their end on, are end to end together
 pub ends-append : (part : Region) (file : List ℕ) (from : ℕ) (ps : List PlacedItem) (mid : ℕ)

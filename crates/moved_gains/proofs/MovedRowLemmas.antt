@@ -1,7 +1,7 @@
--- Rows with other offsets and side information that says the same of main data:
--- the same frames are lost, and none has a fault that had none. So frames that
--- are in another file as they are in this one, each at an offset that its own
--- decides, have the same rows, faults and marks, and hold the same stream.
+-- Rows with other offsets and with side information that says the same of main
+-- data: the same frames are lost, and none has a fault that had none. So frames
+-- that are in another file as they are in this one, each at an offset that depends
+-- only on its own, have the same rows, faults and marks, and hold the same stream.
 use Rattle.std.proofs.Common.{ap, ap₂, arith, Bool, cond, drop, false, flat_map, List, ltb, map}
 use Rattle.std.proofs.Common.{None, Option, option_map, refl, slice_get, Some, subst, suc, sum_by}
 use Rattle.std.proofs.Common.{sym, take, zero, ℕ, [], ◌&&◌, ◌++◌, ◌+◌, ◌-◌, ◌==◌, ◌||◌, ◌∙◌, ◌∷◌}
@@ -42,7 +42,7 @@ pub numbered-by : (to : ℕ → ℕ) (o : Option Head) (frames : List PlacedFram
 numbered-by to (Some head) (p ∷ ps) = refl
 numbered-by to _ _ = refl
 
--- the end is where it may be if it was so
+-- the end of the file is still no fault
 pub end_fault-by : (file new : List ℕ) (to : ℕ → ℕ) (frames : List PlacedFrame)
     (o : Option SurveyFault) → end_fault file frames o ≡ None
     → end_fault new (map (frame_by to) frames) None ≡ None
@@ -87,7 +87,7 @@ module _ (to : ℕ → ℕ) (offset : Row → ℕ) (side : Row → Side) (head :
   place-by i = ap₂ (λ m n. m + n) (head_area-by head)
       (ap (sum_by (λ (r : Row). own_area r.header)) (take-map changed i rows) ∙ areas (take i rows))
 
-  -- what is at i among them is the row there, changed
+  -- the changed row at i is the row at i, changed
   row_get : (rs : List Row) (i : ℕ) (q : Row) → slice_get (map changed rs) i ≡ Some q
       → (r : Row) × (slice_get rs i ≡ Some r) × (changed r ≡ q)
   row_get [] i q is = absurd cc
@@ -130,7 +130,7 @@ module _ (to : ℕ → ℕ) (offset : Row → ℕ) (side : Row → Side) (head :
         → is_lost new_head new_rows i (changed r) ≡ is_lost head rows i r
     lost-by i r begin = lacks-by _ _ _ _ r begin (place-by i) (end-by i)
 
-    -- with right check words they have no fault if they had none
+    -- with right check words the frames have no fault if they had none
     pub sound-by : (file new : List ℕ) (class : ClassFields) (allowed : ℕ)
         → ((i : ℕ) (r : Row) → slice_get rows i ≡ Some r
         → has_wrong_crc (stored_crc (drop (offset r) new)) (changed r) ≡ false)
@@ -200,7 +200,7 @@ module _ (to : ℕ → ℕ) (head : Option Head) (rows : List Row) where
   frames_same main n (r ∷ more) = ap₂ (λ (f : StreamFrame) (l : List StreamFrame). f ∷ l)
       (frame_same main n r) (frames_same main (n + 1) more)
 
-  -- they have the same stream
+  -- the frames have the same stream elsewhere
   pub stream-by : (main : List ℕ)
       → stream_frames main far_head far_rows ≡ stream_frames main head rows
   unfolding stream_frames
@@ -252,7 +252,7 @@ module _ (to : ℕ → ℕ) (file new : List ℕ) where
   head_placed p None = refl
   head_placed p (Some at) = refl
 
-  -- it is a head there exactly if it is one here
+  -- a frame is a head there exactly if it is one here
   pub head-by : (p : PlacedFrame) → IsKept to file new p
       → head_of new (frame_by to p) ≡ option_map (head_by to) (head_of file p)
   unfolding head_of
@@ -297,7 +297,7 @@ module _ (to : ℕ → ℕ) (file new : List ℕ) where
       (word_same p kept.0)
   word_get (p ∷ ps) (suc i) r kept is = word_get ps i r kept.1 is
 
-  -- they have no fault there if they have none here
+  -- the frames have no fault there if they have none here
   pub no_faults-by : (head : Option Head) (class : ClassFields) (allowed : ℕ)
       (ps : List PlacedFrame) → AreKept to file new ps
       → all_faults file head class allowed (rows_of file ps) ≡ [] → all_faults new

@@ -1,4 +1,4 @@
--- The stream of the edited file is that of the file, with the gains of each frame moved.
+-- The stream of the edited file is the file's, with the gains of each frame moved.
 use Rattle.std.proofs.Common.{ap, ap₂, arith, Bool, cond, drop, false, flat_map, List, map, Ok}
 use Rattle.std.proofs.Common.{Option, option_map, refl, subst, sym, take, true, ℕ, [], ◌*◌, ◌++◌}
 use Rattle.std.{proofs.Common.{◌+◌, ◌-◌, ◌∙◌, ◌∷◌, ◌≡◌, ◌≤◌}, specs.List.enumerate_from}
@@ -174,7 +174,7 @@ module _ (steps : ℕ → Steps) (file : List ℕ) (allowed : ℕ) (start : Star
   unfolding stream_of_survey edited_survey moved_stream_of
   stream-from = subst IsMovedBy (sym rows_told) rows_moved
 
--- The stream of the edited file: each frame with its gains moved, and all else as it was.
+-- The stream of the edited file: each frame with its gains moved, and all else unchanged.
 pub stream-edited : (steps : ℕ → Steps) (file : List ℕ) (allowed : ℕ) (s : SurveyFields)
     → AreBytes file → survey_fields file allowed ≡ Ok s
     → stream_of_survey (edited_file steps file s) (edited_survey steps s)

@@ -30,14 +30,14 @@ use Rattle.sync_survey.specs.declared.{items.Item.TheVariants.Frame, places.Head
 use Rattle.sync_survey.specs.declared.places.{PlacedFrame.PlacedFrame, Start.Start}
 use Rattle.sync_survey.specs.declared.runs.Region.{Region, TheVariants.{Front, Stream}}
 
--- the bytes of the file from one offset up to another, with the gains
--- of these frames moved, which are between the two in their order
+-- the bytes of the file from one offset up to another, with the
+-- gains of these frames moved, which are between the two in order
 abbrev pub moved_to : (ℕ → Steps) → List ℕ → ℕ → ℕ → List Row → List ℕ
 moved_to steps file at to [] = bytes_between file at to
 moved_to steps file at to (row ∷ rows) = bytes_between file at row.offset
     ++ (moved_row_bytes (steps row.offset) file row ++ moved_to steps file (row_end row) to rows)
 
--- those up to the end of the file
+-- the bytes from an offset up to the end of the file, with the gains of these frames moved
 abbrev pub moved_from : (ℕ → Steps) → List ℕ → ℕ → List Row → List ℕ
 moved_from steps file at rows = moved_to steps file at (length file) rows
 
@@ -71,20 +71,20 @@ moved_from-later steps file at size (row ∷ rows) behind =
     (drop-drop size at file))
     ∙ append_assoc (take size (drop at file)) (bytes_between file (at + size) row.offset) rest
 
--- ---- the items one after another
+-- ---- the items, in order
 
--- frames behind an offset are behind any earlier one
+-- frames after an offset are after any earlier one
 pub behind_earlier : (at later : ℕ) (rows : List Row) → at ≤ later → IsBehind later rows
     → IsBehind at rows
 behind_earlier at later [] le behind = tt
 behind_earlier at later (row ∷ rows) le behind = omega (arith, le, behind)
 
--- frames that follow each other from an offset on are behind it
+-- frames in order from an offset on are after it
 pub is_behind : (at : ℕ) (rows : List Row) (to : ℕ) → EndBy at rows to → IsBehind at rows
 is_behind at [] to ends = tt
 is_behind at (row ∷ rows) to ends = ends.0
 
--- the frames of items that follow end to end
+-- the frames of consecutive items
 frames_behind : (lost : ℕ → Bool) (file : List ℕ) (part : Region) (ps : List PlacedItem)
     (from to : ℕ) → AreEndToEnd part file from ps to
     → IsBehind from (rows_by lost file (frames_of ps))
@@ -131,7 +131,7 @@ module _ (steps : ℕ → Steps) (lost : ℕ → Bool) (part : Region) (file : L
   item_step (Frame h) here behind = frame_step h here
   item_step item here behind = kept steps lost file frames at item behind
 
--- items that follow end to end are written as the moved items
+-- consecutive items are written as the moved items
 pub moved_from-items : (steps : ℕ → Steps) (lost : ℕ → Bool) (part : Region) (file : List ℕ)
     (ps : List PlacedItem) (from to : ℕ) → AreEndToEnd part file from ps to
     → moved_from steps file from (rows_by lost file (frames_of ps))
@@ -237,8 +237,6 @@ written-edited steps file allowed s e =
     (sym walk.first_is) in
     ap₂ (λ (l m : List ℕ). l ++ m) (ap (λ n. take n file) junk ∙ sym (front_bytes file)) moved
 
--- ---- frames one after the other
-
 -- ---- a survey over a folder
 
 fields-length : (file : List ℕ) (start : Start) → (fields_from file start).length ≡ length file
@@ -259,7 +257,7 @@ are_rows : (lost : ℕ → Bool) (file : List ℕ) (frames : List PlacedFrame)
 are_rows lost file [] = tt
 are_rows lost file (p ∷ ps) = (refl, are_rows lost file ps)
 
--- and its rows are those of frames in the file
+-- the rows of a survey are those of frames in the file
 pub survey_of-rows : (file : List ℕ) (allowed : ℕ) (s : SurveyFields)
     → survey_of file allowed ≡ Ok s → AreRowsOf file s.frames
 survey_of-rows file allowed s e =

@@ -1,4 +1,4 @@
--- The tag of a file that got another one, and the file's own.
+-- The tag of a file that got another one, and the file's own tag.
 use Rattle.std.proofs.Common.{ap, ap₂, arith, Bool, cond, drop, Err, false, filter, inl, inr}
 use Rattle.std.proofs.Common.{length, List, ltb, map, None, Ok, Option, refl, Result, Some, subst}
 use Rattle.std.proofs.Common.{sym, take, ℕ, [], ◌++◌, ◌+◌, ◌==◌, ◌∙◌, ◌∷◌, ◌≡◌, ◌≤◌}
@@ -47,7 +47,7 @@ module _ (file : List ℕ) (allowed : ℕ) (start : Start) (read : IsRead file a
   one_block = let some : (length block == 0) ≡ false =
       ne_eqb (length block) 0 (λ e. omega (arith, e, block_front-least block _ is)) in rw some refl
 
-  -- no tag is before it
+  -- no tag is before the new one
   none_before : find is_tag (filter (stands_before s) s.blocks) ≡ None
   none_before = ap (find is_tag) (before_is file allowed start read no_junk block (inr is))
       ∙ (split file allowed start read no_junk).none
@@ -97,7 +97,7 @@ tagged-again file block allowed s e clean is =
     subst (HasNewTag file block) parts.2
     (has-new file allowed parts.0 parts.1 (no_junk-start s file parts.0 parts.2 clean) block is)
 
--- ---- the file's own
+-- ---- the file's own tag
 
 own_same : (file : List ℕ) (s : SurveyFields) → file_with_tag (own_tag_bytes file s) s file ≡ file
 unfolding file_with_tag
@@ -127,7 +127,7 @@ read_by at size tag false (Ok found) e = (refl, cc)
 read_by at size tag false (Err (BadTag inside)) e = absurd cc
 read_by at size tag _ _ e = absurd cc
 
--- a block whose tag is read isn't too long, and its bytes are those of the tag
+-- a block whose tag can be read isn't too long, and its bytes are those of the tag
 block_bytes : (at : ℕ) (block : List ℕ) (tag : TagFields) → AreBytes block
     → block_front block ≡ Some (record { kind = Ape; length = length block })
     → tag_of_block at block ≡ Ok tag → IsTag tag × (tag_bytes tag ≡ block)
@@ -149,7 +149,7 @@ own_read file allowed s e tag b all is found =
     (tag-there file allowed s b e is).front (sym (file_tag-some file s b is) ∙ found) in
     (own.0, own.1 ∙ sym (own_is file s b is))
 
--- a file that gets its own tag stays as it is
+-- a file that gets its own tag is unchanged
 pub own-tag : (file : List ℕ) (allowed : ℕ) (s : SurveyFields) → survey_fields file allowed ≡ Ok s
     → HasOwnTag file s
 own-tag file allowed s e = record {
@@ -167,7 +167,8 @@ bytes_from file bytes allowed start read no_junk =
     let within = room file allowed start read no_junk [] (inl refl) in
     record { long = new-length bytes file s within; all = new-bytes bytes file s within }
 
--- the bytes of a file with another tag are those before its tag, the new one, and those after it
+-- the bytes of a file with another tag are those before
+-- its tag, the new tag, and those after the old one
 pub tagged-bytes : (file bytes : List ℕ) (allowed : ℕ) (s : SurveyFields)
     → survey_fields file allowed ≡ Ok s → s.junk ≡ s.first → AreTaggedBytes file bytes s
 tagged-bytes file bytes allowed s e clean =

@@ -254,7 +254,7 @@ module _ (file : List ℕ) (allowed : ℕ) (start : Start) (read : IsRead file a
   new_read =
       record { start_is = clean-start new first _ _ new_clean; frames = no_faults; end = whole_end }
 
-  -- ---- what its survey tells
+  -- ---- what its survey finds
 
   new_told : told_from new new_start ≡ retagged_fields n s
   unfolding retagged_fields
@@ -278,11 +278,11 @@ module _ (file : List ℕ) (allowed : ℕ) (start : Start) (read : IsRead file a
         length = long i;
       }
 
-  -- the survey is that of the file with another tag
+  -- the survey is the one of the file with another tag
   pub survey-from : survey_fields new allowed ≡ Ok (retagged_fields n s)
   survey-from = surveyed-told new allowed new_start new_read ∙ ap Ok new_told
 
-  -- its stream is the same
+  -- the stream is the same
   pub stream-from : stream_of_survey new (retagged_fields n s) ≡ stream_of_survey file s
   unfolding stream_of_survey retagged_fields
   stream-from =
@@ -292,7 +292,7 @@ module _ (file : List ℕ) (allowed : ℕ) (start : Start) (read : IsRead file a
 
 -- ---- from the survey
 
--- the start of a file without junk
+-- a file without junk has its first frame where its front ends
 pub no_junk-start : (s : SurveyFields) (file : List ℕ) (start : Start) → told_from file start ≡ s
     → s.junk ≡ s.first → start.front_end ≡ start.first.offset
 no_junk-start s file start told clean =
@@ -309,7 +309,7 @@ surveyed-retagged file bytes allowed s e clean are =
     parts.2 (survey-from file allowed parts.0 parts.1 (no_junk-start s file parts.0 parts.2 clean)
     bytes are)
 
--- Its stream is the same.
+-- The stream of a file with another tag is the same.
 pub stream-retagged : (file bytes : List ℕ) (allowed : ℕ) (s : SurveyFields)
     → survey_fields file allowed ≡ Ok s → s.junk ≡ s.first → IsTagBytes bytes
     → stream_of_survey (file_with_tag bytes s file) (retagged_fields (length bytes) s)

@@ -1,4 +1,4 @@
--- The blocks before the tag of a file, and those after it, by their offsets.
+-- The blocks before the tag of a file, and those after it, selected by offset.
 use Rattle.std.proofs.Common.{ap, append-nil, ap₂, arith, Bool, false, filter, List, map, None}
 use Rattle.std.proofs.Common.{Option, option_to_list, refl, Some, true, ℕ, [], ◌++◌, ◌+◌, ◌<◌, ◌∙◌}
 use Rattle.std.proofs.{Common.{◌∷◌, ◌≡◌, ◌≤◌}, lemmas.Bool.{le-leb, le-ltb, lt-leb, lt-ltb}}
@@ -39,7 +39,7 @@ items-begin file from (p ∷ ps) to ends =
     (begin_lower from (p.offset + size) to (blocks_of ps) (omega (arith, ends.0))
     (items-begin file (p.offset + size) ps to ends.2))
 
--- ---- a test that all of them pass, or none
+-- ---- a test that all blocks pass, or none
 
 keeps_all : (test : Piece → Bool) (from to : ℕ) (bs : List Piece) → BeginBetween from to bs
     → ((b : Piece) → from ≤ b.offset → b.offset < to → test b ≡ true) → filter test bs ≡ bs
@@ -53,7 +53,7 @@ keeps_none test from to [] begin fails = refl
 keeps_none test from to (b ∷ bs) begin fails =
     rw (fails b begin.0 begin.1) (keeps_none test from to bs begin.2 fails)
 
--- blocks that don't move
+-- blocks before an offset don't move
 pub blocks-stay : (to : ℕ → ℕ) (from end : ℕ) (bs : List Piece) → BeginBetween from end bs
     → ((x : ℕ) → x < end → to x ≡ x) → map (piece_by to) bs ≡ bs
 blocks-stay to from end [] begin stays = refl
@@ -63,7 +63,7 @@ blocks-stay to from end (b ∷ bs) begin stays =
 
 -- ---- at the tag
 
--- the tag's own block, where there is one
+-- the tag's own block, if there is one
 abbrev pub IsOld : SurveyFields → Option Piece → Type 0
 IsOld s None = Unit {0}
 IsOld s (Some b) = (b.offset ≡ tag_offset s) × (0 < tag_length s)
@@ -95,7 +95,7 @@ module _ (s : SurveyFields) (before behind : List Piece) (old : Option Piece) (e
   old_behind (Some b) old_is = one_false (stands_behind s) b
       (lt-leb (tag_offset s + tag_length s) b.offset (omega (arith, old_is.0, old_is.1)))
 
-  -- those that are before it
+  -- the blocks that are before the tag
   pub blocks-before : filter (stands_before s) blocks ≡ before
   blocks-before =
       three (stands_before s) before [] []
@@ -106,7 +106,7 @@ module _ (s : SurveyFields) (before behind : List Piece) (old : Option Piece) (e
       (λ b above below. le-ltb b.offset (tag_offset s) (omega (arith, above))))
       ∙ append-nil before
 
-  -- those that are after it
+  -- the blocks that are after the tag
   pub blocks-behind : filter (stands_behind s) blocks ≡ behind
   blocks-behind =
       three (stands_behind s) [] [] behind

@@ -13,7 +13,7 @@ use Rattle.sync_survey.specs.declared.items.Item.{Item, TheVariants.{Block, Fram
 use Rattle.sync_survey.specs.declared.places.{Head.Head, Piece.Piece, PlacedFrame.PlacedFrame}
 use Rattle.sync_survey.specs.declared.runs.Region.TheVariants.{Stream}
 
--- an item that may be there, in front of the first list, is in front of both
+-- prepending an item that may be there commutes with appending
 pub cons-append : {X : Type 0} (o : Option X) (xs ys : List X)
     → cons_option o xs ++ ys ≡ cons_option o (xs ++ ys)
 cons-append None xs ys = refl
@@ -36,7 +36,7 @@ none_more : (o : Option Piece) (xs : List Piece) → ((x : Piece) → o ≡ Some
 none_more None xs other none = none
 none_more (Some x) xs other none = rw (other x refl) none
 
--- one item more before them, which is no tag
+-- one more item before them, which is no tag
 push : (file : List ℕ) (at : ℕ) (item : Item) (ps : List PlacedItem) (cut next to : ℕ)
     (old : List Piece) → whole_item_at Stream file at ≡ Some item
     → ((x : Piece) → block_of_item at item ≡ Some x → is_tag x ≡ false)
@@ -175,7 +175,7 @@ module _ (file : List ℕ) (to : ℕ) where
   last_item at item ps p rest is ends later e none = push file at item ps (stop_of (final p rest))
       (stop_of (final p rest)) to [] is (λ y same. absurd cc) (later p rest e none)
 
-  -- without a tag the items are those up to the last frame and those behind it
+  -- without a tag the items are those up to the last frame and those after it
   pub split-last : (from : ℕ) (ps : List PlacedItem) (p : PlacedFrame) (rest : List PlacedFrame)
       → AreEndToEnd Stream file from ps to → frames_of ps ≡ p ∷ rest
       → find is_tag (blocks_of ps) ≡ None → IsSplitBehind file from ps to (stop_of (final p rest))
@@ -185,7 +185,7 @@ module _ (file : List ℕ) (to : ℕ) where
       (last_item x.offset x.item ps p rest ends.1 ends.2 (λ q qs are nothing.
       split-last (x.offset + size_of x.item) ps q qs ends.2 are nothing) e none)
 
--- ---- the last frame that a survey tells
+-- ---- the last frame that a survey lists
 
 last_placed : (file : List ℕ) (p : PlacedFrame) (rest : List PlacedFrame)
     → last_end (rows_of file (p ∷ rest)) ≡ stop_of (final p rest)
@@ -214,7 +214,7 @@ last_numbered file None p rest some = last_placed file p rest
 last_numbered file (Some head) p [] some = absurd (some refl)
 last_numbered file (Some head) p (q ∷ qs) some = last_placed file q qs
 
--- it is the last of all, which may be after a head
+-- the last frame of the survey is the last of all, which may be after a head
 pub last-told : (file : List ℕ) (head : Option Head) (p : PlacedFrame) (rest : List PlacedFrame)
     → ((numbered_frames head (p ∷ rest) ≡ []) → ⊥)
     → last_end (marked_rows head (rows_of file (numbered_frames head (p ∷ rest))))

@@ -80,7 +80,7 @@ module _ (lost : ℕ → Bool) (file : List ℕ) where
 
   -- ---- the frames before a block, and those after it
 
-  -- a block is behind some frames and before the others
+  -- a block is after some frames and before the others
   pub record IsCut (from : ℕ) (frames : List PlacedFrame) (b : Piece) (to : ℕ) : Type 0 where
     pub before : List PlacedFrame
     pub behind : List PlacedFrame
@@ -100,7 +100,7 @@ module _ (lost : ℕ → Bool) (file : List ℕ) where
     some = cut.some;
   }
 
-  -- they split at the first tag among their items
+  -- the frames of items split at the first tag among the items
   pub items_cut : (from : ℕ) (ps : List PlacedItem) (b : Piece) (to : ℕ)
       → AreEndToEnd Stream file from ps to → find is_tag (blocks_of ps) ≡ Some b
       → IsCut from (frames_of ps) b to
@@ -118,7 +118,7 @@ module _ (lost : ℕ → Bool) (file : List ℕ) where
 
 -- ---- the end of the last frame
 
--- all frames are before it
+-- all frames end no later than the last
 pub last_ends : (from : ℕ) (row : Row) (rows : List Row) (to : ℕ) → EndBy from (row ∷ rows) to
     → EndBy from (row ∷ rows) (last_end (row ∷ rows)) × (last_end (row ∷ rows) ≤ to)
 last_ends from row [] to ends = ((ends.0, ends.1, omega arith), ends.2)
@@ -130,8 +130,8 @@ last_ends from row (q ∷ rows) to ends =
 
 -- ---- where the tag is
 
--- the tag is after some frames, and before the others;
--- or there is none, and all frames are before its place
+-- the tag is after some frames and before the others,
+-- or there is none and all frames are before its place
 pub record IsAmong (s : SurveyFields) : Type 0 where
   pub before : List Row
   pub behind : List Row
@@ -142,18 +142,18 @@ pub record IsAmong (s : SurveyFields) : Type 0 where
   pub rest : EndBy (tag_offset s + tag_length s) behind s.length
   pub up : tag_offset s + tag_length s ≤ s.length
 
--- the same; and no frame begins where the tag begins, since
--- a tag has bytes, and no frame is after the place for one
+-- the tag is after some frames and before the others, and no frame begins where
+-- it begins, since a tag has bytes and no frame is after the place for one
 pub record IsApart (s : SurveyFields) : Type 0 where
   pub among : IsAmong s
   pub apart : (among.behind ≡ []) ⊎ (0 < tag_length s)
 
--- it is before the junk
+-- the tag is before the junk
 pub record IsInFront (s : SurveyFields) : Type 0 where
   pub some : 0 < tag_length s
   pub before : tag_offset s + tag_length s ≤ s.junk
 
--- the tag is in front of the first frame, or behind the first and among the others
+-- the tag is before the first frame, or after the first frame's beginning and among the frames
 pub record StandsSomewhere (steps : ℕ → Steps) (file : List ℕ) (s : SurveyFields) : Type 0 where
   pub size : length file ≡ s.length
   pub junk : s.junk ≤ s.first
@@ -173,7 +173,7 @@ marked_long : (head : Option Head) (rows : List Row) → length (marked_rows hea
 unfolding marked_rows
 marked_long head rows = each_long head rows 0 rows
 
--- without a tag its place is the last frame's end, and it has no bytes
+-- without a tag its place is the end of the last frame, and it has no bytes
 pub tag_none : (s : SurveyFields) → tag_block s ≡ None
     → (tag_offset s ≡ last_end s.frames) × (tag_length s ≡ 0)
 tag_none s is = (rw is refl, rw is refl)
@@ -367,7 +367,7 @@ module _ (steps : ℕ → Steps) (file : List ℕ) (allowed : ℕ) (start : Star
       inr (among_by b is (omega (arith, beyond, first_whole.some)) (cut_by head b cut))
   place_by None None front_is later_is is = inr (last_by s.frames refl rows_ends frames_some is)
 
-  -- the tag is in front of the first frame, or apart from all frames
+  -- the tag is before the first frame, or apart from all frames
   pub apart_place : IsInFront s ⊎ IsApart s
   apart_place =
       place_by _ _ refl refl
@@ -379,7 +379,7 @@ module _ (steps : ℕ → Steps) (file : List ℕ) (allowed : ℕ) (start : Star
   somewhere (inl front) = inl front
   somewhere (inr apart) = inr apart.among
 
-  -- so it is somewhere among them
+  -- the tag is somewhere among the frames
   pub stands : StandsSomewhere steps file s
   stands = record {
     size = refl;
@@ -391,14 +391,14 @@ module _ (steps : ℕ → Steps) (file : List ℕ) (allowed : ℕ) (start : Star
     place = somewhere apart_place;
   }
 
--- so it is in every surveyed file
+-- in every surveyed file the tag is somewhere among the frames
 pub stands_somewhere : (steps : ℕ → Steps) (file : List ℕ) (allowed : ℕ) (s : SurveyFields)
     → survey_fields file allowed ≡ Ok s → StandsSomewhere steps file s
 stands_somewhere steps file allowed s e =
     let parts = surveyed-parts file allowed s e in
     subst (StandsSomewhere steps file) parts.2 (stands steps file allowed parts.0 parts.1)
 
--- and no frame begins where it begins
+-- in every surveyed file no frame begins where the tag begins
 pub stands_apart : (steps : ℕ → Steps) (file : List ℕ) (allowed : ℕ) (s : SurveyFields)
     → survey_fields file allowed ≡ Ok s → IsInFront s ⊎ IsApart s
 stands_apart steps file allowed s e =

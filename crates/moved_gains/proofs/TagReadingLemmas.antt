@@ -22,7 +22,7 @@ pub file_tag-none : (file : List ℕ) (s : SurveyFields) → tag_block s ≡ Non
 unfolding file_tag
 file_tag-none file s none = rw none refl
 
--- a file with one has the tag of its block's bytes
+-- a file with a tag has the tag of its block's bytes
 pub file_tag-some : (file : List ℕ) (s : SurveyFields) (b : Piece) → tag_block s ≡ Some b
     → file_tag file s ≡ tag_of_block b.offset (take b.block.length (drop b.offset file))
 unfolding file_tag
@@ -49,7 +49,7 @@ module _ (name : List ℕ) (files : Files) (s : SurveyFields) (surveyed : (bytes
       let is = surveyed bytes holds in
       surveyed-length bytes is.0 s (survey_of-surveyed bytes is.0 s is.1)
 
-  -- a tag that is too long
+  -- a tag that is too long is refused
   pub too_large-refused : longest_tag < b.block.length
       → RefusesTag name files s (TooLarge b.block.length)
   too_large-refused large bytes holds =
@@ -78,7 +78,7 @@ module _ (name : List ℕ) (files : Files) (s : SurveyFields) (surveyed : (bytes
         → (bytes : List ℕ) → Holds files name bytes → file_tag bytes s ≡ Ok t
     block-tag t is bytes holds = tag_is bytes holds (Ok t) (is (front_there bytes holds))
 
-    -- so is its fault
+    -- the fault of the tag is that of the block
     pub block-cause : (before after : Counts) (fault : FileTagFault) → after ≡ before
         → IsBlockCause b.offset block fault → IsTagCause name files s before after fault
     block-cause before after (Bad at) same cause =

@@ -1,5 +1,5 @@
 -- A file with moved gains and another tag, changed again: it
--- is the file with all steps together and with the last tag.
+-- is the file with both changes' steps and with the last tag.
 use Rattle.std.proofs.Common.{ap, append-nil, append_assoc, ap₂, arith, Bool, cond, drop, false}
 use Rattle.std.proofs.Common.{inl, inr, length, length-drop, List, ltb, map, Ok, refl, Some, subst}
 use Rattle.std.proofs.Common.{sym, take, true, ℕ, [], ◌++◌, ◌+◌, ◌-◌, ◌<◌, ◌∙◌, ◌∷◌, ◌≡◌, ◌≤◌, ◌⊎◌}
@@ -52,7 +52,7 @@ module _ (one : ℕ → Steps) (file : List ℕ) (allowed : ℕ) (s : SurveyFiel
   abbrev old : ℕ
   old = tag_length s
 
-  -- where what is at an offset of the file is then
+  -- the new offset of what is at an offset of the file
   abbrev pub to : ℕ → ℕ
   to x = retagged_offset size m (x - gap)
 
@@ -63,7 +63,7 @@ module _ (one : ℕ → Steps) (file : List ℕ) (allowed : ℕ) (s : SurveyFiel
   unfolding edited_survey
   clean = refl
 
-  -- the changed file has the survey of the edited one with another tag
+  -- the changed file has the survey of the edited file with another tag
   pub new_is : survey_fields new allowed ≡ Ok new_survey
   new_is = surveyed-retagged (edited_file one file s) block allowed m moved_of clean (inr front)
 
@@ -79,7 +79,7 @@ module _ (one : ℕ → Steps) (file : List ℕ) (allowed : ℕ) (s : SurveyFiel
   rows_twice [] = refl
   rows_twice (row ∷ rows) = ap (λ (l : List Row). stood to one row ∷ l) (rows_twice rows)
 
-  -- its frames are those of the file, moved and where they are now
+  -- its frames are the file's, moved and at their new offsets
   pub new_frames : new_survey.frames ≡ map (stood to one) s.frames
   unfolding retagged_fields edited_survey
   new_frames = rows_twice s.frames
@@ -92,11 +92,11 @@ module _ (one : ℕ → Steps) (file : List ℕ) (allowed : ℕ) (s : SurveyFiel
   unfolding retagged_fields edited_survey
   new_first = refl
 
-  -- no junk is in it
+  -- it has no junk
   pub clean_survey : junk_length new_survey ≡ 0
   clean_survey = omega (arith, new_junk, new_first)
 
-  -- it is shorter by junk and tag, and longer by the new tag
+  -- it is shorter by the junk and the tag, and longer by the new tag
   pub new_long : new_survey.length ≡ s.length - gap - tag_length m + size
   unfolding retagged_fields edited_survey
   new_long = refl
@@ -124,7 +124,7 @@ module _ (one : ℕ → Steps) (file : List ℕ) (allowed : ℕ) (s : SurveyFiel
   whole : length new ≡ new_survey.length
   whole = (stands_somewhere one new allowed new_survey new_is).size
 
-  -- where the tag is after some frames and before the others, so is the new one
+  -- if the tag is after some frames and before the others, so is the new one
   module _ (at : IsAmong s) where
     kept : tag_offset m ≡ a - gap
     kept = at_behind one s s.length (omega (arith, at.low)) here.ends here.some
@@ -336,7 +336,8 @@ module _ (one : ℕ → Steps) (file : List ℕ) (allowed : ℕ) (s : SurveyFiel
           (ap₂ (λ (j k : List ℕ). j ++ k) junk_again before_again) behind_again
           ∙ sym ((parted_among all file allowed s is at).tagged bytes)
 
-    -- the changed file, changed again, is the file changed once by all steps, with the last tag
+    -- the changed file, changed again, is the file changed
+    -- once by both steps together, with the last tag
     pub changed_again : (bytes : List ℕ)
         → file_with_tag bytes (edited_survey two n) (edited_file two new n)
         ≡ file_with_tag bytes (edited_survey all s) (edited_file all file s)

@@ -1,4 +1,4 @@
--- The bytes of a file with another tag: those before it and those after it are there as they were.
+-- The bytes of a file with another tag: those before the tag and those after it are unchanged.
 use Rattle.std.proofs.Common.{ap, arith, Bool, cond, drop, false, length, length-append}
 use Rattle.std.proofs.Common.{length-drop, List, ltb, refl, subst, sym, take, true, ℕ, ◌++◌, ◌+◌}
 use Rattle.std.proofs.{Common.{◌-◌, ◌<◌, ◌∙◌, ◌≡◌, ◌≤◌}, lemmas.Bool.{le-ltb, lt-ltb}}
@@ -10,7 +10,7 @@ use Rattle.moved_gains.proofs.MovedItemLemmas.{IsMovedTo}
 use Rattle.moved_gains.specs.TagPlace.{file_with_tag, retagged_offset, tag_length, tag_offset}
 use Rattle.sync_survey.specs.Faults.{SurveyFields}
 
--- the file is what is before its tag, the new bytes, and what is behind it
+-- the file with another tag is what is before its tag, the new bytes, and what is after the old tag
 pub with_tag-is : (bytes : List ℕ) (s : SurveyFields) (file : List ℕ) → file_with_tag bytes s file
     ≡ take (tag_offset s) file ++ (bytes ++ drop (tag_offset s + tag_length s) file)
 unfolding file_with_tag
@@ -27,7 +27,8 @@ module _ (bytes file : List ℕ) (s : SurveyFields)
   abbrev later : List ℕ
   later = drop (tag_offset s + tag_length s) file
 
-  -- the file is what is before the tag, the new bytes, and what is behind it
+  -- the file with another tag is what is before its
+  -- tag, the new bytes, and what is after the old tag
   pub new-is : new ≡ take (tag_offset s) file ++ (bytes ++ later)
   new-is = with_tag-is bytes s file
 
@@ -35,7 +36,7 @@ module _ (bytes file : List ℕ) (s : SurveyFields)
   pub front-long : length (take (tag_offset s) file) ≡ tag_offset s
   front-long = length-take-le (tag_offset s) file (omega (arith, room))
 
-  -- the file is shorter by the tag, and longer by the new bytes
+  -- the file is shorter by the old tag, and longer by the new bytes
   pub new-length : length new ≡ length file - tag_length s + n
   new-length = omega (
     arith,
@@ -47,7 +48,7 @@ module _ (bytes file : List ℕ) (s : SurveyFields)
     room,
   )
 
-  -- it is bytes where these are
+  -- the new file is bytes if the file and the new tag are
   pub new-bytes : AreBytes file → AreBytes bytes → AreBytes new
   new-bytes all more =
       subst AreBytes (sym new-is)
@@ -66,21 +67,21 @@ module _ (bytes file : List ℕ) (s : SurveyFields)
   new-tag = ap (drop (tag_offset s)) new-is
       ∙ drop_at (take (tag_offset s) file) (bytes ++ later) (tag_offset s) front-long
 
-  -- and are all there
+  -- the new bytes are all there
   pub new-own : take n (drop (tag_offset s) new) ≡ bytes
   new-own = ap (take n) new-tag ∙ take_at bytes later n refl
 
-  -- what was behind the tag is behind them
+  -- what was after the tag is after the new bytes
   pub new-later : drop (tag_offset s + n) new ≡ later
   new-later =
       sym (drop-drop n (tag_offset s) new) ∙ ap (drop n) new-tag ∙ drop_at bytes later n refl
 
-  -- what was before the tag
+  -- the offset of what was before the tag stays
   pub stays : (x : ℕ) → x < tag_offset s → retagged_offset n s x ≡ x
   stays x low = let is : ltb x (tag_offset s) ≡ true = lt-ltb x (tag_offset s) low in
       ap (λ (b : Bool). cond b x (x - tag_length s + n)) is
 
-  -- what was after it
+  -- the offset of what was after the tag changes by the difference in length
   pub follows : (x : ℕ) → tag_offset s ≤ x → retagged_offset n s x ≡ x - tag_length s + n
   follows x high = let is : ltb x (tag_offset s) ≡ false = le-ltb x (tag_offset s) high in
       ap (λ (b : Bool). cond b x (x - tag_length s + n)) is
@@ -114,7 +115,7 @@ module _ (bytes file : List ℕ) (s : SurveyFields)
       ∙ ap (drop off) new-later
       ∙ drop-drop off (tag_offset s + tag_length s) file ∙ ap (λ y. drop y file) back
 
-  -- what is behind it is farther by what the new bytes have more
+  -- what is after the tag is further on by the difference in length
   pub later-moved : IsMovedTo (retagged_offset n s) file new (tag_offset s + tag_length s)
       (length file)
       (tag_offset s + n)

@@ -1,5 +1,5 @@
--- The steps that gains take: where no gain of a list leaves the
--- range, the least and the greatest don't, and the other way round.
+-- The steps that gains take: no gain of a list leaves
+-- the range exactly if the least and the greatest don't.
 use Rattle.std.proofs.Common.{ap, ap₂, arith, Bool, cond, false, is_some, leb, List, ltb, max, min}
 use Rattle.std.proofs.Common.{neg_ℤ, negsuc, None, not, Option, pos, refl, Some, suc, sym, true}
 use Rattle.std.proofs.Common.{zero, ℕ, ℤ, ◌+ℤ◌, [], ◌&&◌, ◌++◌, ◌+◌, ◌-◌, ◌<◌, ◌||◌, ◌∙◌, ◌∷◌, ◌≡◌}
@@ -50,11 +50,11 @@ ltb-min n a b =
 
 -- ---- one gain
 
--- it doesn't leave the range by so many steps
+-- the gain doesn't leave the range by `steps` steps
 abbrev pub inside : ℤ → ℕ → Bool
 inside steps gain = not (is_out_of_range (pos gain +ℤ steps))
 
--- none of these does
+-- none of these gains leaves the range
 abbrev pub all_inside : ℤ → List ℕ → Bool
 all_inside steps [] = true
 all_inside steps (gain ∷ gains) = inside steps gain && all_inside steps gains
@@ -83,7 +83,7 @@ takes_down g n = by_least g.least
         (λ is. lt-ltb n (suc a) (omega (arith, leb-true n a is)))
         (λ is. le-leb n a (omega (arith, ltb-true n (suc a) is)))
 
--- one gain takes steps exactly where it doesn't leave the range by them
+-- one gain takes steps exactly if it doesn't leave the range by them
 pub takes-one : (gain : ℕ) (steps : ℤ) → gain < 256
     → takes_steps (Some (record { least = gain; greatest = gain })) steps ≡ inside steps gain
 takes-one gain (pos n) small =
@@ -103,7 +103,7 @@ takes-one gain (negsuc n) small =
 
 -- ---- many gains
 
--- the gains of two lists together take what those of each do
+-- the gains of two lists together take the steps that both lists take
 pub takes-joined : (f g : Option Gains) (steps : ℤ)
     → takes_steps (joined_extremes f g) steps ≡ (takes_steps f steps && takes_steps g steps)
 takes-joined None g steps = refl
@@ -127,8 +127,8 @@ takes-nil : (steps : ℤ) → takes_steps (extremes []) steps ≡ true
 unfolding extremes
 takes-nil steps = refl
 
--- the least and the greatest of gains take steps exactly
--- where none of the gains leaves the range by them
+-- the least and the greatest of gains take steps
+-- exactly if none of the gains leaves the range by them
 pub takes-all : (gains : List ℕ) (steps : ℤ) → AreSmall gains
     → takes_steps (extremes gains) steps ≡ all_inside steps gains
 takes-all [] steps small = takes-nil steps
@@ -142,7 +142,7 @@ and_assoc : (a b c : Bool) → (a && (b && c)) ≡ ((a && b) && c)
 and_assoc true b c = refl
 and_assoc false b c = refl
 
--- none of two lists leaves the range where none of the one does and none of the other
+-- no gain of two lists together leaves the range exactly if none of either list does
 pub inside-append : (steps : ℤ) (xs ys : List ℕ)
     → all_inside steps (xs ++ ys) ≡ (all_inside steps xs && all_inside steps ys)
 inside-append steps [] ys = refl
@@ -153,7 +153,7 @@ small-append : (xs ys : List ℕ) → AreSmall xs → AreSmall ys → AreSmall (
 small-append [] ys first second = second
 small-append (x ∷ xs) ys first second = (first.0, small-append xs ys first.1 second)
 
--- no step leaves the range
+-- by no steps no gain leaves the range
 inside-none : (gains : List ℕ) → AreSmall gains → all_inside (pos 0) gains ≡ true
 inside-none [] small = refl
 inside-none (gain ∷ gains) small =
@@ -212,8 +212,8 @@ some_of_four o p q r =
     some_or o (option_or p (option_or q r))
     ∙ ap (λ b. is_some o || b) (some_or p (option_or q r) ∙ ap (λ b. is_some p || b) (some_or q r))
 
--- a gain of a frame leaves the range exactly where one of the left channel
--- does by the steps to the left, or one of the right by those to the right
+-- a gain of a frame leaves the range exactly if a gain of the left channel
+-- does by the left steps, or a gain of the right channel by the right steps
 side_stuck : (left right : ℤ) (s : Side) → is_some (side_out_of_range (separate_steps left right) s)
     ≡ not (all_inside left (side_gains 0 s) && all_inside right (side_gains 1 s))
 unfolding side_out_of_range
@@ -247,7 +247,7 @@ pub stuck-nil : (steps : ℕ → Steps) → is_some_out_of_range steps [] ≡ fa
 unfolding is_some_out_of_range
 stuck-nil steps = refl
 
--- a gain of frames leaves it where one of the first frame does or one of the others
+-- a gain of frames leaves the range if one of the first frame does or one of the others
 pub stuck-cons : (steps : ℕ → Steps) (row : Row) (rows : List Row)
     → is_some_out_of_range steps (row ∷ rows)
     ≡ (is_some (row_out_of_range (steps row.offset) row) || is_some_out_of_range steps rows)

@@ -1,5 +1,5 @@
--- A file all of whose bytes are blocks, zero bytes and
--- frames: its stream starts at the first frame, without junk.
+-- A file whose bytes are all blocks, zero bytes and frames:
+-- its stream starts at the first frame, without junk.
 use Rattle.std.proofs.Common.{ap, ap₂, arith, length, List, None, Ok, refl, Some, subst, true, ℕ}
 use Rattle.std.proofs.{Common.{[], ◌++◌, ◌+◌, ◌∙◌, ◌∷◌, ◌≡◌, ◌≤◌}, lemmas.Bool.{false≢true, le-leb}}
 use Rattle.std.specs.List.{cons_option}
@@ -120,11 +120,11 @@ start_by file at h front is within =
     ∙ ap (start_at file at) is
     ∙ rw fit refl
 
--- the stream starts with this frame, without junk
+-- the start of a stream that begins with this frame, without junk
 abbrev pub start_with : PlacedFrame → Start
 start_with p = record { front_end = p.offset; first = p }
 
--- so is the first frame of such a file
+-- the stream of a clean file starts with its first frame
 pub clean-start : (file : List ℕ) (p : PlacedFrame) (rest : List PlacedFrame) (blocks : List Piece)
     → IsClean file 0 p rest blocks → start_of file ≡ Ok (start_with p)
 clean-start file p rest blocks is =

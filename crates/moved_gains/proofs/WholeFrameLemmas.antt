@@ -1,5 +1,5 @@
--- The frames that a survey tells are whole in the file,
--- with their side information, and with right check words.
+-- The frames that a survey lists are whole in the file,
+-- with their side information and with right check words.
 use Rattle.std.proofs.Common.{ap, Bool, cond, drop, false, length, List, Ok, pos, refl, subst, suc}
 use Rattle.std.proofs.Common.{sym, take, true, ℕ, [], ◌∙◌, ◌∷◌, ◌≡◌}
 use Rattle.bit_fields.specs.Bits.{AreBytes}
@@ -35,7 +35,7 @@ pub row_shaped : (file : List ℕ) (row : Row) → IsFrameOf file row → IsShap
 row_shaped file row here =
     subst IsShaped (sym here.side) (shaped-side_in row.header (frame_of file row))
 
--- a frame with moved gains has its length
+-- a frame keeps its length when its gains move
 pub row_sized : (steps : Steps) (file : List ℕ) (row : Row) → IsFrameOf file row
     → length (moved_row_bytes steps file row) ≡ row_length row
 row_sized steps file row here = by_lost row.lost
@@ -64,7 +64,7 @@ each_there steps lost file new gap (p ∷ ps) at right = (
   each_there steps lost file new gap ps at.1 (λ i r is. right (suc i) r is),
 )
 
--- all frames of a surveyed file are so
+-- all frames of a surveyed file are whole, with their side information and right check words
 pub frames_there : (file : List ℕ) (allowed : ℕ) (s : SurveyFields) → AreBytes file
     → survey_fields file allowed ≡ Ok s → AreFramesOf file s.frames
 frames_there file allowed s all e =

@@ -12,7 +12,7 @@ use Rattle.outside.specs.Pass.{bytes_between}
 use Rattle.requests.specs.declared.shift.Steps.{Steps}
 use Rattle.sync_survey.specs.Row.{Row}
 
--- ---- one frame more
+-- ---- one more frame
 
 written-nil : (steps : ℕ → Steps) (tag : Option NewTag) (file : List ℕ) (at : ℕ)
     → bytes_written_from steps tag file at [] ≡ copied_bytes tag file at (length file)
@@ -27,7 +27,7 @@ written-cons : (steps : ℕ → Steps) (tag : Option NewTag) (file : List ℕ) (
 unfolding bytes_written_from
 written-cons steps tag file at row rows = refl
 
--- what is left to be written at the frame at i
+-- what is left to be written at frame i
 pub left_at : (steps : ℕ → Steps) (tag : Option NewTag) (file : List ℕ) (at : ℕ) (rows : List Row)
     (i : ℕ) (row : Row) → drop i rows ≡ row ∷ drop (i + 1) rows
     → bytes_written_from steps tag file at (drop i rows)
@@ -37,7 +37,7 @@ left_at steps tag file at rows i row is =
     ap (bytes_written_from steps tag file at) is
     ∙ written-cons steps tag file at row (drop (i + 1) rows)
 
--- after the last frame that is the rest of the file
+-- after the last frame the rest of the file is left
 pub left_behind : (steps : ℕ → Steps) (tag : Option NewTag) (file : List ℕ) (at size : ℕ)
     (rows : List Row) → rows ≡ [] → length file ≡ size
     → bytes_written_from steps tag file at rows ≡ copied_bytes tag file at size
@@ -64,13 +64,13 @@ IsSized steps file row = length (moved_row_bytes (steps row.offset) file row) �
 abbrev pub AreSized : (ℕ → Steps) → List ℕ → List Row → Type 0
 AreSized steps file rows = Each (IsSized steps file) rows
 
--- the bytes between two offsets are as many as these are apart
+-- as many bytes are between two offsets as the offsets are apart
 pub between_long : (file : List ℕ) (from to : ℕ) → from ≤ to → to ≤ length file
     → length (bytes_between file from to) ≡ to - from
 between_long file from to up within =
     length-take-le (to - from) (drop from file) (omega (arith, length-drop from file, up, within))
 
--- so they are with gains moved
+-- with moved gains as many bytes are between two offsets
 pub moved_to-long : (steps : ℕ → Steps) (file : List ℕ) (at to : ℕ) (rows : List Row)
     → AreSized steps file rows → EndBy at rows to → to ≤ length file
     → length (moved_to steps file at to rows) ≡ to - at
@@ -91,11 +91,11 @@ moved_to-long steps file at to (row ∷ rows) sized ends within =
       up,
     )
 
--- three lists and a fourth are joined in any way
+-- joining three lists and a fourth is associative
 pub append_three : (a b c d : List ℕ) → (a ++ (b ++ c)) ++ d ≡ a ++ (b ++ (c ++ d))
 append_three a b c d = append_assoc a (b ++ c) d ∙ ap (λ (l : List ℕ). a ++ l) (append_assoc b c d)
 
--- the moved bytes up to an offset that isn't after the next frame, and those from it on
+-- the moved bytes up to an offset that isn't after the next frame, then those from it on
 pub moved_split : (steps : ℕ → Steps) (file : List ℕ) (at to : ℕ) (before behind : List Row)
     → EndBy at before to → IsBehind to behind → moved_from steps file at (before ++ behind)
     ≡ moved_to steps file at to before ++ moved_from steps file to behind
@@ -120,7 +120,7 @@ module _ (steps : ℕ → Steps) (file : List ℕ) (tag : NewTag) where
   abbrev new : List ℕ
   new = tag.bytes.now
 
-  -- where the place of the tag isn't among the bytes, they are copied as they are
+  -- after the place of the tag the bytes are copied
   pub behind_tag : (from to : ℕ) → tag.at < from
       → copied_bytes (Some tag) file from to ≡ bytes_between file from to
   behind_tag from to past = let none : leb from tag.at ≡ false = lt-leb from tag.at past in
@@ -133,7 +133,8 @@ module _ (steps : ℕ → Steps) (file : List ℕ) (tag : NewTag) where
       (bytes_between file from tag.at ++ (new ++ bytes_between file tag.end to))
       (bytes_between file from to) (lt-leb tag.end to past)
 
-  -- around it they are copied up to it and from its end on, with the new tag between
+  -- around the place of the tag the bytes are copied up to
+  -- it and from its end on, with the new tag in between
   pub around_tag : (from to : ℕ) → from ≤ tag.at → tag.at ≤ tag.end → tag.end ≤ to
       → copied_bytes (Some tag) file from to
       ≡ bytes_between file from tag.at ++ (new ++ bytes_between file tag.end to)

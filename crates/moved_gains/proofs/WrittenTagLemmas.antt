@@ -1,4 +1,4 @@
--- What is written is the changed file: the edited one with the new tag in the place of its tag.
+-- What is written is the changed file: the edited file with the new tag instead of its tag.
 use Rattle.std.proofs.Common.{ap, append_assoc, ap₂, arith, Bool, cond, drop, false, inl, inr}
 use Rattle.std.proofs.Common.{length, length-append, length-drop, List, ltb, map, None, Ok, Option}
 use Rattle.std.proofs.Common.{option_map, refl, Some, subst, sym, take, true, ℕ, [], ◌++◌, ◌+◌, ◌-◌}
@@ -83,7 +83,7 @@ module _ (steps : ℕ → Steps) (s : SurveyFields) where
   none_moved : tag_block s ≡ None → tag_block m ≡ None
   none_moved is = block_moved ∙ ap (option_map (edited_block s.first gap)) is
 
-  -- the tag of the edited file is as long as that of the file
+  -- the tag of the edited file is as long as the file's
   pub length_moved : tag_length m ≡ tag_length s
   length_moved = at (tag_block s) refl
     where
@@ -106,7 +106,7 @@ module _ (steps : ℕ → Steps) (s : SurveyFields) where
           ∙ ap (λ c. (cond c b (record b { offset = b.offset - gap })).offset) low
           ∙ sym place
 
-  -- one after the first frame's offset is nearer to the beginning by the junk
+  -- a tag after the first frame's offset is nearer to the beginning by the junk
   pub at_behind : (to : ℕ) → s.first ≤ tag_offset s → EndBy s.first s.frames to
       → 0 < length s.frames → tag_offset m ≡ tag_offset s - gap
   at_behind to low ends some = at (tag_block s) refl
@@ -130,7 +130,7 @@ module _ (steps : ℕ → Steps) (s : SurveyFields) where
 
 -- ---- the edited file is what is before its tag, the tag, and what is after it
 
--- the edited file is what is before its tag, the tag, and what is behind it
+-- the edited file is what is before its tag, the tag, and what is after it
 pub record IsParted (steps : ℕ → Steps) (file : List ℕ) (s : SurveyFields)
     (before behind : List ℕ) : Type 0 where
   pub place : tag_offset (edited_survey steps s) ≡ length before
@@ -201,7 +201,7 @@ module _ (steps : ℕ → Steps) (file : List ℕ) (allowed : ℕ) (s : SurveyFi
       ∙ append_assoc (take a file) (own ++ between) all
       ∙ ap (λ (l : List ℕ). take a file ++ l) (append_assoc own between all))
 
-  -- it is among the frames, or after them
+  -- the tag is among the frames, or after them
   pub parted_among : (among : IsAmong s) → IsParted steps file s
       (take s.junk file ++ moved_to steps file s.first (tag_offset s) among.before)
       (moved_from steps file (tag_offset s + tag_length s) among.behind)

@@ -6,19 +6,19 @@ use Rattle.requests.specs.declared.shift.Steps.{Steps}
 use Rattle.sync_survey.specs.Faults.{SurveyFields}
 
 -- by how many steps the gains of the frame at an offset move, and
--- the bytes of the new tag, if the tag changes; no bytes take it out
+-- the bytes of the new tag, if the tag changes; no bytes remove it
 pub record FileChange : Type 0 where
   pub steps : ℕ → Steps
   pub tag : Option (List ℕ)
 
--- that of the code, for a file with this survey
+-- the change that the code has, for a file with this survey
 abbrev pub change_in : CodeChange → SurveyFields → FileChange
 change_in change s = record {
   steps = steps_at_offset change.course s.frames;
   tag = option_map (λ tag. tag.items) change.tag;
 }
 
--- the file with these bytes in place of its tag
+-- the file with the new tag instead of its tag, if the tag changes
 abbrev pub retagged_file : Option (List ℕ) → SurveyFields → List ℕ → List ℕ
 retagged_file None s file = file
 retagged_file (Some tag) s file = file_with_tag tag s file

@@ -6,7 +6,7 @@ use Rattle.moved_gains.specs.declared.course.Course.{Course, TheVariants.{Along,
 use Rattle.requests.specs.declared.shift.Steps.{Steps}
 use Rattle.sync_survey.specs.Row.{Row}
 
--- every frame by the same steps
+-- the same steps for every frame
 abbrev pub constant_steps : Steps → ℕ → Steps
 constant_steps steps at = steps
 
@@ -14,18 +14,18 @@ constant_steps steps at = steps
 abbrev pub equal_steps : ℤ → Steps
 equal_steps steps = record { left = steps; right = steps; wrap = false }
 
--- the steps of a frame of this number, counted from 0
+-- the steps of a frame with this number, counted from 0
 abbrev pub course_steps : Course → ℕ → Steps
 course_steps (Even steps) frame = steps
 course_steps (Along curve back) frame = equal_steps (steps_back back (steps_at curve frame))
 
--- how many of these frames are before an offset: the number of the one that is there
+-- how many of these frames are before an offset: the number of the frame that is there
 abbrev pub number_at : List Row → ℕ → ℕ
 number_at [] at = 0
 number_at (row ∷ rows) at =
     if nat_lt row.offset at then suc (number_at rows at) else number_at rows at
 
--- frame i of these is the one of number i at its offset
+-- frame i of these has number i at its offset
 abbrev pub AreRowsNumbered : List Row → Type 0
 AreRowsNumbered rows =
     (i : ℕ) (row : Row) → slice_get rows i ≡ Some row → number_at rows row.offset ≡ i

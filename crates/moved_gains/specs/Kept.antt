@@ -1,6 +1,6 @@
--- What stays of a file whose gains are moved: what is written differs from it in
--- gains, in check words, in the tag, and in junk that is left out. It is said of
--- the bytes of both files, whatever was done to get from the one to the other.
+-- What stays of a file whose gains are moved: what is written differs from it
+-- only in gains, in check words, in the tag, and in junk that is left out. This
+-- is stated for the bytes of both files, however one was made from the other.
 use Rattle.std.specs.Prelude.{Bool, drop, false, flat_map, if◌then◌else◌, length, List, map}
 use Rattle.std.specs.Prelude.{MatchBool, not, Ok, slice_get, Some, take, true, ℕ, [], ◌++◌, ◌+◌}
 use Rattle.std.specs.Prelude.{◌<◌, ◌∷◌, ◌≡◌, ◌≤◌, ◌⊎◌}
@@ -16,7 +16,7 @@ use Rattle.sync_survey.specs.{Faults.{survey_fields, SurveyFields}, Row.Row}
 
 -- ---- a frame
 
--- a field of so many bits, and whether it may change
+-- a field of `width` bits, and whether it may change
 pub record Field : Type 0 where
   pub width : ℕ
   pub changes : Bool
@@ -29,7 +29,7 @@ fixed_fields widths = map (λ width. record { width = width; changes = false }) 
 abbrev pub gain_field : Granule → Field
 gain_field g = record { width = 8; changes = not (is_silent_granule g) }
 
--- the fields of a granule and channel, of which global_gain is the third
+-- the fields of a granule and channel; the third of them is global_gain
 abbrev pub granule_fields : Version → Granule → List Field
 granule_fields version g =
     let widths = granule_widths version in
@@ -39,26 +39,27 @@ granule_fields version g =
 abbrev pub crc_fields : Bool → List Field
 crc_fields protected = if protected then record { width = 16; changes = true } ∷ [] else []
 
--- the fields of the side information: those before the granules, and each granule and channel
+-- the fields of the side information: those before
+-- the granules, and those of each granule and channel
 abbrev pub side_fields : HeaderFields → Side → List Field
 side_fields h s =
     let c = class_of h in
     fixed_fields (front_widths c) ++ flat_map (granule_fields c.version) (granules_in c s)
 
--- All fields of a frame before its area, in their order (ISO/IEC 11172-3 and 13818-3, 2.4.1.2 to
--- 2.4.1.7): header, check word and side information.
+-- All fields of a frame before its area, in order (ISO/IEC 11172-3 and
+-- 13818-3, 2.4.1.2 to 2.4.1.7): header, check word and side information.
 abbrev pub frame_fields : HeaderFields → Side → List Field
 frame_fields h s = fixed_fields header_widths ++ (crc_fields h.protected ++ side_fields h s)
 
--- all bits are the same, except those of fields that may change; so are all after the fields
+-- all bits are the same, also those after the fields, except those of fields that may change
 abbrev pub DiffersInFields : List Field → List ℕ → List ℕ → Type 0
 DiffersInFields [] old new = new ≡ old
 DiffersInFields (field ∷ fields) old new =
     (field.changes ≡ false → take field.width new ≡ take field.width old)
     × DiffersInFields fields (drop field.width old) (drop field.width new)
 
--- The new bytes of a frame are as many, and differ in gains and in the check word alone; if no gain
--- differs, they are the old ones.
+-- A frame has as many new bytes as old ones, which differ only in gains
+-- and in the check word; if no gain differs, they are the old ones.
 pub record DiffersInGains (h : HeaderFields) (old new : List ℕ) : Type 0 where
   pub size : length new ≡ length old
   pub all : AreBytes new
@@ -67,23 +68,23 @@ pub record DiffersInGains (h : HeaderFields) (old new : List ℕ) : Type 0 where
 
 -- ---- a file
 
--- bytes that are written in place of those of the file from one offset to another
+-- bytes that are written instead of those of the file from one offset to another
 pub record Patch : Type 0 where
   pub from : ℕ
   pub to : ℕ
   pub now : List ℕ
 
--- the file from an offset on, with these patches: all bytes between them, and after the last, stay
+-- the file from an offset on, with these patches: all bytes between them and after the last stay
 abbrev pub patched_file : List ℕ → ℕ → List Patch → List ℕ
 patched_file file at [] = drop at file
 patched_file file at (p ∷ ps) = bytes_between file at p.from ++ (p.now ++ patched_file file p.to ps)
 
--- the next of these begins after the offset
+-- the first of these patches begins after the offset
 abbrev pub BeginsAfter : ℕ → List Patch → Type 0
 BeginsAfter at [] = Unit {0}
 BeginsAfter at (p ∷ ps) = at < p.from
 
--- each ends before the next begins, and no two begin at one offset
+-- each patch ends no later than the next begins, and no two begin at the same offset
 abbrev pub ArePatchesInOrder : ℕ → List Patch → Type 0
 ArePatchesInOrder at [] = Unit {0}
 ArePatchesInOrder at (p ∷ ps) =
@@ -101,11 +102,11 @@ pub record ReplacesTag (MayBeTag : List ℕ → Type 0) (s : SurveyFields) (p : 
   pub to : p.to ≡ tag_offset s + tag_length s
   pub now : MayBeTag p.now
 
--- a frame that is lost stays, and any other may differ in gains and check word
+-- a lost frame stays, and any other may differ in gains and check word
 abbrev pub MayBecome : Row → List ℕ → List ℕ → Type 0
 MayBecome row old new = MatchBool row.lost (new ≡ old) (DiffersInGains row.header old new)
 
--- a frame of the file, which isn't its head
+-- a frame of the file other than its head
 pub record MovesFrame (file : List ℕ) (s : SurveyFields) (p : Patch) : Type 0 where
   pub number : ℕ
   pub row : Row
@@ -121,9 +122,9 @@ ArePatchesAllowed MayBeTag file s (p ∷ ps) =
     (LeavesJunk s p ⊎ (ReplacesTag MayBeTag s p ⊎ MovesFrame file s p))
     × ArePatchesAllowed MayBeTag file s ps
 
--- What is written is the file with patches that leave out its junk, put what may be a tag in the
--- place of its tag, and move the gains of its frames. So every other byte stays, and all stay in
--- their order: blocks, zero bytes, the head, and of each frame all but gains and check word.
+-- What is written is the file with patches that leave out its junk, put what may be a tag there
+-- instead of its tag, and move the gains of its frames. Every other byte stays, and all stay in
+-- order: blocks, zero bytes, the head, and all of each frame except gains and check word.
 pub record KeepsAll (MayBeTag : List ℕ → Type 0) (file : List ℕ) (s : SurveyFields)
     (new : List ℕ) : Type 0 where
   pub patches : List Patch
@@ -131,7 +132,7 @@ pub record KeepsAll (MayBeTag : List ℕ → Type 0) (file : List ℕ) (s : Surv
   pub allowed : ArePatchesAllowed MayBeTag file s patches
   pub written : new ≡ patched_file file 0 patches
 
--- so it is for every change of a file without fault, whatever the steps of each frame, and the tag
+-- every change of a file without fault keeps all this, whatever the steps of each frame and the tag
 abbrev pub ChangesKeepAll : Type 0
 ChangesKeepAll =
     (change : FileChange) (file : List ℕ) (allowed : ℕ) (s : SurveyFields) → AreBytes file

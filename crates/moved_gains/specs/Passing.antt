@@ -1,4 +1,4 @@
--- What the buffer of a pass shows.
+-- What the buffer of a pass holds.
 use Rattle.std.specs.Prelude.{drop, IfErr, IfOk, length, List, OnOk, Result, take, ℕ, [], ◌^◌, ◌≡◌}
 use Rattle.std.specs.Prelude.{◌≤◌}
 use Rattle.outside.specs.{BufferOutput.AppendsWaiting, Feed.{buffer_size, Fed}, Files.IsFileThere}
@@ -18,8 +18,7 @@ pub record AreBufferBounds (room : List ℕ) (place done end : ℕ) : Type 0 whe
   pub few : end ≤ buffer_size
   pub early : place ≤ 2 ^ 32
 
--- At least so many bytes of the input from an offset
--- on are held, after what waits, or a call failed.
+-- At least `n` bytes of the input from offset `at` on are held, after what waits, or a call failed.
 pub record BuffersFill (pass : Pass) (at n : ℕ) (was now : Passing) (old new : Seen)
     (result : Result (Unit {0}) PassFault) : Type 0 where
   pub passed : OnOk result
@@ -31,14 +30,14 @@ pub record BuffersFill (pass : Pass) (at n : ℕ) (was now : Passing) (old new :
   pub cause : IfErr result (HasPassCause (route_of pass) old.files old.counts new.counts)
   pub ready : OnOk result (IsPassReady pass new.files now.feed)
 
--- The input of a pass is there, with the length that it was found with, and not too long.
+-- The input of a pass is there, has the length that it was found with, and isn't too long.
 pub record HasInput (pass : Pass) (old : Seen) : Type 0 where
   pub there : IsFileThere old.files pass.input.now
   pub found : OnFile old pass.input.now (λ file. length file ≡ pass.length)
   pub short : pass.length ≤ 2 ^ 32
 
--- The input was read on, after what was kept of it,
--- until so many bytes are there, or a read failed.
+-- The input was read on after the `kept` bytes of it,
+-- until at least `n` bytes were there, or a read failed.
 pub record ReadBehind (pass : Pass) (at kept n : ℕ) (before after : List ℕ) (old new : Seen)
     (result : Result ℕ PassFault) : Type 0 where
   pub enough : IfOk result (λ end. n ≤ end)
@@ -69,7 +68,7 @@ pub record MoveFramesAnswer (pass : Pass) (made : List ℕ → List ℕ) (was no
   pub done : OnOk result (new.counts ≡ old.counts)
   pub cause : IfErr result (HasPassCause (route_of pass) old.files old.counts new.counts)
 
--- A file was appended with its change, or a prefix of that where a call failed.
+-- A file was appended with its change, or a prefix of it if a call failed.
 pub record ChangedAnswer (way : Route) (made : List ℕ → List ℕ) (old new : Seen)
     (result : Result (Unit {0}) PassFault) : Type 0 where
   pub written : OnOk result (AppendsMadeBytes way.input way.output made old.files new.files)

@@ -11,29 +11,29 @@ use Rattle.sync_survey.specs.declared.places.{Head.Head, Piece.Piece}
 
 -- ---- the survey of the edited file
 
--- the bytes of junk before the first frame, which are dropped
+-- the number of bytes of junk before the first frame, which are dropped
 abbrev pub junk_length : SurveyFields → ℕ
 junk_length s = s.first - s.junk
 
--- a frame that isn't lost has its gains moved by the steps at its
--- offset, and each is so many bytes nearer to the beginning of the file
+-- a frame that isn't lost has its gains moved by the steps at its offset,
+-- and each frame is `gap` bytes nearer to the beginning of the file
 abbrev pub edited_row : (ℕ → Steps) → ℕ → Row → Row
 edited_row steps gap row = record row {
   offset = row.offset - gap;
   side = moved_side_unless_lost row.lost (steps row.offset) row.side;
 }
 
--- a head is so many bytes nearer to the beginning, and stays as it is
+-- a head is `gap` bytes nearer to the beginning, and stays as it is
 abbrev pub edited_head : ℕ → Head → Head
 edited_head gap head = record head { offset = head.offset - gap }
 
--- a block before the first frame stays where it is, and
--- one after it is so many bytes nearer to the beginning
+-- a block before the first frame stays where it is, and a
+-- block after it is `gap` bytes nearer to the beginning
 abbrev pub edited_block : ℕ → ℕ → Piece → Piece
 edited_block first gap piece =
     if nat_lt piece.offset first then piece else record piece { offset = piece.offset - gap }
 
--- What a survey tells of the edited file: the same frames with moved gains, blocks, head and
+-- What a survey finds in the edited file: the same frames with moved gains, blocks, head and
 -- class, at their offsets without the junk. The first frame begins where the junk began.
 unfoldable pub edited_survey : (ℕ → Steps) → SurveyFields → SurveyFields
 edited_survey steps s = record {
@@ -53,7 +53,7 @@ file_without_junk s file = take s.junk file ++ drop s.first file
 -- ---- the stream
 
 -- a frame of a stream with moved gains: its header and
--- its main data stay; a lost one has no gains there
+-- its main data stay; a lost frame has no gains there
 abbrev pub moved_stream_frame : Steps → StreamFrame → StreamFrame
 moved_stream_frame steps frame = record frame { side = moved_side steps frame.side }
 
@@ -64,9 +64,9 @@ moved_stream_of steps file s =
     (stream_frame (main_bytes file s.head s.frames) s.head s.frames p.0 p.1))
     (enumerate_from 0 s.frames)
 
--- Both files are well-formed, and the stream of the new one is that of the file
--- with the gains of each frame moved: as many frames in the same order, with the
--- same headers, the same main data, and the same side information except the gains.
+-- Both files are well-formed, and the stream of the new one is the stream of the file
+-- with the gains of each frame moved: the same number of frames in the same order, with
+-- the same headers, the same main data, and the same side information except the gains.
 pub record IsStreamMoved (steps : ℕ → Steps) (file new : List ℕ) : Type 0 where
   pub before : IsWellFormed file
   pub after : IsWellFormed new

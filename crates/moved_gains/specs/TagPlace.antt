@@ -1,5 +1,5 @@
--- Where the tag of a file is, which is its first APEv2 block, and the file with another tag in its
--- place.
+-- Where the tag of a file is, which is its first
+-- APEv2 block, and the file with another tag instead.
 use Rattle.std.specs.List.{find}
 use Rattle.std.specs.Prelude.{Bool, drop, false, filter, if◌then◌else◌, length, List, map, nat_le}
 use Rattle.std.specs.Prelude.{nat_lt, None, Option, option_map, slice_get, Some, take, true, ℕ, []}
@@ -37,7 +37,7 @@ last_end rows = end_of (slice_get rows (length rows - 1))
     end_of None = 0
     end_of (Some r) = frame_end r
 
--- the offset of the tag, or the place for one, right after the last frame
+-- the offset of the tag, or the place for one: right after the last frame
 abbrev pub tag_offset : SurveyFields → ℕ
 tag_offset s = place_of s.frames (tag_block s)
   where
@@ -45,7 +45,7 @@ tag_offset s = place_of s.frames (tag_block s)
     place_of rows (Some b) = b.offset
     place_of rows None = last_end rows
 
--- its length in bytes, 0 if there is none
+-- the length of the tag in bytes, 0 if there is none
 abbrev pub tag_length : SurveyFields → ℕ
 tag_length s = length_in (tag_block s)
   where
@@ -60,27 +60,27 @@ abbrev pub IsTagBytes : List ℕ → Type 0
 IsTagBytes bytes =
     (bytes ≡ []) ⊎ (block_front bytes ≡ Some (record { kind = Ape; length = length bytes }))
 
--- the file with these bytes in the place of its tag
+-- the file with these bytes instead of its tag
 unfoldable pub file_with_tag : List ℕ → SurveyFields → List ℕ → List ℕ
 file_with_tag bytes s file =
     take (tag_offset s) file ++ (bytes ++ drop (tag_offset s + tag_length s) file)
 
--- ---- what a survey tells of that file
+-- ---- what a survey finds in that file
 
--- where what is at an offset of the file is then, if the new
+-- the new offset of what is at an offset of the file, if the new
 -- tag has n bytes: what was after the tag follows the new one
 abbrev pub retagged_offset : ℕ → SurveyFields → ℕ → ℕ
 retagged_offset n s at = if nat_lt at (tag_offset s) then at else at - tag_length s + n
 
--- a frame at the offset where it is then
+-- a frame at its new offset
 abbrev pub retagged_row : ℕ → SurveyFields → Row → Row
 retagged_row n s r = record r { offset = retagged_offset n s r.offset }
 
--- a head at the offset where it is then
+-- a head at its new offset
 abbrev pub retagged_head : ℕ → SurveyFields → Head → Head
 retagged_head n s head = record head { offset = retagged_offset n s head.offset }
 
--- a block at the offset where it is then
+-- a block at its new offset
 abbrev pub retagged_piece : ℕ → SurveyFields → Piece → Piece
 retagged_piece n s piece = record piece { offset = retagged_offset n s piece.offset }
 
@@ -97,8 +97,8 @@ stands_before s piece = nat_lt piece.offset (tag_offset s)
 abbrev pub stands_behind : SurveyFields → Piece → Bool
 stands_behind s piece = nat_le (tag_offset s + tag_length s) piece.offset
 
--- What a survey tells of the file once its tag has n bytes: the same frames, head and blocks, at
--- the offsets at which they are then, and the new block among the others where the old one was.
+-- What a survey finds in the file once its tag has n bytes: the same frames, head and
+-- blocks at their new offsets, and the new block among the others where the old one was.
 unfoldable pub retagged_fields : ℕ → SurveyFields → SurveyFields
 retagged_fields n s = record {
   frames = map (retagged_row n s) s.frames;

@@ -20,15 +20,15 @@ longest_tag = 1048576
 abbrev pub empty_tag : TagFields
 empty_tag = record { header_flags = 0xa0000000; footer_flags = 0x80000000; items = [] }
 
--- the same tag, or its fault with the offset counted from the file's first byte, by the offset of
--- the block in the file
+-- the tag that was read from the block at an offset of the file,
+-- or its fault with the offset counted from the file's first byte
 abbrev pub tag_result_in_file : ℕ → Result TagFields TagFault → Result TagFields FileTagFault
 tag_result_in_file at (Ok tag) = Ok tag
 tag_result_in_file at (Err (BadTag inside)) = Err (Bad (at + inside))
 tag_result_in_file at (Err NoMemory) = Err Memory
 
--- the tag of a block that is at an offset of a file, or
--- why it isn't read: it is too long, or else at fault
+-- the tag of a block at an offset of a file, or why
+-- it isn't read: it is too long or otherwise at fault
 abbrev pub tag_of_block : ℕ → List ℕ → Result TagFields FileTagFault
 tag_of_block at block = if nat_lt longest_tag (length block) then Err (TooLarge (length block))
     else tag_result_in_file at (tag_of block)
@@ -41,29 +41,30 @@ file_tag file s = tag_in (tag_block s)
     tag_in None = Ok empty_tag
     tag_in (Some b) = tag_of_block b.offset (take b.block.length (drop b.offset file))
 
--- the survey is that of the file, for some number of frames that was allowed
+-- the survey is that of the file, for some allowed number of frames
 abbrev pub IsFileSurvey : List ℕ → SurveyFields → Type 0
 IsFileSurvey file s = (allowed : ℕ) × (survey_of file allowed ≡ Ok s)
 
--- the name is there, and this is its survey, by which it is laid out as every such file is
+-- the file is there, its survey is laid out as every
+-- survey is, and is its own if its content is known
 pub record IsSurveyedFile (name : List ℕ) (files : Files) (s : SurveyFields) : Type 0 where
   pub there : IsFileThere files name
   pub laid : IsSurveyLaidOut s
   pub surveyed : (bytes : List ℕ) → Holds files name bytes → IsFileSurvey bytes s
 
--- and the block is the one of its tag
+-- the file has this survey, and the block is that of its tag
 pub record HasTagBlock (name : List ℕ) (files : Files) (s : SurveyFields) (b : Piece) : Type 0 where
   pub known : IsSurveyedFile name files s
   pub tag : tag_block s ≡ Some b
 
--- where the bytes of the file are told, its tag is refused with this fault
+-- if the file's content is known, its tag is refused with this fault
 abbrev pub RefusesTag : List ℕ → Files → SurveyFields → FileTagFault → Type 0
 RefusesTag name files s fault =
     (bytes : List ℕ) → Holds files name bytes → file_tag bytes s ≡ Err fault
 
--- Why the tag isn't read: it is too long, or at fault at one of its bytes; or a call failed; or
--- a file of which nothing is told had the survey's length, and a read before it gave no byte;
--- or there is no memory. All counts stay, except those of a failed call and of an early end.
+-- Why the tag isn't read: it is too long, or at fault at one of its bytes; or a call failed;
+-- or a file whose content isn't known had the survey's length, and a read before it gave no
+-- byte; or memory ran out. All counts stay, except those of a failed call and of an early end.
 abbrev pub IsTagCause : List ℕ → Files → SurveyFields → Counts → Counts → FileTagFault → Type 0
 IsTagCause name files s before after (TooLarge size) = RefusesTag name files s (TooLarge size)
     × (size ≡ tag_length s) × (longest_tag < size) × (after ≡ before)
@@ -75,7 +76,7 @@ IsTagCause name files s before after (Read fault) =
 IsTagCause name files s before after Memory = after ≡ before
 
 -- Why there is no tag of a block at this offset: its tag is refused with this
--- fault, or no block of its length begins with its bytes; or there is no memory.
+-- fault, or its bytes don't begin with a block of their length; or memory ran out.
 abbrev pub IsBlockCause : ℕ → List ℕ → FileTagFault → Type 0
 IsBlockCause offset block (Bad at) =
     (block_front block ≡ Some (record { kind = Ape; length = length block })

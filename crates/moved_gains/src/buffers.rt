@@ -18,14 +18,14 @@ use outside::{BUFFER_SIZE, Folder, PIECE_SIZE, Pass, PassFault, keep_from, read_
 use std::alloc::{AllocError, Global};
 use std::marker::Model;
 
-/// What waits for the output of a pass, and what is held of its input after that, in one buffer of 65,536 bytes: so a byte
-/// that goes on isn't copied. Contracts see both.
+/// What waits for the output of a pass, followed by what is held of its input, in one buffer of
+/// 65,536 bytes, so that a byte that is passed on isn't copied. Contracts see both parts.
 #[derive(Drop)]
 pub struct GainBuffers {
     room: Vec<u8>,
     // The offset in the input of the first byte that is held.
     place: u64,
-    // How many bytes wait. After them are those that are held.
+    // How many bytes wait. The bytes that are held follow them.
     done: usize,
     end: usize,
 }
@@ -61,11 +61,12 @@ fn hand_on<D: Folder>(folder: &mut D, pass: &Pass, bytes: &[u8]) -> Result<(), P
     }
 }
 
-/// Reads on after the first `kept` bytes, which are those of the input from the offset `at` on, until `room` is full or the
-/// input ends, and answers how many there are then: at least `n`. At the input's end nothing is read.
+/// Reads on after the first `kept` bytes, which are the bytes of the input from offset `at` on,
+/// until `room` is full or the input ends, and returns how many bytes are there then: at least `n`.
+/// At the end of the input nothing is read.
 ///
 /// # Errors
-/// `Read` where a read failed; `Shrunk` where one gave no byte before the input's length.
+/// `Read` where a read failed; `Shrunk` where a read gave no byte before the input's length.
 fn read_behind<D: Folder>(
     folder: &mut D,
     pass: &Pass,
@@ -93,10 +94,10 @@ fn read_behind<D: Folder>(
 }
 
 impl GainBuffers {
-    /// Buffers in which nothing is held and nothing waits. All memory of a pass is taken here.
+    /// Empty buffers: nothing is held and nothing waits. All memory of a pass is taken here.
     ///
     /// # Errors
-    /// Where there is no memory.
+    /// If memory runs out.
     pub fn new(alloc: Global) -> Result<GainBuffers, AllocError>
         ensures fresh { IfOk result (λ buffers. (files : Files) (input : List ℕ) →
             IsPassingFresh buffers files input) }
@@ -109,7 +110,8 @@ impl GainBuffers {
         })
     }
 
-    /// Holds `n` bytes of the input from the offset `at` on, at most 4,096, which are within its length.
+    /// Makes the buffer hold `n` bytes of the input from offset `at` on, at most 4,096, which are
+    /// within its length.
     ///
     /// # Errors
     /// `Read` or `Shrunk` where the input can't be read, `Write` where a write failed.
@@ -133,7 +135,8 @@ impl GainBuffers {
         self.refill(folder, pass, at, n)
     }
 
-    // Appends what waits to the output, moves what is held from `at` on to the front of the buffer, and reads on after it.
+    // Appends what waits to the output, moves what is held from `at` on to the beginning of the
+    // buffer, and reads on after it.
     #[inline(never)]
     fn refill<D: Folder>(
         &mut self,
@@ -171,8 +174,8 @@ impl GainBuffers {
         self.place += n as u64;
     }
 
-    /// Lets the next `n` bytes that are held, which are a frame of this class, wait for the output, with its gains moved if it
-    /// isn't lost.
+    /// Lets the next `n` bytes that are held, which are a frame of this class, wait for the output,
+    /// with the frame's gains moved if it isn't lost.
     #[inline(always)]
     pub(crate) fn pass_moved(&mut self, class: Class, moved: &MovedRow, n: usize)
         requires class { class_of moved.now.row.now.header ≡ class }
@@ -197,7 +200,7 @@ impl GainBuffers {
         self.place += n as u64;
     }
 
-    /// Adds a piece to what waits for the output.
+    /// Appends to the output what waits, and then a piece.
     ///
     /// # Errors
     /// `Write` where a write failed.
@@ -219,7 +222,7 @@ impl GainBuffers {
         ensures ready { OnOk result (IsPassReady pass.now (D.seen folder.new).files self.new.feed) }
     {
         hand_on(folder, pass, &self.room[..self.done])?;
-        // What is held comes again where it is needed.
+        // What is held is read again if it is needed.
         self.done = 0;
         self.end = 0;
         hand_on(folder, pass, piece)

@@ -7,6 +7,6 @@ use crate::course::Course;
 pub struct Change {
     /// By how many steps the gains of each frame move.
     pub course: Course,
-    /// The bytes of the new tag, if the tag changes. No bytes take it out.
+    /// The bytes of the new tag, if the tag changes; no bytes remove it.
     pub tag: Option<Vec<u8>>,
 }

@@ -27,8 +27,9 @@ pub enum Course {
 }
 
 impl Course {
-    /// The steps of a frame, counted from 0. `near` doesn't change them: it is 0 at first, and makes a
-    /// curve faster that is asked for frames one after another (`Curve::steps_near`). It takes no memory.
+    /// The steps of a frame, counted from 0. `near` doesn't change them: it is 0 at first, and
+    /// makes a curve faster when it is asked for frames in order (`Curve::steps_near`). It takes no
+    /// memory.
     #[inline]
     pub fn steps(&self, frame: u32, near: &mut usize) -> Steps
         ensures { result ≡ course_steps self.now frame }

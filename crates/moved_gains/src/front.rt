@@ -30,7 +30,8 @@ pub(crate) fn frame_length(class: Class, row: &Row) -> u32
     class.length_of(row.front().slot())
 }
 
-/// Moves the gains in the front of a frame of this class, and makes the check word of a protected frame right for them.
+/// Moves the gains in the front of a frame of this class, and makes the check word of a protected
+/// frame match them.
 #[inline(always)]
 fn move_in_class(class: Class, steps: &Steps, row: &Row, front: &mut [u8])
     requires class { class_of row.now.header ≡ class }
@@ -42,8 +43,9 @@ fn move_in_class(class: Class, steps: &Steps, row: &Row, front: &mut [u8])
     put_gains(own, class, &moved_side(steps, &own.side_in(class)), front);
 }
 
-/// The same, but a lost frame stays. In MPEG-1 with two channels, the most frequent class, the compiler knows the places of
-/// the gains.
+/// Moves the gains in the front of a frame of this class in the same way; a lost frame stays as it
+/// is. In MPEG-1 with two channels, the most frequent class, the compiler knows the places of the
+/// gains.
 #[inline(always)]
 pub(crate) fn move_front(class: Class, steps: &Steps, row: &Row, front: &mut [u8])
     requires class { class_of row.now.header ≡ class }

@@ -15,7 +15,7 @@ pub struct Gains {
     pub greatest: u8,
 }
 
-/// The least and the greatest of some gains and of others, together. `None` stands for no gain.
+/// The least and the greatest of two sets of gains together. `None` means that there is no gain.
 #[inline(always)]
 pub fn joined(some: Option<Gains>, others: Option<Gains>) -> Option<Gains>
     ensures { result ≡ joined_extremes some others }
@@ -51,8 +51,9 @@ fn gain_of(side: &Side, granule: u8, channel: u8) -> Option<Gains>
     })
 }
 
-/// The least and the greatest gain of a channel, counted from 0, in a frame that isn't lost and has this side information.
-/// `None` where the channel is silent in both granules, as one is that the class lacks.
+/// The least and the greatest gain of a channel, counted from 0, in a frame that isn't lost and has
+/// this side information. `None` if the channel is silent in both granules, as any channel is that
+/// the class lacks.
 #[inline(always)]
 pub fn gains_in(side: &Side, channel: u8) -> Option<Gains>
     requires { channel < 2 }
@@ -61,7 +62,7 @@ pub fn gains_in(side: &Side, channel: u8) -> Option<Gains>
     joined(gain_of(side, 0, channel), gain_of(side, 1, channel))
 }
 
-/// Those of a channel in a frame of this class, as if it weren't lost.
+/// The least and the greatest gain of a channel in a frame of this class, as if it weren't lost.
 #[inline(always)]
 fn gains_in_class(class: Class, row: &Row, channel: u8) -> Option<Gains>
     requires class { class_of row.now.header ≡ class }
@@ -71,8 +72,8 @@ fn gains_in_class(class: Class, row: &Row, channel: u8) -> Option<Gains>
     gains_in(&row.front().side_in(class), channel)
 }
 
-/// The same, but a lost frame has none. In MPEG-1 with two channels, the most frequent class, the compiler knows the
-/// places of the gains.
+/// The least and the greatest gain of a channel in a frame of this class; a lost frame has none. In
+/// MPEG-1 with two channels, the most frequent class, the compiler knows the places of the gains.
 #[tactic(auto, unfolding(crate::specs::GainExtremes::extremes))]
 #[inline(always)]
 fn gains_at(class: Class, row: &Row, channel: u8) -> Option<Gains>
@@ -89,8 +90,9 @@ fn gains_at(class: Class, row: &Row, channel: u8) -> Option<Gains>
     }
 }
 
-/// The least and the greatest gain of a channel, counted from 0, of all granules with main data in the frames that aren't
-/// lost: the gains that a change of gains moves. `None` where no gain moves. It takes no memory.
+/// The least and the greatest gain of a channel, counted from 0, over all granules with main data
+/// in the frames that aren't lost: the gains that a change of gains moves. `None` if no gain moves.
+/// It takes no memory.
 pub fn gains_of(rows: &[Row], channel: u8) -> Option<Gains>
     requires { HasChannel channel rows.now }
     ensures value { result ≡ extremes_of channel rows.now }

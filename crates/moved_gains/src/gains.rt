@@ -14,7 +14,7 @@ pub struct OutOfRange {
     pub gain: u8,
 }
 
-/// The gain and so many steps, which may leave the range from 0 to 255.
+/// The gain moved by `steps` steps, which may leave the range from 0 to 255.
 fn sum(steps: i16, gain: u8) -> i32
     ensures { result ≡ pos gain +ℤ steps }
 {
@@ -55,7 +55,7 @@ fn goes_out_of_range(steps: i16, granule: &Granule) -> bool
     ensures { result ≡ (not (is_silent_granule granule.now)
         && is_out_of_range (pos granule.now.global_gain +ℤ steps)) }
 {
-    // Few gains leave the range, so most need no look at the length.
+    // Few gains leave the range, so for most of them the length isn't read.
     !(0..=255).contains(&sum(steps, granule.global_gain)) && granule.part2_3_length != 0
 }
 

@@ -1,7 +1,8 @@
-//! Gains that are moved by steps of 1.5 dB: those of a frame, and those of a whole file, which is read once from its beginning to its end
-//! and written with moved gains, each frame by its own steps, and with another tag if that changes. What is written is a well-formed file
-//! with the same stream except the gains. The tag of a file is its first APEv2 block: where it is, what it says, and what the file with
-//! another tag in its place is.
+//! Moves gains by steps of 1.5 dB, in one frame or in a whole file. The file is read once from
+//! beginning to end and written with moved gains, each frame by its own steps, and with another tag
+//! if that changes. What is written is a well-formed file with the same stream except for the
+//! gains. The crate also finds and reads the tag of a file, its first APEv2 block, and defines the
+//! file with another tag instead.
 #![tactic(auto)]
 
 mod buffers;

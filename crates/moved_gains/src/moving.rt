@@ -1,5 +1,5 @@
-//! The second pass over an input: it is read from its beginning to its end, and written with the gains of
-//! its frames moved, except those of lost ones, and with another tag if that changes.
+//! The second pass over an input: it is read from beginning to end, and written with the gains of
+//! its frames moved, except those of lost frames, and with another tag if that changes.
 ghost use Rattle.std.specs.Prelude.{◌≡◌, ◌≢◌, ◌+◌, ◌<◌, ◌≤◌, ◌^◌, List, ℕ, length, IfOk, IfErr, OnOk, Ok};
 ghost use Rattle.frame_header.specs.Tables.{class_of};
 ghost use Rattle.outside.specs.Files.{IsFileThere};
@@ -24,7 +24,7 @@ use frame_header::Class;
 use outside::{Folder, Pass, PassFault};
 use sync_survey::{Row, Survey};
 
-/// The bytes of a new tag, and the offsets in the input at which what they replace begins and ends.
+/// The bytes of a new tag, and the offsets in the input where what they replace begins and ends.
 #[derive(Clone, Copy)]
 struct NewTag<'a> {
     at: u64,
@@ -36,7 +36,7 @@ struct NewTag<'a> {
 #[derive(Drop)]
 struct GainPass<'a> {
     pass: Pass<'a>,
-    /// That of all frames.
+    /// The class of all frames.
     class: Class,
     course: &'a Course,
     /// The new tag, if that changes.
@@ -71,7 +71,8 @@ impl<'a> GainPass<'a> {
         }
     }
 
-    /// Copies the bytes from one offset up to another, with a new tag between them.
+    /// Copies the bytes from one offset up to another, with a new tag instead of what it replaces
+    /// among them.
     ///
     /// # Errors
     /// `Read` or `Shrunk` where the input can't be read, `Write` where a write failed.
@@ -97,7 +98,8 @@ impl<'a> GainPass<'a> {
         buffers.copy(folder, &self.pass, tag.end, to)
     }
 
-    /// Copies a frame with its gains moved if it isn't lost, and answers the offset at which it ends.
+    /// Copies a frame, with its gains moved if it isn't lost, and returns the offset at which it
+    /// ends.
     ///
     /// # Errors
     /// `Read` or `Shrunk` where the input can't be read, `Write` where a write failed.
@@ -125,7 +127,7 @@ impl<'a> GainPass<'a> {
         Ok(at + u64::from(length))
     }
 
-    /// Copies what is from the offset `from` on, with the gains of these frames moved.
+    /// Copies the input from offset `from` on, with the gains of these frames moved.
     ///
     /// # Errors
     /// `Read` or `Shrunk` where the input can't be read, `Write` where a write failed.
@@ -159,7 +161,7 @@ impl<'a> GainPass<'a> {
     }
 }
 
-/// The new tag of a change, in place of the input's, if it changes.
+/// The new tag of a change, which replaces the input's, if the tag changes.
 fn new_tag<'a>(survey: &Survey, change: &'a Change) -> Option<NewTag<'a>>
     requires { IsSurveyLaidOut (survey_view survey.now) }
     ensures { IsNewTag (survey_view survey.now) (change_in change.now (survey_view survey.now)) result }
@@ -177,9 +179,9 @@ fn new_tag<'a>(survey: &Survey, change: &'a Change) -> Option<NewTag<'a>>
 /// that changes, and without its junk. It takes no memory.
 ///
 /// # Errors
-/// `Read` where a read failed; `Shrunk`, the length with which the input was found and the one at which it
-/// ended when it was read, where a read gave no byte before that length; `Write` where a write failed. Then
-/// a prefix of the bytes was appended, and with `Write` not all of them.
+/// `Read` where a read failed; `Shrunk`, with the length of the input when it was found and the
+/// length at which it ended when it was read, where a read gave no byte before the former; `Write`
+/// where a write failed. Then a prefix of the bytes was appended, and with `Write` not all of them.
 pub fn write_changed<D: Folder>(
     folder: &mut D,
     input: &str,

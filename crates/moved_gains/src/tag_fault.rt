@@ -14,7 +14,7 @@ pub enum FileTagFault {
     Bad(u64),
     /// The block could not be read.
     Read(ReadFault),
-    /// There was no memory left.
+    /// Memory ran out.
     Memory,
 }
 

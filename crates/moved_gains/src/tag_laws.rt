@@ -1,31 +1,31 @@
 //! Laws of the tag of a file. Each function does nothing: a proof that needs its law calls it.
 ghost use Rattle.moved_gains.specs.TagLaws.{RetaggedSurvey, SameStream, TagAgain, OwnTag, TaggedBytes};
 
-/// A file without fault and without junk has no fault with another tag, or none, in the place of its tag:
-/// its survey then tells the same frames, head and blocks, at the offsets at which they are then, and the
+/// A file without fault and without junk still has no fault with another tag, or none, instead of
+/// its tag: its survey then finds the same frames, head and blocks at their new offsets, and the
 /// new block.
 pub fn retagged_survey()
     ensures { RetaggedSurvey }
 {}
 
-/// Such a file holds the same stream.
+/// The file with another tag holds the same stream.
 pub fn same_stream()
     ensures { SameStream }
 {}
 
-/// A tag that was put in the place of the first is the file's tag then, and yet another takes its place as
-/// it takes that of the first.
+/// A tag that was put into a file instead of its first is then the file's tag, and yet another tag
+/// replaces it as it would replace the first.
 pub fn tag_again()
     ensures { TagAgain }
 {}
 
-/// With the bytes of its own tag in the place of its tag, a file is as it was. If the tag is read, they are
-/// its bytes.
+/// With the bytes of its own tag instead of its tag, a file is unchanged. If the tag can be read,
+/// they are the tag's bytes.
 pub fn own_tag()
     ensures { OwnTag }
 {}
 
-/// How long the file with another tag is, and that it consists of bytes.
+/// The length of the file with another tag, and that it consists of bytes.
 pub fn tagged_bytes()
     ensures { TaggedBytes }
 {}

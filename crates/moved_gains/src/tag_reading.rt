@@ -45,9 +45,9 @@ fn read_block<D: Folder>(
 /// The tag of a block at this offset of a file.
 ///
 /// # Errors
-/// `Bad` with the offset in the file of the first fault in the block, or with that of the block if its
-/// bytes aren't an APEv2 block of exactly their length: a file that changed since its survey may hold any.
-/// `Memory` where there is no memory.
+/// `Bad` with the offset in the file of the first fault in the block, or with the offset of the
+/// block if its bytes aren't an APEv2 block of exactly their length: a file that changed since its
+/// survey may hold any. `Memory` if memory runs out.
 fn tag_at_offset(alloc: Global, offset: u64, block: &[u8]) -> Result<Tag, FileTagFault>
     requires few { length block.now ≤ longest_tag }
     requires place { offset + length block.now ≤ 2 ^ 62 }
@@ -71,7 +71,7 @@ fn tag_at_offset(alloc: Global, offset: u64, block: &[u8]) -> Result<Tag, FileTa
     }
 }
 
-/// The tag of the block, which is in the file.
+/// The tag in this block of the file.
 ///
 /// # Errors
 /// As `read_tag` says.
@@ -100,19 +100,20 @@ fn read_piece<D: Folder>(
     tag_at_offset(alloc, piece.offset, &block)
 }
 
-/// The tag of a file: what `Tag::read` gives for its first APEv2 block, and `Tag::new` if there is none.
-/// The file has to be there, and the survey to be its own. The files stay.
+/// The tag of a file: what `Tag::read` returns for its first APEv2 block, or `Tag::new` if there is
+/// none. The file has to be there, and the survey has to be its own. The files stay as they are.
 ///
 /// # Errors
 /// In this order, and none if the file has no tag:
 /// - `TooLarge` with the length of the block, before any byte is read, where it is longer than 1,048,576 bytes;
-/// - `Memory` where there is no memory for the block's bytes;
+/// - `Memory` if memory runs out for the block's bytes;
 /// - `Read(Failed)` where a call failed;
-/// - `Read(Shrunk)` with the survey's length and the offset at which a read gave no byte, before the end of
-///   the block. It comes only where the folder doesn't tell its files;
-/// - `Bad` with the offset in the file of the first fault that `Tag::read` finds, or with that of the block
-///   if no such block is there any more, which comes only where the folder doesn't tell its files;
-/// - `Memory` where there is no memory for the tag's items.
+/// - `Read(Shrunk)` with the survey's length and the offset at which a read gave no byte, before
+///   the end of the block. It occurs only in a folder whose contents aren't known;
+/// - `Bad` with the offset in the file of the first fault that `Tag::read` finds, or with the
+///   offset of the block if no such block is there any more, which occurs only in a folder whose
+///   contents aren't known;
+/// - `Memory` if memory runs out for the tag's items.
 pub fn read_tag<D: Folder>(
     alloc: Global,
     folder: &mut D,
@@ -122,7 +123,7 @@ pub fn read_tag<D: Folder>(
     requires { IsSurveyedFile name.now (D.seen folder.old).files (survey_view survey.now) }
     ensures exact { IfOk result (λ tag. OnFile (D.seen folder.old) name.now
         (λ bytes. file_tag bytes (survey_view survey.now) ≡ Ok tag)) }
-    // Whether the files are told or not.
+    // Whether or not the contents of the files are known.
     ensures none { tag_block (survey_view survey.now) ≡ None → result ≡ Ok empty_tag }
     ensures large { longest_tag < tag_length (survey_view survey.now)
         → result ≡ Err (FileTagFault.TooLarge (tag_length (survey_view survey.now))) }

@@ -1,4 +1,4 @@
--- Moved side information differs from what is in the frame in gains alone.
+-- Moved side information differs only in gains from what is in the frame.
 use Rattle.std.proofs.Common.{ap, subst, sym, ◌∙◌, ◌≡◌}
 use Rattle.moved_gains.{proofs.MovedFrameLemmas.other_gains, specs.Gains.moved_side}
 use Rattle.side_info.{proofs.FrameLemmas.shaped-side_in, specs.Frame.{frame_with_side, side_in}}

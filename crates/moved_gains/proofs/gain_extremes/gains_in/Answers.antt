@@ -1,4 +1,4 @@
--- Those of two granules are those of both together.
+-- The extreme gains of two granules, joined, are those of both together.
 use Rattle.std.proofs.Common.{ap₂, ◌∙◌}
 use Rattle.moved_gains.proofs.ExtremesLemmas.{joined-extremes}
 use Rattle.moved_gains.specs.GainExtremes.{gain_that_moves, joined_extremes}

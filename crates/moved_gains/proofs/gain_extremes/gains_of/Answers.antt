@@ -1,5 +1,4 @@
--- The frames before are passed one by one, and what
--- is found is the least and the greatest of the list.
+-- The frames are passed in order, and what is found is the least and the greatest of the list.
 use Rattle.std.proofs.Common.{ap, arith, drop, length, refl, sym, ◌+◌, ◌∙◌}
 use Rattle.std.{proofs.lemmas.Option.slice_get_read, specs.Option.option_copied}
 use Rattle.frame_header.specs.Tables.{class_of}

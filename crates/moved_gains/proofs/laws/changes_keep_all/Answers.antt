@@ -1,4 +1,4 @@
--- The law, by the edits that make the changed file.
+-- The law, from the edits that make the changed file.
 use Rattle.moved_gains.proofs.KeptFileLemmas.{changes_kept}
 use Rattle.moved_gains.proofs.laws.changes_keep_all.Goals as goal
 

@@ -122,7 +122,7 @@ finish-requires g c =
     writes_there _ c.requires.apart c.in_ok-move_frames.ensures.written output
     (writes_there _ c.requires.apart c.in_ok-copy.ensures.written output c.requires.target)
 
--- once the frames went on, what waits is the end of the changed file
+-- once the frames were passed on, what waits is the end of the changed file
 moved : (g : given.Over) (c : In_ok-move_frames g) → WritesMadeBytes
     (record { input = c.args.input; output = c.args.output; length = c.length.result })
     (λ file. file_with_change (change_in c.args.change.now (survey_view c.args.survey.now)) file

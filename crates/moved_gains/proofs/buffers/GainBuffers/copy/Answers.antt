@@ -1,4 +1,4 @@
--- One piece more goes on.
+-- One more piece is passed on.
 use Rattle.std.proofs.Common.{arith}
 use Rattle.outside.proofs.PassLemmas.{copies_begun, copies_failed, copies_more}
 use Rattle.moved_gains.proofs.buffers.GainBuffers.copy.Goals as goal

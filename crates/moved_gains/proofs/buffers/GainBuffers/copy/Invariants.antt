@@ -1,4 +1,4 @@
--- The bytes up to `at` went on.
+-- The bytes up to `at` were passed on.
 use Rattle.std.proofs.Common.{◌-◌}
 use Rattle.outside.proofs.PassLemmas.{CopiesUpTo}
 use Rattle.moved_gains.proofs.buffers.GainBuffers.copy.Given as goal

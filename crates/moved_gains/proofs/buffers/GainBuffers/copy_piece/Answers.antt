@@ -1,4 +1,4 @@
--- A piece that is held goes on.
+-- A piece that is held is passed on.
 use Rattle.std.proofs.Common.{List, refl, rules, subst, sym, take, ℕ, ◌++◌}
 use Rattle.moved_gains.proofs.BufferLemmas.{held_piece, ready_after}
 use Rattle.outside.proofs.BufferOutputLemmas.{err_at, passed_with}

@@ -21,7 +21,7 @@ within c =
       c.self.invariant.ordered,
     )
 
--- the frame, which is the next bytes
+-- the next bytes, which are the frame
 count : (c : After-self-3-1) → c.self.inside.done + c.args.n - c.self.inside.done ≡ c.args.n
 count c = omega arith
 

@@ -24,7 +24,7 @@ pub hand_on-requires-2 : goal.hand_on-requires-2
 hand_on-requires-2 g c = subst (λ f. IsFileThere f c.args.pass.now.output.now)
     (sym c.in_ok-hand_on.ensures.appended) (appended_there _ c.args.pass.now.output.now _)
 
--- it was appended
+-- what waited was appended
 first : (g : Over) (c : goal.After-hand_on-2 g)
     → (g.D.Folder.seen c.hand_on.new.folder).files ≡ with_appended_bytes
     (g.D.Folder.seen c.args.folder.now).files c.args.pass.now.output.now c.args.self.now.waiting

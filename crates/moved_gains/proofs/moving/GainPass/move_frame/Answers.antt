@@ -1,4 +1,4 @@
--- A frame that is held goes on with its gains moved.
+-- A frame that is held is passed on with its gains moved.
 use Rattle.std.proofs.Common.{ap, ap₂, arith, drop, List, refl, rules, subst, sym, take, ℕ, ◌++◌}
 use Rattle.std.proofs.Common.{◌∙◌, ◌≡◌}
 use Rattle.moved_gains.proofs.BufferLemmas.{held_piece, ready_after}

@@ -1,4 +1,4 @@
--- One frame more, and what is before it, goes on.
+-- One more frame is passed on, with what is before it.
 use Rattle.std.proofs.Common.{ap, ap₂, arith, drop, get_or, length, List, Option, refl, rules}
 use Rattle.std.proofs.Common.{subst, sym, ℕ, ◌++◌, ◌+◌, ◌<◌, ◌∙◌, ◌∷◌, ◌≡◌, ◌≤◌}
 use Rattle.std.proofs.lemmas.{List.{drop_all, drop_more}, Option.slice_get_read}
@@ -36,7 +36,7 @@ abbrev left : (ℕ → Steps) → Option NewTag → List Row → ℕ → Row →
 left steps tag rows i row file = moved_row_bytes (steps row.offset) file row
     ++ bytes_written_from steps tag file (row_end row) (drop (i + 1) rows)
 
--- what is left from an offset on, with the bytes up to the frame by the number that its offset is
+-- what is left from an offset on, with the bytes up to the frame, whose offset is `to`
 left_up_to : (steps : ℕ → Steps) (tag : Option NewTag) (file : List ℕ) (at to : ℕ) (rows : List Row)
     (i : ℕ) (row : Row) → drop i rows ≡ row ∷ drop (i + 1) rows → to ≡ row.offset
     → bytes_written_from steps tag file at (drop i rows)
@@ -56,7 +56,7 @@ loop-frame-init g c = record {
   counts = refl;
 }
 
--- the frame that is next, and those after it
+-- the next frame, and those after it
 module _ (g : given.Over) (c : After-from g) where
   abbrev rows : List Row
   rows = c.args.rows.now

@@ -1,4 +1,5 @@
--- The frames before went on, with their gains moved, and so did what is before and between them.
+-- The frames before were passed on with their gains
+-- moved, and so was what is before and between them.
 use Rattle.std.proofs.Common.{drop, List, ℕ, ◌≡◌}
 use Rattle.moved_gains.specs.{Course.steps_at_offset, Moving.{AreRowsOf, bytes_written_from}}
 use Rattle.outside.{proofs.PassLemmas.WritesUpTo, specs.{Files.Holds, Pass.IsPassReady}}
