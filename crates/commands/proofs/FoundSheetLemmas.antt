@@ -28,7 +28,7 @@ pub sheet-is : (o : Option (List ℕ)) (bytes : List ℕ) → sheet_in o ≡ Ok 
 sheet-is None bytes e = absurd cc
 sheet-is (Some sheet) bytes e = small-sheet sheet bytes (nat_lt longest_sheet (length sheet)) refl e
 
--- and such a sheet isn't refused
+-- a sheet that is there and isn't too long isn't refused
 pub is-sheet : (o : Option (List ℕ)) (bytes : List ℕ) → IsSheet o bytes → sheet_in o ≡ Ok bytes
 is-sheet o bytes is =
     ap sheet_in is.there ∙ ap (λ b. cond b (Err (Refused (SheetTooLarge (length bytes))))

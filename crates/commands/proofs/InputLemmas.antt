@@ -1,4 +1,4 @@
--- A command that reads one file: the faults of its input, and what it makes of it.
+-- A command that reads one file: the faults of its input, and what it makes of the file.
 use Rattle.std.proofs.Common.{ap, ap₂, arith, Bool, Err, false, IfErr, inl, length, List, None, Ok}
 use Rattle.std.proofs.Common.{Option, refl, Result, Some, subst, sym, unwrap_or, ℕ, [], ◌∙◌, ◌∷◌}
 use Rattle.std.proofs.Common.{◌≡◌, ◌≤◌}
@@ -29,7 +29,7 @@ use Rattle.sync_survey.specs.declared.survey_fault.SurveyFault.TheVariants.{Shru
 
 -- ---- the survey of the input
 
--- its fault is one of the input
+-- a fault of the survey is one of the input
 pub file_fault : (place allowed : ℕ) (name : List ℕ) (old new : Seen) (fault : SurveyFault)
     → new.files ≡ old.files → IsSurveyFault name old.files allowed old.counts new.counts fault
     → IsFileFault place allowed name old new (survey_edit_fault place fault)
@@ -54,7 +54,7 @@ file_fault place allowed name old new fault same h = (
   record { there = h.there; bytes = h.bytes; stays = ap₂ seen_folder same h.counts },
 )
 
--- and says where and why
+-- a fault of the survey has the number of the input, and right numbers
 pub survey_numbers : (place : ℕ) (fault : SurveyFault) → HasRightNumbers fault
     → HasSurveyNumbers place (survey_edit_fault place fault)
 survey_numbers place NoRoom right = tt
@@ -65,13 +65,13 @@ made-fault : (make : Making) (bytes : List ℕ) (fault : SurveyFault)
 unfolding made_file
 made-fault make bytes fault is = ap (surveyed_result make bytes) is
 
--- of a surveyed file is made what is made of it by its survey
+-- what is made of a surveyed file is made by its survey
 pub made-survey : (make : Making) (bytes : List ℕ) (s : SurveyFields)
     → survey_of bytes most_frames ≡ Ok s → made_file make bytes ≡ make bytes s
 unfolding made_file
 made-survey make bytes s is = ap (surveyed_result make bytes) is
 
--- a file of which something was made has a survey, by which it was made
+-- a file that something was made of has a survey, by which it was made
 pub made_parts : (make : Making) (file new : List ℕ) → made_file make file ≡ Ok new
     → (s : SurveyFields) × (survey_of file most_frames ≡ Ok s) × (make file s ≡ Ok new)
 unfolding made_file
@@ -83,7 +83,7 @@ made_parts make file new e = at (survey_of file most_frames) refl e
     at (Err fault) is e = absurd cc
     at (Ok s) is e = (s, is, e)
 
--- and so one of the only input, whatever the command makes of it
+-- a fault of the file is one of the only input, whatever the command makes of it
 module _ (make : Making) (name : List ℕ) (old new : Seen) (fault : EditFault) where
   -- a fault of the file is one of the input
   pub fault_is_input : IsFileFault 0 most_frames name old new fault
@@ -102,9 +102,9 @@ of_survey_input refuses (Input place fault) is = is
 of_survey_input refuses Memory is = tt
 of_survey_input refuses _ is = absurd is
 
--- ---- what the command decides of it
+-- ---- what the command decides about the input
 
--- so is a refusal
+-- a refusal that passes the test has the numbers of a fault of the input
 pub refusal_numbers : (refuses : Refusal → Bool) (fault : EditFault) → IsEditRefusal refuses fault
     → HasInputNumbers refuses fault
 refusal_numbers refuses (Refused refusal) is = is
@@ -127,7 +127,7 @@ refused_is_input make name old new s refuses
     }
 refused_is_input make name old new s refuses _ is there survey_fields refused stays = absurd is
 
--- want of memory, once the input was surveyed
+-- running out of memory is a fault of the input, once it was surveyed
 pub memory_is_input : (make : Making) (name : List ℕ) (old new : Seen) (s : SurveyFields)
     → IsFileThere old.files name
     → ((bytes : List ℕ) → Holds old.files name bytes → survey_of bytes most_frames ≡ Ok s)
@@ -209,13 +209,13 @@ module _ (make : Making) (stream : List ℕ → List StreamFrame) (refuses : Ref
             ∙ makes bytes holds,
       )
 
--- ---- what has to hold of such a command
+-- ---- what such a command has to satisfy
 
--- the refusals are late, and what is made of well-formed files holds the stream it says
+-- the refusals are late, and what is made of well-formed files holds the stream that it has to hold
 pub record IsProperMaking (make : Making) (stream : List ℕ → List StreamFrame) : Type 0 where
-  -- its refusals are none of those that are found before any memory is taken
+  -- none of its refusals is found before any memory is taken
   pub late : (file : List ℕ) (s : SurveyFields) → IfErr (make file s) IsLateFault
-  -- what it makes of well-formed files holds the stream that it says
+  -- what it makes of well-formed files holds the stream that it has to hold
   pub streams : (file : List ℕ) (s : SurveyFields) (new : List ℕ) → AreBytes file
       → survey_of file most_frames ≡ Ok s → make file s ≡ Ok new → HoldsStream new (stream file)
 
@@ -257,7 +257,7 @@ module _ (make : Making) (stream : List ℕ → List StreamFrame)
             (proper.streams bytes parts.0 new octets parts.1 parts.2),
       )
 
-  -- a command of one file is proper where what it makes is
+  -- a command that reads one file is proper if what it makes is
   pub file_proper : (refuses : Refusal → Bool) (input : List ℕ)
       → IsProperTask (file_task make stream refuses input)
   file_proper refuses input = record {

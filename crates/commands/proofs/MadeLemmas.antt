@@ -1,4 +1,4 @@
--- What a command that makes one file makes, from its answer.
+-- What a command that makes one file makes, from its result.
 use Rattle.std.proofs.Common.{ap, ap₂, arith, Err, length, List, None, Ok, Option, refl, Result}
 use Rattle.std.proofs.{Common.{Some, sym, ℕ, [], ◌<◌, ◌∙◌, ◌∷◌, ◌≡◌}, lemmas.List.length-map}
 use Rattle.commands.{proofs.InputLemmas.{made-survey, made_parts}, specs.Command.Made}
@@ -28,7 +28,7 @@ unfolding task_result
 makes-parts task output files made e =
     one_parts output (clash_in task output) (task.makes files) made e
 
--- and one without a clash that makes some bytes isn't refused
+-- a command without a clash that makes some bytes isn't refused
 pub parts-make : (task : Task) (output : List ℕ) (files : Contents) (bytes : List ℕ)
     → clash_in task output ≡ None → task.makes files ≡ Ok bytes
     → (made : Made) × ((one_command task output).makes files ≡ Ok made)
@@ -39,7 +39,7 @@ parts-make task output files bytes free is = (
       is,
 )
 
--- ---- of one input
+-- ---- one input
 
 -- the file, its survey, and the bytes that are made of them
 pub record IsMadeOf (make : Making) (files : Contents) (name : List ℕ) : Type 0 where
@@ -65,12 +65,12 @@ file-parts make files name bytes (Some file) there e =
           parts.2;
     }
 
--- bytes that are made of a name's file are made by its survey
+-- bytes that are made of the file with a name are made by its survey
 pub made-of : (make : Making) (files : Contents) (name bytes : List ℕ)
     → input_result make (files name) ≡ Ok bytes → IsMadeOf make files name
 made-of make files name bytes e = file-parts make files name bytes (files name) refl e
 
--- of a surveyed file under the name are made the bytes that are made by its survey
+-- what is made of a surveyed file with a name is made by its survey
 pub of-made : (make : Making) (files : Contents) (name file : List ℕ) (s : SurveyFields)
     → files name ≡ Some file → survey_of file most_frames ≡ Ok s
     → input_result make (files name) ≡ make file s

@@ -1,4 +1,4 @@
--- A command that makes one file: what it leaves by its steps.
+-- A command that makes one file: what it leaves after each step.
 use Rattle.std.proofs.Common.{ap, ap₂, arith, Bool, bytes_eq, cond, Err, false, IfErr, inl, inr}
 use Rattle.std.proofs.Common.{IsErrOf, length, List, None, Ok, OnOk, Option, refl, Result}
 use Rattle.std.proofs.Common.{slice_index_or, Some, subst, sym, true, ℕ, [], ◌||◌, ◌↔◌, ◌∙◌, ◌∷◌}
@@ -28,13 +28,13 @@ use Rattle.sync_survey.specs.Faults.{HoldsStream, longest_file}
 abbrev pub ok_made : Made → Result Made EditFault
 ok_made made = Ok made
 
--- what was made is the same where the answers are
+-- what was made is equal if the results are
 pub made-same : (a b : Made) → ok_made a ≡ ok_made b → a ≡ b
 made-same a b e = cc
 
 -- ---- names
 
--- the first name is no output's, and no other is
+-- without a clash the first name is no output's, nor is any other
 pub no_clash : (b : Bool) (place : ℕ) (o : Option ℕ) → cond b (Some place) o ≡ None
     → (b ≡ false) × (o ≡ None)
 no_clash true place o none = absurd cc
@@ -44,7 +44,7 @@ or_none : (a b : Bool) → (a || b) ≡ false → a ≡ false
 or_none true b none = absurd cc
 or_none false b none = refl
 
--- a name that is none of these isn't the first of them
+-- a name that is none of these outputs isn't the first of them
 pub other_name : (name output : List ℕ) (outputs : List (List ℕ))
     → list_any (bytes_eq name) (output ∷ outputs) ≡ false → name ≢ output
 other_name name output outputs none same =
@@ -59,13 +59,13 @@ source_apart [] source output some first free = absurd (omega (arith, some))
 source_apart (name ∷ inputs) source output some first free =
     λ same. other_name name output [] (no_clash _ 0 _ free).0 (first ∙ same)
 
--- the names of the inputs are those of what the command reads
+-- the names of the inputs are the inputs of the task
 module _ (inputs : Inputs) (task : Task) (named : names_of inputs ≡ task.inputs) where
-  -- the source of the inputs is that of the command
+  -- the source of the inputs is the source of the task
   pub source_is : first_input task.inputs ≡ task.source → inputs.source.now ≡ task.source
   source_is first = ap first_input named ∙ first
 
-  -- a clash of the inputs with the output is that of the command
+  -- a clash of the inputs with the output is one of the task
   pub clash_is : (output : List ℕ) {found place : Option ℕ} → found
       ≡ clash_from (output ∷ []) 0 (names_of inputs) → found ≡ place → clash_in task output ≡ place
   clash_is output of is = ap (clash_from (output ∷ []) 0) (sym named) ∙ sym of ∙ is
@@ -86,7 +86,7 @@ gives_clash task output place (Untold touched) clash = tt
 gives_clash task output place (Told f) clash =
     ap (command_result output) (made_result-clash task output place f clash)
 
--- a clash leaves all as it was, with its number
+-- a clash changes nothing, and is refused with its number
 pub clash_left : (task : Task) (output : List ℕ) (place : ℕ) (now : Seen) → clash_in task output
     ≡ Some place → IsCommandFault (one_command task output) now now (EqualNames place)
 clash_left task output place now clash =
@@ -104,7 +104,7 @@ module _ (task : Task) (output : List ℕ) (free : clash_in task output ≡ None
   gives_refused (Untold touched) fault is = tt
   gives_refused (Told f) fault is = makes_free f ∙ ap (command_result output) is
 
-  -- what holds of every fault
+  -- what is true of every fault
   all_of : (P : EditFault → Type 0) (r : Result (List ℕ) EditFault) → IfErr r P
       → IfErr (command_result output r) P
   all_of P (Ok new) is = tt
@@ -136,7 +136,7 @@ module _ (task : Task) (output : List ℕ) (free : clash_in task output ≡ None
       stays_touched stays = subst (λ files. OnlyTouches (output ∷ []) old.files files) (sym stays)
           (touches_none (output ∷ []) old.files)
 
-      -- a fault before the output leaves all as it was
+      -- a fault met before the output is created leaves what the command may leave
       pub early_left : IsEarlyFault task old new fault
           → IsCommandFault (one_command task output) old new fault
       early_left h = each_why (why_of fault) h (record {
@@ -167,7 +167,7 @@ module _ (task : Task) (output : List ℕ) (free : clash_in task output ≡ None
     whole_made bytes =
         record { outputs = record { name = output; bytes = file bytes } ∷ []; text = [] }
 
-    -- what is made of a told source
+    -- what is made of a source whose content is known
     gives_made : (f : Contents) → IsMaking task file (Told f) → (bytes : List ℕ)
         × (f task.source ≡ Some bytes) × ((one_command task output).makes f ≡ Ok (whole_made bytes))
     gives_made f making =
@@ -190,7 +190,7 @@ module _ (task : Task) (output : List ℕ) (free : clash_in task output ≡ None
         let gives = gives_made f making in
         (whole_made gives.0, gives.2, wrote gives.0 gives.1)
 
-    -- or in part
+    -- the output was written in part
     begun_to : (f : Contents) (new : Files) (moved : List ℕ) → HoldsPrefix output moved (Told f) new
         → (count : Option ℕ)
         × (new
@@ -264,7 +264,7 @@ module _ (task : Task) (output : List ℕ) (free : clash_in task output ≡ None
         no_memory = λ w. absurd w;
       })
 
-    -- from where the files and counts were left as they had been
+    -- from a moment on at which nothing has changed yet
     module _ {T : Type 0} (old mid new : Seen) (stays : mid ≡ old) (making : IsMaking task file
         old.files) (touches : OnlyTouches (output ∷ []) mid.files new.files) where
       -- if the output holds what is made, and no count changed, the command is done
@@ -293,7 +293,7 @@ module _ (task : Task) (output : List ℕ) (free : clash_in task output ≡ None
           (subst (λ (m : Seen). OnlyTouches (output ∷ []) m.files new.files) stays touches)
           (subst (λ m. IsPassFault file task.inputs output m new fault) stays h)
 
-      -- so does a fault of a pass over the source alone
+      -- a fault of a pass over the source alone leaves the output begun
       pub one_left : first_input task.inputs ≡ task.source → (r : Result T EditFault)
           → IfErr r HasPassNumbers → IfErr r (IsPassFault file (task.source ∷ []) output mid new)
           → IfErr r (IsCommandFault (one_command task output) old new)
@@ -310,7 +310,7 @@ module _ (task : Task) (output : List ℕ) (free : clash_in task output ≡ None
     Hold f = (bytes : List ℕ) → f task.source ≡ Some bytes
         → AreSoundFiles f task.sources × HoldsStream (file bytes) (task.stream f)
 
-    -- where what is made holds its stream, so does the file of the pass
+    -- if what is made holds its stream, so does the file of the pass
     pub proper_holds : ((f : Contents) (bytes new : List ℕ) → f task.source ≡ Some bytes
         → AreBytes bytes → task.makes f ≡ Ok new
         → AreSoundFiles f task.sources × HoldsStream new (task.stream f)) → (files : Files)
@@ -328,16 +328,16 @@ module _ (task : Task) (output : List ℕ) (free : clash_in task output ≡ None
         subst (MakesStreams (one_command task output) f) (made-same (whole_made gives.0) made
         (sym gives.2 ∙ is)) (record { sources = both.0; streams = (both.1, tt) })
 
-    -- so a command that is done holds its streams
+    -- a command that is done holds its streams
     pub one_streams : {T E : Type 0} (files : Files) → IsMaking task file files → IfTold files Hold
         → (r : Result T E) → OnOk r (HoldsStreams (one_command task output) files)
     one_streams (Untold touched) making hold (Ok x) = tt
     one_streams (Told f) making hold (Ok x) = streams_at f making hold
     one_streams files making hold (Err fault) = tt
 
--- ---- a fault that was met before there is an output
+-- ---- a fault met before there is an output
 
--- it has the right numbers
+-- a fault met before there is an output has the right numbers
 pub numbers_early : (task : Task) (output : List ℕ) (fault : EditFault) → HasTaskNumbers task fault
     → HasNumbers (one_command task output) fault
 numbers_early task output (Input place fault) h = h
@@ -345,7 +345,7 @@ numbers_early task output (Refused refusal) h = h
 numbers_early task output Memory h = tt
 numbers_early task output _ h = absurd h
 
--- where no name clashes, no fault is that of equal names
+-- if no names clash, no fault is that of equal names
 pub names_free : (command : Command) (r : Result (Unit {0}) EditFault) → clash_of command ≡ None
     → IfErr r (HasNumbers command) → (place : ℕ)
     → IsErrOf r (EqualNames place) ↔ (clash_of command ≡ Some place)
@@ -385,7 +385,7 @@ done-run command old new none done streams fell = record {
   counts = fell;
 }
 
--- a run from a moment is one from a moment before it, if no file and no count changed
+-- a run from a moment is also a run from an earlier one, if no file and no count changed in between
 pub run-before : (command : Command) (old mid new : Seen) (r : Result (Unit {0}) EditFault)
     → mid.files ≡ old.files → mid.counts ≡ old.counts → IsRunOf command mid new r
     → IsRunOf command old new r

@@ -1,4 +1,4 @@
--- The file that a fault is of, by its place among the inputs.
+-- The file that a fault is about, by its place among the inputs.
 use Rattle.std.proofs.Common.{List, refl, slice_index_or, subst, sym, ℕ, [], ◌∙◌, ◌∷◌, ◌≡◌}
 use Rattle.commands.proofs.WhyLemmas.{each_why}
 use Rattle.commands.specs.AfterCall.{end_offset, HasPassNumbers, input_of, InputEndsEarly, why_of}
@@ -16,7 +16,7 @@ module _ (inputs : List (List ℕ)) (place : ℕ) {name : List ℕ}
       subst (λ e. HappenedTo (input_of inputs e) old.counts.misses new.counts.misses) (sym h.is)
       (subst (λ (n : List ℕ). HappenedTo n old.counts.misses new.counts.misses) named h.rose)
 
-  -- one that couldn't read counts a failed read of that input
+  -- a call that couldn't read a file counts a failed read of the input that the fault names
   pub unread_name : ReadsNothing place name old new fault
       → HappenedTo (input_of inputs fault) old.counts.read_faults new.counts.read_faults
   unread_name h =
@@ -24,7 +24,7 @@ module _ (inputs : List (List ℕ)) (place : ℕ) {name : List ℕ}
       (sym h.is) (subst (λ (n : List ℕ). HappenedTo n old.counts.read_faults new.counts.read_faults)
       named h.rose)
 
-  -- and one that found a file shorter names the input that became shorter
+  -- a call that found a file shorter names the input that became shorter
   pub lost_name : LosesInput place name old new fault → InputEndsEarly inputs old new fault
   lost_name h = record {
     rose =
@@ -35,14 +35,14 @@ module _ (inputs : List (List ℕ)) (place : ℕ) {name : List ℕ}
     untold = h.untold;
   }
 
--- ---- of a pass over the first input
+-- ---- a pass over the first input
 
 -- the first input is the one with number 0
 pub first_at : (inputs : List (List ℕ)) → first_input inputs ≡ slice_index_or inputs 0 []
 first_at [] = refl
 first_at (name ∷ inputs) = refl
 
--- the fault is one of this input, whichever others there are
+-- the fault is about this input, whatever other inputs there are
 source_name : (inputs : List (List ℕ)) (source : List ℕ) → first_input inputs ≡ source
     → (fault : EditFault) → HasPassNumbers fault
     → input_of (source ∷ []) fault ≡ input_of inputs fault

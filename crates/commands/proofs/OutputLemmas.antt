@@ -14,7 +14,7 @@ use Rattle.outside.specs.Pass.{AppendsMadeBytes, AppendsPrefix, HasPassCause, ro
 use Rattle.outside.specs.{Seen.seen_folder, declared.pass.PassFault.PassFault}
 use Rattle.outside.specs.declared.pass.PassFault.TheVariants.{Read, Shrunk, Write}
 
--- emptied and then appended to, the output holds these bytes
+-- created empty and then appended to, the output holds these bytes
 appended-emptied : (files : Files) (name bytes : List ℕ)
     → with_appended_bytes (with_empty_file files name) name bytes ≡ files_holding files name bytes
 unfolding with_appended_bytes with_empty_file files_holding
@@ -31,7 +31,7 @@ pub not_begun : (made : List ℕ → List ℕ) (input output : List ℕ) (old ne
 not_begun made input output (Told f) new failed file holds = inl (fails_told f new output failed)
 not_begun made input output (Untold touched) new failed file holds = absurd holds
 
--- the output was created, and then written to
+-- the output was created, and then written
 module _ (made : List ℕ → List ℕ) (input output : List ℕ) (apart : input ≢ output)
     (old mid new : Files) (created : mid ≡ with_empty_file old output) where
   held_mid : (file : List ℕ) → Holds old input file → Holds mid input file
@@ -43,13 +43,13 @@ module _ (made : List ℕ → List ℕ) (input output : List ℕ) (apart : input
   holding_new bytes is =
       is ∙ ap (λ f. with_appended_bytes f output bytes) created ∙ appended-emptied old output bytes
 
-  -- with all bytes appended it holds what was made of the input
+  -- with all bytes appended, it holds what was made of the input
   pub output_whole : AppendsMadeBytes input output made mid new → (file : List ℕ)
       → Holds old input file → new ≡ files_holding old output (made file)
   output_whole done file holds = holding_new done.bytes done.files
       ∙ ap (files_holding old output) (done.is file (held_mid file holds))
 
-  -- with a prefix of them it was begun
+  -- with a prefix of the bytes appended, it was begun
   pub output_prefix : {fault : PassFault} → AppendsPrefix input output made mid new fault
       → IsOutputBegun made input output old new
   output_prefix part file holds = inr (
@@ -58,7 +58,7 @@ module _ (made : List ℕ → List ℕ) (input output : List ℕ) (apart : input
         ∙ ap (files_holding old output) (part.prefix file (held_mid file holds)),
   )
 
-  -- where a write failed, not all of it
+  -- if a write failed, it lacks bytes
   output_short : AppendsPrefix input output made mid new Write
       → IsLeftShort made input output old new
   output_short part file holds =
@@ -79,16 +79,16 @@ module _ (made : List ℕ → List ℕ) (input output : List ℕ) (apart : input
       bytes) (emptied_touches old output)
       (appended_touches (with_empty_file old output) output bytes))
 
-  -- in both cases the output alone was touched
+  -- if all bytes were appended, only the output was touched
   pub touches_whole : AppendsMadeBytes input output made mid new → OnlyTouches (output ∷ []) old new
   touches_whole done = touches_new done.bytes done.files
 
-  -- so it was where only a prefix was appended
+  -- if only a prefix was appended, only the output was touched
   pub touches_prefix : {fault : PassFault} → AppendsPrefix input output made mid new fault
       → OnlyTouches (output ∷ []) old new
   touches_prefix part = touches_new part.bytes part.files
 
-  -- an input could not be read again, or the output not be written
+  -- an input could not be read again, or the output could not be written
   pub pass_fault : (inputs : List (List ℕ)) → first_input inputs ≡ input
       → (place : ℕ) (fault : PassFault) (size : ℕ) (before between after : Counts)
       → between ≡ before → AppendsPrefix input output made mid new fault

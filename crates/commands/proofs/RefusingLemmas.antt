@@ -1,4 +1,4 @@
--- What comes before what is made: what its refusals are, and when it isn't refused.
+-- What comes before what is made: its refusals, and when there is none.
 use Rattle.std.proofs.Common.{ap, arith, drop, Err, get_or, IfErr, IfSome, length, List, None, Ok}
 use Rattle.std.proofs.Common.{Option, refl, Result, Some, subst, suc, sym, ℕ, [], ◌+◌, ◌<◌, ◌∙◌}
 use Rattle.std.proofs.{Common.{◌∷◌, ◌≡◌, ◌≤◌}, Math.Seq.drop-cons, lemmas.List.drop_all}
@@ -10,22 +10,22 @@ use Rattle.commands.specs.declared.fault.Refusal.{Refusal, TheVariants.Differ}
 use Rattle.outside.specs.Files.{Contents, Files, IfTold, Told, Untold}
 use Rattle.sync_survey.specs.declared.survey_fault.SurveyFault.TheVariants.{Read}
 
--- ---- what holds of every fault
+-- ---- what is true of every fault
 
--- what holds of a refusal holds of the answer with it
+-- what is true of a refusal is true of the result with it
 pub unless_all : {A : Type 0} (P : EditFault → Type 0) (o : Option Refusal) (a : A)
     → IfSome o (λ refusal. P (Refused refusal)) → IfErr (refusal_or o a) P
 unless_all P None a is = tt
 unless_all P (Some refusal) a is = is
 
--- what holds of the errors of two steps holds of those of both
+-- what is true of the errors of two steps is true of the errors of both
 pub then_all : {A B : Type 0} (P : EditFault → Type 0) (r : Result A EditFault)
     (make : A → Result B EditFault) → IfErr r P → ((a : A) → IfErr (make a) P)
     → IfErr (then_made r make) P
 then_all P (Ok a) make first rest = rest a
 then_all P (Err fault) make first rest = first
 
--- no answer is before the first input
+-- no refusal is about an input before the first
 first_before : (answer : EditFault) → IsNotBefore (Input 0 Read) answer
 first_before (Input at fault) = omega arith
 first_before (Refused (Differ at)) = omega arith
@@ -35,7 +35,7 @@ first_all : {A : Type 0} (r : Result A EditFault) → IfErr r (IsNotBefore (Inpu
 first_all (Ok a) = tt
 first_all (Err answer) = first_before answer
 
--- no refusal comes before that of a first input that could not be read
+-- no refusal comes before the one of a first input that could not be read
 pub before_first : {A : Type 0} (files : Files) (makes : Contents → Result A EditFault)
     (fault : EditFault) → fault ≡ Input 0 Read
     → IfTold files (λ f. IfErr (makes f) (IsNotBefore fault))
@@ -45,37 +45,37 @@ before_first (Told f) makes fault is =
 
 -- ---- memory was taken before
 
--- no refusal is found before
+-- no refusal is found before memory was taken
 pub unless_late : {A : Type 0} (o : Option Refusal) (a : A) → IfErr (refusal_or o a) IsLateFault
 unless_late None a = tt
 unless_late (Some refusal) a = refl
 
--- if the errors of two steps are late, so are those of both
+-- if the errors of two steps are late, so are the errors of both
 pub then_late : {A B : Type 0} (r : Result A EditFault) (make : A → Result B EditFault)
     → IfErr r IsLateFault → ((a : A) → IfErr (make a) IsLateFault)
     → IfErr (then_made r make) IsLateFault
 then_late (Ok a) make first rest = rest a
 then_late (Err fault) make first rest = first
 
--- what holds of an answer's error holds of this error
+-- what is true of a result's error is true of this error
 pub of_err : {A : Type 0} (P : EditFault → Type 0) (r : Result A EditFault) (fault : EditFault)
     → IfErr r P → r ≡ Err fault → P fault
 of_err P (Ok a) fault is e = absurd cc
 of_err P (Err first) fault is e = let same : first ≡ fault = cc in subst P same is
 
--- what is said of the fault that a `?` returns
+-- what is true of the fault that a `?` returns is true of the error
 pub err_with : {T E : Type 0} (P : E → Type 0) (r : Result T E) {fault : E}
     → IsErrAnd r (λ y. y ≡ fault) → P fault → IfErr r P
 err_with P (Ok a) is holds = absurd is
 err_with P (Err first) is holds = subst P (sym is) holds
 
--- an answer that isn't refused has no refusal
+-- a result that isn't refused has no refusal
 pub unless_ok : {A : Type 0} (o : Option Refusal) (a b : A) → refusal_or o a ≡ Ok b
     → (o ≡ None) × (a ≡ b)
 unless_ok (Some refusal) a b e = absurd cc
 unless_ok None a b e = (refl, cc)
 
--- an answer of two steps is one of each
+-- a result of two steps is one of each
 pub then_ok : {A B : Type 0} (r : Result A EditFault) (make : A → Result B EditFault) (b : B)
     → then_made r make ≡ Ok b → (a : A) × (r ≡ Ok a) × (make a ≡ Ok b)
 then_ok (Ok a) make b e = (a, refl, e)
@@ -83,28 +83,28 @@ then_ok (Err fault) make b e = absurd cc
 
 -- ---- the first refusal
 
--- if neither of two refusals comes, each doesn't
+-- if neither of two refusals is there, each is absent
 pub none_first : (o later : Option Refusal) → or_else o later ≡ None → (o ≡ None) × (later ≡ None)
 none_first None later e = (refl, e)
 none_first (Some fault) later e = absurd cc
 
--- and if each doesn't, neither comes
+-- if each of two refusals is absent, neither is there
 pub none_both : (o later : Option Refusal) → o ≡ None → later ≡ None → or_else o later ≡ None
 none_both o later e rest = ap (λ p. or_else p later) e ∙ rest
 
 module _ {A : Type 0} (refuse : A → Option Refusal) where
-  -- nothing is refused first where nothing is asked
+  -- an empty list has no first refusal
   pub first-nil : first_refusal refuse [] ≡ None
   unfolding first_refusal
   first-nil = refl
 
-  -- the first refusal is that of the first or, if it has none, of the others
+  -- the first refusal is that of the first item or, if it has none, of the others
   pub first-cons : (a : A) (list : List A)
       → first_refusal refuse (a ∷ list) ≡ or_else (refuse a) (first_refusal refuse list)
   unfolding first_refusal
   first-cons a list = refl
 
-  -- from one on the first refusal is its own or, if it has none, that of those after it
+  -- from item i on the first refusal is its own or, if it has none, that of the items after it
   pub first-from : (list : List A) (i : ℕ) (a : A) (here : Option Refusal) → i < length list
       → a ≡ get_or list i a → refuse a ≡ here
       → first_refusal refuse (drop i list) ≡ or_else here (first_refusal refuse (drop (i + 1) list))
@@ -116,7 +116,7 @@ module _ {A : Type 0} (refuse : A → Option Refusal) where
       ∙ first-cons a (drop (i + 1) list)
       ∙ ap (λ o. or_else o (first_refusal refuse (drop (i + 1) list))) refused
 
-  -- behind the last there is none
+  -- after the last item there is no refusal
   pub first-behind : (list : List A) (i : ℕ) → length list ≤ i
       → first_refusal refuse (drop i list) ≡ None
   first-behind list i end = ap (first_refusal refuse) (drop_all i list end) ∙ first-nil

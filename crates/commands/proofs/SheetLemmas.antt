@@ -1,4 +1,4 @@
--- What is read of a sheet.
+-- What is read from a sheet.
 use Rattle.std.proofs.Common.{ap, cond, Err, false, IfErr, length, List, nat_lt, None, Ok, Option}
 use Rattle.std.proofs.Common.{refl, Some, subst, sym, true, ℕ, ◌∙◌, ◌≡◌}
 use Rattle.commands.specs.{AfterCall.IsLateFault, Sheet.{HasSheetNumbers, IsSheetFault, sheet_in}}
@@ -12,7 +12,7 @@ use Rattle.outside.specs.declared.exact.ReadFault.TheVariants.{Failed, Shrunk as
 use Rattle.sync_survey.specs.SurveyFaultKinds.{survey_fault_of}
 use Rattle.sync_survey.specs.declared.survey_fault.SurveyFault.TheVariants.{Absent}
 
--- what holds of its refusals
+-- what is true of each of its refusals is true of its error
 pub sheet-all : (P : EditFault → Type 0) → P (Input 1 Absent)
     → ((size : ℕ) → P (Refused (SheetTooLarge size))) → (sheet : Option (List ℕ))
     → IfErr (sheet_in sheet) P
@@ -24,7 +24,7 @@ sheet-all P absent large (Some bytes) =
       | false ↦ tt
     ]
 
--- want of memory is met after them
+-- the refusals of a sheet are found after memory was taken
 pub sheet-late : (sheet : Option (List ℕ)) → IfErr (sheet_in sheet) IsLateFault
 sheet-late sheet = sheet-all IsLateFault refl (λ size. refl) sheet
 
@@ -50,7 +50,7 @@ module _ (sheet : List ℕ) (files mid last : Files) (before between after : Cou
     files = stays ∙ found;
   }
 
-  -- it has the number of the sheet
+  -- a fault of reading has the number of the sheet
   pub read-number : (fault : ReadFault) → HasReadCause sheet size mid between after fault
       → HasSheetNumbers (Input 1 (survey_fault_of fault))
   read-number Failed cause = (refl, (λ e. cc), tt, (λ e. cc))

@@ -1,4 +1,4 @@
--- A command with a text leaves of the files what it leaves without.
+-- A command with a text leaves the same files as without.
 use Rattle.std.proofs.Common.{ap, Err, IfErr, inl, inr, length, List, Ok, refl, Result, subst, sym}
 use Rattle.std.proofs.Common.{take, ℕ, ◌∙◌, ◌≡◌, ◌≤◌, ◌⊎◌}
 use Rattle.commands.proofs.WhyLemmas.{each_why}
@@ -32,7 +32,7 @@ module _ (text : Contents → List ℕ) (command : Command) where
   abbrev told : Command
   told = telling_command text command
 
-  -- a fault of the command is one with the text
+  -- a fault of the command is one of the command with the text
   pub telling-gives : (files : Files) (fault : EditFault) → HasAnswer command files (Err fault)
       → HasAnswer told files (Err fault)
   telling-gives (Untold touched) fault is = tt
@@ -48,7 +48,7 @@ module _ (text : Contents → List ℕ) (command : Command) where
   all-told (Untold touched) P is = tt
   all-told (Told f) P is = all_text P (text f) (command.makes f) is
 
-  -- what it does is done with the text
+  -- a command that is done is done with the text too
   pub telling-done : (old new : Seen) → IsCommandDone command old new → IsCommandDone told old new
   telling-done old new done =
       record { made = at old.files done.made; touches = done.touches; counts = done.counts }
@@ -94,7 +94,7 @@ module _ (text : Contents → List ℕ) (command : Command) where
     unread-to (inl same) = inl same
     unread-to (inr h) = inr (h.0, written-to h.0 old.files new.files h.1)
 
-    -- what the command leaves it leaves with a text too
+    -- what the command leaves, it leaves with the text too
     pub telling-left : IsCommandFault command old new fault → IsCommandFault told old new fault
     telling-left h = each_why (why_of fault) h (record {
       rejected = λ r. record { defined = telling-gives old.files fault r.defined; stays = r.stays };
@@ -117,7 +117,7 @@ module _ (text : Contents → List ℕ) (command : Command) where
           λ n. record { names = n.names; takes = takes_memory old.files n.takes; stays = n.stays };
     })
 
-  -- what it holds it holds with the text
+  -- the streams that the command holds, it holds with the text too
   pub telling-streams : (files : Files) → HoldsStreams command files → HoldsStreams told files
   telling-streams (Untold touched) holds = tt
   telling-streams (Told f) holds = λ made is. at (command.makes f) refl made is
@@ -132,7 +132,7 @@ module _ (text : Contents → List ℕ) (command : Command) where
       at (Ok m) is made e = by_text m made is cc
       at (Err fault) is made e = absurd cc
 
-  -- the text of told files, of which it makes something
+  -- the text of a command that makes something of files whose contents are known
   pub telling-text : (files : Files) (all : List ℕ) → IsCommandText told files all
       → (f : Contents) × (files ≡ Told f) × (all ≡ text f)
   telling-text files all (inl always) = absurd cc
@@ -147,7 +147,7 @@ module _ (text : Contents → List ℕ) (command : Command) where
 
 module _ (command : Command) (files : Files) (old new : Heard) (text : List ℕ)
     (same : (all : List ℕ) → IsCommandText command files all → text ≡ all) where
-  -- with all of its text sent the command said all
+  -- with all of its text sent, the command said all
   pub says-all : new.sent ≡ sent_and_more old.sent text → new.faults ≡ old.faults
       → SaysAll command files old new
   says-all sent done = record {
@@ -155,7 +155,7 @@ module _ (command : Command) (files : Files) (old new : Heard) (text : List ℕ)
     faults = done;
   }
 
-  -- with a prefix of it sent the command said a prefix
+  -- with a prefix of its text sent, the command said a prefix
   pub says-prefix : SentPrefix text old.sent new.sent → Rose old.faults new.faults
       → SaysPrefix command files old new
   says-prefix part rose = record {

@@ -1,4 +1,4 @@
--- Which names a command touches, however it ends: none but those of its outputs.
+-- The names that a command touches, however it ends: only those of its outputs.
 use Rattle.std.proofs.Common.{ap, inl, inr, subst, sym, take, ℕ, ◌+◌, ◌≡◌, ◌≢◌, ◌⊎◌}
 use Rattle.std.proofs.lemmas.List.Elements.{All-take}
 use Rattle.commands.{proofs.WhyLemmas.of_why, specs.AfterCall.{IsCommandFault, IsWrittenTo, why_of}}
@@ -23,7 +23,7 @@ module _ (command : Command) where
     unread_touched (inl same) = stays_touched old.files new.files same
     unread_touched (inr wrote) = first_touched wrote.0 old.files new.files wrote.1.touches
 
-    -- a command that fails touches its outputs alone
+    -- a command that fails touches only its outputs
     pub left_touched : IsCommandFault command old new fault
         → OnlyTouches command.outputs old.files new.files
     left_touched h = of_why (why_of fault) h (record {

@@ -23,7 +23,7 @@ each_why (Unwritten k) h each = each.unwritten k h
 each_why Unsent h each = each.unsent h
 each_why NoMemory h each = each.no_memory h
 
--- where only what is said of a refusal differs, that has to follow
+-- if only what is said about a refusal differs, only that has to follow
 pub each_refusal : {A : ByWhy (Type 0)} {R : Type 0} → (A.rejected → R)
     → EachWhy A (record A { rejected = R })
 each_refusal follows = record {
@@ -49,7 +49,7 @@ always P = record {
       P;
 }
 
--- what follows for each cause follows in any case
+-- what follows for each cause follows for any cause
 pub of_why : {A : ByWhy (Type 0)} {P : Type 0} (why : Why) → by_why A why → EachWhy A (always P) → P
 of_why why h each = by_any why (each_why why h each)
   where
@@ -57,7 +57,7 @@ of_why why h each = by_any why (each_why why h each)
     by_any (Unwritten k) h = h
     by_any _ h = h
 
--- the same of two that stand together
+-- for each cause, the second follows from the first
 abbrev pub and_by : ByWhy (Type 0) → ByWhy (Type 0) → ByWhy (Type 0)
 and_by A B = record {
   rejected = A.rejected → B.rejected;

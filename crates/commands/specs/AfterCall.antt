@@ -1,4 +1,4 @@
--- What a command leaves of the files, by its answer, and the cause of each refusal.
+-- What a command leaves of the files, by its result, and the cause of each refusal.
 use Rattle.std.specs.Prelude.{Bool, drop, Err, false, IfErr, length, List, None, Ok, Option, Result}
 use Rattle.std.specs.Prelude.{slice_index_or, Some, take, true, ℕ, [], ◌+◌, ◌<◌, ◌==◌, ◌≡◌, ◌≢◌}
 use Rattle.std.specs.Prelude.{◌≤◌, ◌⊎◌}
@@ -28,14 +28,14 @@ pub data Why : Type 0 where
   Unread : Why
   -- an input became shorter while it was read
   Shorter : Why
-  -- a call failed that writes this output
+  -- a call that writes this output failed
   Unwritten : ℕ → Why
   -- a write to standard output failed
   Unsent : Why
-  -- want of memory
+  -- memory ran out
   NoMemory : Why
 
--- what there is for each of these
+-- a value for each of these causes
 pub record ByWhy {ℓ} (A : Type ℓ) : Type ℓ where
   pub rejected : A
   pub missing : A
@@ -45,7 +45,7 @@ pub record ByWhy {ℓ} (A : Type ℓ) : Type ℓ where
   pub unsent : A
   pub no_memory : A
 
--- what there is for this cause
+-- the value for this cause
 abbrev pub by_why {ℓ} : {A : Type ℓ} → ByWhy A → Why → A
 by_why w Rejected = w.rejected
 by_why w Missing = w.missing
@@ -55,7 +55,7 @@ by_why w (Unwritten k) = w.unwritten k
 by_why w Unsent = w.unsent
 by_why w NoMemory = w.no_memory
 
--- none of them is met
+-- none of the causes is possible
 abbrev pub no_cause : ByWhy (Type 0)
 no_cause = record {
   rejected = ⊥;
@@ -85,18 +85,18 @@ why_of (Refused refusal) = Rejected
 
 -- ---- which file it was
 
--- the name of the input that a fault is of
+-- the name of the input that a fault is about
 abbrev pub input_of : List (List ℕ) → EditFault → List ℕ
 input_of inputs (Input place fault) = slice_index_or inputs place []
 input_of inputs _ = []
 
--- the offset at which that input ended, if it became shorter
+-- the offset at which the input ended, if it became shorter
 abbrev pub end_offset : EditFault → ℕ
 end_offset (Input place fault) = shrunk_end fault
 end_offset _ = 0
 
--- nothing is told of the files; a read of the input that the fault is of gave no byte at the offset
--- that the fault says; and no call failed
+-- the contents of the files aren't known; a read of the input that the fault
+-- is about gave no byte at the offset that the fault says; and no call failed
 pub record InputEndsEarly (inputs : List (List ℕ)) (old new : Seen)
     (fault : EditFault) : Type 0 where
   pub rose : EndedAt (input_of inputs fault) (end_offset fault) old.counts.ends new.counts.ends
@@ -113,16 +113,16 @@ pub record IsCommandDone (command : Command) (old new : Seen) : Type 0 where
   pub touches : OnlyTouches command.outputs old.files new.files
   pub counts : new.counts ≡ old.counts
 
--- the command isn't refused, and of what it makes the first k outputs are whole; the next one holds
--- a prefix, or wasn't created
+-- the command isn't refused, and the first k of the outputs that it
+-- makes are whole; the next one holds a prefix, or wasn't created
 pub record IsWrittenTo (command : Command) (k : ℕ) (old new : Files) : Type 0 where
   pub made : IfTold old (λ f.
       (made : Made) × (command.makes f ≡ Ok made) × (k < length made.outputs)
       × (count : Option ℕ) × (new ≡ Told (partly_written_files k count made.outputs f)))
   pub touches : OnlyTouches (take (k + 1) command.outputs) old new
 
--- The command isn't refused, and of what it makes the first k outputs are whole. The next one
--- isn't: it holds a prefix that lacks bytes, or wasn't created.
+-- The command isn't refused, and the first k of the outputs that it makes are
+-- whole. The next one isn't: it holds a prefix that lacks bytes, or wasn't created.
 pub record IsOutputUnfinished (command : Command) (k : ℕ) (old new : Files) : Type 0 where
   pub made : IfTold old (λ f.
       (made : Made) × (command.makes f ≡ Ok made) × (k < length made.outputs)
@@ -130,27 +130,27 @@ pub record IsOutputUnfinished (command : Command) (k : ℕ) (old new : Files) : 
       × (new ≡ Told (partly_written_files k count made.outputs f)))
   pub touches : OnlyTouches (take (k + 1) command.outputs) old new
 
--- the command is refused with this fault; all is as it was
+-- the command is refused with this fault; nothing changed
 pub record IsCommandRefused (command : Command) (old new : Seen) (fault : EditFault) : Type 0 where
   pub defined : HasAnswer command old.files (Err fault)
   pub stays : new ≡ old
 
--- the command is refused since the input that the fault is of isn't there
+-- the command is refused since the input that the fault is about isn't there
 pub record IsInputMissing (command : Command) (old new : Seen) (fault : EditFault) : Type 0 where
   pub defined : HasAnswer command old.files (Err fault)
   pub rose : HappenedTo (input_of command.inputs fault) old.counts.misses new.counts.misses
   pub files : new.files ≡ old.files
 
--- The answer isn't one of an input before that of the fault. The inputs are judged in their order,
--- so where one could not be read, those before it are there and without fault, and none differs
--- from the first. Every refusal that names no input comes after these.
+-- The refusal `answer` names no input before the one that the fault names. The inputs are
+-- checked in order, so if one could not be read, those before it are there and without fault,
+-- and none differs from the first. Every refusal that names no input comes after these.
 abbrev pub IsNotBefore : EditFault → EditFault → Type 0
 IsNotBefore (Input place fault) (Input at first) = place ≤ at
 IsNotBefore (Input place fault) (Refused (Differ at)) = place ≤ at
 IsNotBefore fault answer = Unit {0}
 
--- A call failed that looks for the input that the fault is of, or reads it. No name of an input is
--- an output's, and no input before this one is at fault.
+-- A call failed that looks up or reads the input that the fault is about. No
+-- input has the name of an output, and no input before this one is at fault.
 pub record IsInputUnread (command : Command) (old new : Seen) (fault : EditFault) : Type 0 where
   pub names : clash_of command ≡ None
   pub before : IfTold old.files (λ f. IfErr (command.makes f) (IsNotBefore fault))
@@ -158,12 +158,12 @@ pub record IsInputUnread (command : Command) (old new : Seen) (fault : EditFault
       (input_of command.inputs fault) old.counts.read_faults new.counts.read_faults
   pub files : (new.files ≡ old.files) ⊎ ((k : ℕ) × IsWrittenTo command k old.files new.files)
 
--- only a folder that tells nothing can have such a file
+-- an input became shorter, which is possible only in a folder whose contents aren't known
 pub record IsInputShorter (command : Command) (old new : Seen) (fault : EditFault) : Type 0 where
   pub ended : InputEndsEarly command.inputs old new fault
   pub touches : OnlyTouches command.outputs old.files new.files
 
--- a call failed that creates this output or writes to it
+-- a call that creates this output or writes to it failed
 pub record IsOutputUnwritten (command : Command) (k : ℕ) (old new : Seen) : Type 0 where
   pub rose : HappenedTo
       (slice_index_or command.outputs k []) old.counts.write_faults new.counts.write_faults
@@ -180,12 +180,12 @@ is_before_memory _ = false
 abbrev pub IsLateFault : EditFault → Type 0
 IsLateFault fault = is_before_memory fault ≡ false
 
--- memory was taken before the command gave this
+-- memory was taken before the command gave this result
 abbrev pub TakesMemory : Result Made EditFault → Type 0
 TakesMemory (Ok made) = Unit {0}
 TakesMemory (Err fault) = is_before_memory fault ≡ false
 
--- all is as it was, and it is a command for which memory is taken
+-- nothing changed, and the command is one that memory is taken for
 pub record IsOutOfMemory (command : Command) (old new : Seen) : Type 0 where
   pub names : clash_of command ≡ None
   pub takes : IfTold old.files (λ f. TakesMemory (command.makes f))
@@ -208,16 +208,16 @@ left_cases command old new fault = record {
 abbrev pub IsCommandFault : Command → Seen → Seen → EditFault → Type 0
 IsCommandFault command old new fault = by_why (left_cases command old new fault) (why_of fault)
 
--- ---- what the numbers of a fault say over every folder, told or not
+-- ---- what the numbers of a fault say in every folder
 
--- the input is the first or one of so many sources, whose frames are read; any other, as a sheet,
--- isn't there, can't be read or became shorter alone
+-- the input is the first or one of `sources` sources, whose frames are read;
+-- any other, such as a sheet, can only be missing, unreadable or shorter
 abbrev pub CanBeAtPlace : ℕ → ℕ → SurveyFault → Type 0
 CanBeAtPlace sources place fault = (place ≡ 0) ⊎ (place < sources) ⊎ IsFromOutside fault
 
--- The numbers of a fault, over every folder: that of an input or an output is one that the command
--- has, a refusal is one that it can give, a file that is too long is longer than one may be, one
--- that became shorter ended before its first length, and a sheet has no fault of a stream.
+-- The numbers of a fault, in every folder: the number of an input or an output is one that the
+-- command has, a refusal is one that it can give, a file that is too long is longer than one may
+-- be, one that became shorter ended before its first length, and a sheet has no fault of a stream.
 abbrev pub HasNumbers : Command → EditFault → Type 0
 HasNumbers command (EqualNames place) = clash_of command ≡ Some place
 HasNumbers command (Input place fault) =
@@ -228,13 +228,13 @@ HasNumbers command (Write place) = place < length command.outputs
 HasNumbers command Sent = command.always ≢ Some []
 HasNumbers command Memory = Unit {0}
 
--- the fault is one of this input, or want of memory
+-- the fault is one of this input, or that memory ran out
 abbrev pub HasSurveyNumbers : ℕ → EditFault → Type 0
 HasSurveyNumbers at (Input place fault) = (place ≡ at) × (fault ≢ NoRoom) × HasRightNumbers fault
 HasSurveyNumbers at Memory = Unit {0}
 HasSurveyNumbers at _ = ⊥
 
--- the fault is one of the only input, a refusal that passes the test, or want of memory
+-- the fault is one of the only input, a refusal that passes the test, or that memory ran out
 abbrev pub HasInputNumbers : (Refusal → Bool) → EditFault → Type 0
 HasInputNumbers refuses (Input place fault) = (place ≡ 0) × (fault ≢ NoRoom) × HasRightNumbers fault
 HasInputNumbers refuses (Refused refusal) = refuses refusal ≡ true

@@ -1,4 +1,4 @@
--- What a command is as seen from outside: of the files that
+-- What a command is, seen from outside: from the files that
 -- are there it makes files and a text, or it is refused.
 use Rattle.std.specs.List.{list_any}
 use Rattle.std.specs.Prelude.{Bool, bytes_eq, drop, if◌then◌else◌, length, List, None, Ok, Option}
@@ -17,15 +17,15 @@ pub record Made : Type 0 where
   pub outputs : List Output
   pub text : List ℕ
 
--- what a command is for the outside: the names of its files, what it makes of the files or why it
+-- a command seen from outside: the names of its files, what it makes of the files or why it
 -- refuses them, the streams that its outputs have to hold, and which refusals it can give
 pub record Command : Type 0 where
   -- the names of the files that it reads, and of those that it may write
   pub inputs : List (List ℕ)
   pub outputs : List (List ℕ)
-  -- those that it reads as streams of frames
+  -- the names of those inputs that it reads as streams of frames
   pub sources : List (List ℕ)
-  -- the text that it makes whatever the files are, if it makes the same of all
+  -- the text that it makes whatever the files are, if it always makes the same
   pub always : Option (List ℕ)
   -- what it makes of these files, or why it is refused
   pub makes : Contents → Result Made EditFault
@@ -36,13 +36,13 @@ pub record Command : Type 0 where
 
 -- ---- names
 
--- the place of the first name that is among the outputs, counted from this place on
+-- the place of the first of these names that is an output's, if the first name has this place
 abbrev pub clash_from : List (List ℕ) → ℕ → List (List ℕ) → Option ℕ
 clash_from outputs place [] = None
 clash_from outputs place (name ∷ names) =
     if list_any (bytes_eq name) outputs then Some place else clash_from outputs (place + 1) names
 
--- the first input whose name is an output's, byte for byte
+-- the place of the first input whose name is an output's, byte for byte
 abbrev pub clash_of : Command → Option ℕ
 clash_of command = clash_from command.outputs 0 command.inputs
 
@@ -70,7 +70,7 @@ abbrev pub partly_written_files : ℕ → Option ℕ → List Output → Content
 partly_written_files k count outputs files =
     written_files (take k outputs ++ begun_output count (drop k outputs)) files
 
--- the files that are told make the command give this
+-- if the contents of the files are known, this is the result of the command for them
 abbrev pub HasAnswer : Command → Files → Result Made EditFault → Type 0
 HasAnswer command files answer = IfTold files (λ f. command.makes f ≡ answer)
 
@@ -83,20 +83,20 @@ AreStreams (output ∷ outputs) (stream ∷ streams) =
     HoldsStream output.bytes stream × AreStreams outputs streams
 AreStreams _ _ = ⊥
 
--- the files of these names are there and well-formed
+-- the files with these names are there and well-formed
 abbrev pub AreSoundFiles : Contents → List (List ℕ) → Type 0
 AreSoundFiles files [] = Unit {0}
 AreSoundFiles files (name ∷ names) =
     ((bytes : List ℕ) × (files name ≡ Some bytes) × IsWellFormed bytes) × AreSoundFiles files names
 
--- the command is done with well-formed sources only, and what it makes of them holds the streams
--- that it has to hold
+-- the command is done only with well-formed sources, and what
+-- it makes of them holds the streams that it has to hold
 pub record MakesStreams (command : Command) (files : Contents) (made : Made) : Type 0 where
   pub sources : AreSoundFiles files command.sources
   pub streams : AreStreams made.outputs (command.streams files)
 
--- what the command makes of the files that are told, by well-formed sources, holds the streams that
--- it has to hold
+-- if the contents of the files are known, the sources of a command that is done
+-- are well-formed, and what it makes holds the streams that it has to hold
 abbrev pub HoldsStreams : Command → Files → Type 0
 HoldsStreams command files =
     IfTold files (λ f. (made : Made) → command.makes f ≡ Ok made → MakesStreams command f made)

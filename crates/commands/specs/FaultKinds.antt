@@ -7,7 +7,7 @@ use Rattle.commands.specs.declared.fault.EditFault.{EditFault}
 use Rattle.commands.specs.declared.fault.EditFault.TheVariants.{Input, Memory as NoMemory}
 use Rattle.sync_survey.specs.declared.survey_fault.SurveyFault.{SurveyFault}
 
--- the fault of an input of a command, counted from 0; want of memory is a fault of its own
+-- the fault of an input of a command, counted from 0; running out of memory is a fault of its own
 abbrev pub survey_edit_fault : ℕ → SurveyFault → EditFault
 survey_edit_fault place fault =
     by_kind (record {
@@ -18,6 +18,6 @@ survey_edit_fault place fault =
       refused = Input place fault;
     }) (kind_of fault)
 
--- that of a command's one input
+-- the fault of a command's one input
 abbrev pub input_edit_fault : SurveyFault → EditFault
 input_edit_fault fault = survey_edit_fault 0 fault

@@ -1,4 +1,4 @@
--- What the contracts of this crate cite, and those of the commands.
+-- What the contracts of this crate and of the commands cite.
 pub mod FaultKinds
 pub mod PassFaults
 pub mod Refusing

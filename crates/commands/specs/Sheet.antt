@@ -17,12 +17,12 @@ sheet_read sheet =
     if nat_lt longest_sheet (length sheet) then Err (Refused (SheetTooLarge (length sheet)))
     else Ok sheet
 
--- or why there is none
+-- the bytes of the sheet, if it is there and isn't too large, or why there are none
 abbrev pub sheet_in : Option (List ℕ) → Result (List ℕ) EditFault
 sheet_in None = Err (Input 1 Absent)
 sheet_in (Some sheet) = sheet_read sheet
 
--- the sheet is there, and what its bytes say is refused
+-- the sheet is there, and its bytes are refused
 pub record RefusesSheet {T : Type 0} (says : List ℕ → Result T EditFault)
     (name : List ℕ) (old new : Seen) (fault : EditFault) : Type 0 where
   pub there : IsFileThere old.files name
@@ -33,7 +33,7 @@ pub record RefusesSheet {T : Type 0} (says : List ℕ → Result T EditFault)
 abbrev pub MissesSheet : List ℕ → Seen → Seen → EditFault → Type 0
 MissesSheet name old new fault = MissesAt 1 name old new fault
 
--- what a fault says of its cause that was met while this was found of a sheet
+-- what a fault says about its cause, if it was met while `says` was found from a sheet
 abbrev pub IsFaultOfSheet : {T : Type 0} → (List ℕ → Result T EditFault)
     → List ℕ → Seen → Seen → EditFault → Type 0
 IsFaultOfSheet says name old new fault = by_why
@@ -46,16 +46,16 @@ IsFaultOfSheet says name old new fault = by_why
     })
     (why_of fault)
 
--- what a fault says that was met while the sheet was read; it may be too large
+-- what a fault says about its cause, if it was met while a sheet was read, which may be too large
 abbrev pub IsSheetFault : List ℕ → Seen → Seen → EditFault → Type 0
 IsSheetFault name old new fault = IsFaultOfSheet sheet_read name old new fault
 
--- the refusals for its length
+-- the refusals of a sheet for its length
 abbrev pub sheet_refuses : Refusal → Bool
 sheet_refuses (SheetTooLarge size) = nat_lt longest_sheet size
 sheet_refuses _ = false
 
--- the fault is one of the sheet, which is read as bytes and not as frames, or want of memory
+-- the fault is one of the sheet, which is read as bytes and not as frames, or that memory ran out
 abbrev pub HasSheetNumbers : EditFault → Type 0
 HasSheetNumbers (Input place fault) =
     (place ≡ 1) × (fault ≢ NoRoom) × HasRightNumbers fault × IsFromOutside fault

@@ -20,7 +20,7 @@ use Rattle.sync_survey.specs.declared.survey_fault.SurveyFault.TheVariants.{Abse
 use Rattle.sync_survey.specs.declared.survey_fault.SurveyFault.TheVariants.{Memory as NoRoom, Read}
 use Rattle.sync_survey.specs.declared.survey_fault.SurveyFault.TheVariants.{Shrunk}
 
--- what it makes of a file with this survey, or why it refuses it
+-- what a command makes of a file with this survey, or why it refuses the file
 abbrev pub Making : Type 0
 Making = List ℕ → SurveyFields → Result (List ℕ) EditFault
 
@@ -30,30 +30,30 @@ abbrev pub surveyed_result : Making → List ℕ → Result SurveyFields SurveyF
 surveyed_result make file (Err fault) = Err (Input 0 fault)
 surveyed_result make file (Ok s) = make file s
 
--- what a file becomes, or why it is refused: it is at fault, or else the command refuses it
+-- what a file becomes, or why it is refused: it is at fault, or the command refuses it
 unfoldable pub made_file : Making → List ℕ → Result (List ℕ) EditFault
 made_file make file = surveyed_result make file (survey_of file most_frames)
 
--- what the file becomes, if it is there
+-- what the input becomes, if it is there
 abbrev pub input_result : Making → Option (List ℕ) → Result (List ℕ) EditFault
 input_result make None = Err (Input 0 Absent)
 input_result make (Some file) = made_file make file
 
 -- ---- the command
 
--- What a command reads, what it makes of the files that are there if no name is another's, the
--- stream that this has to hold, and which refusals it can give.
+-- What a command reads, what it makes of the files that are there if no input has the
+-- output's name, the stream that this has to hold, and which refusals it can give.
 pub record Task : Type 0 where
-  -- the input that is read again while the output is written, which is the first, and all inputs
+  -- the first input, which is read again while the output is written, and all inputs
   pub source : List ℕ
   pub inputs : List (List ℕ)
-  -- those inputs that it reads as streams of frames
+  -- those of the inputs that it reads as streams of frames
   pub sources : List (List ℕ)
   pub makes : Contents → Result (List ℕ) EditFault
   pub stream : Contents → List StreamFrame
   pub refuses : Refusal → Bool
 
--- that of a command that reads one file
+-- the task of a command that reads one file
 abbrev pub file_task : Making → (List ℕ → List StreamFrame) → (Refusal → Bool) → List ℕ → Task
 file_task make stream refuses input = record {
   source = input;
@@ -64,7 +64,7 @@ file_task make stream refuses input = record {
   refuses = refuses;
 }
 
--- the first input that has the output's name
+-- the place of the first input that has the output's name
 abbrev pub clash_in : Task → List ℕ → Option ℕ
 clash_in task output = clash_from (output ∷ []) 0 task.inputs
 
@@ -72,9 +72,9 @@ clash_in task output = clash_from (output ∷ []) 0 task.inputs
 abbrev pub first_input : List (List ℕ) → List ℕ
 first_input inputs = unwrap_or (slice_get inputs 0) []
 
--- What has to hold of it: the source is the first input; if the source isn't too long, every fault
--- is one that is found after memory was taken; and what is made of a source that consists of bytes
--- holds the stream that it has to hold, and all sources are well-formed.
+-- What has to be true of a task: the source is the first input; if the source isn't too long,
+-- every fault is one that is found after memory was taken; and what is made of a source that
+-- consists of bytes holds the stream that it has to hold, and all sources are well-formed.
 pub record IsProperTask (task : Task) : Type 0 where
   pub some : 1 ≤ length task.inputs
   pub first : first_input task.inputs ≡ task.source
@@ -83,22 +83,22 @@ pub record IsProperTask (task : Task) : Type 0 where
   pub streams : (f : Contents) (bytes new : List ℕ) → f task.source ≡ Some bytes → AreBytes bytes
       → task.makes f ≡ Ok new → AreSoundFiles f task.sources × HoldsStream new (task.stream f)
 
--- the answer, unless an input has the output's name
+-- the result, unless an input has the output's name
 abbrev pub clash_or : Option ℕ → Result (List ℕ) EditFault → Result (List ℕ) EditFault
 clash_or (Some place) answer = Err (EqualNames place)
 clash_or None answer = answer
 
--- what is written, or why nothing is: an input has the output's name, or else the files are refused
+-- what is written, or why nothing is: an input has the output's name, or the files are refused
 unfoldable pub task_result : Task → List ℕ → Contents → Result (List ℕ) EditFault
 task_result task output files = clash_or (clash_in task output) (task.makes files)
 
--- what is made where one file holds these bytes
+-- what a command makes whose one output holds these bytes
 abbrev pub command_result : List ℕ → Result (List ℕ) EditFault → Result Made EditFault
 command_result output (Ok bytes) =
     Ok (record { outputs = record { name = output; bytes = bytes } ∷ []; text = [] })
 command_result output (Err fault) = Err fault
 
--- one file is made, and no text
+-- the command of a task: one file is made, and no text
 abbrev pub one_command : Task → List ℕ → Command
 one_command task output = record {
   inputs = task.inputs;
@@ -112,12 +112,12 @@ one_command task output = record {
 
 -- ---- its steps
 
--- the files once the name holds these bytes; where they aren't told, the name was touched
+-- the files once the name holds these bytes; if the contents aren't known, the name was touched
 unfoldable pub files_holding : Files → List ℕ → List ℕ → Files
 files_holding (Told f) name bytes = Told (with_file f name bytes)
 files_holding (Untold touched) name bytes = Untold (with_touch touched name true)
 
--- the file is there, and its survey is refused if so many frames are allowed
+-- the file is there, and its survey is refused if `allowed` frames are allowed
 pub record RefusesFile (allowed : ℕ) (name : List ℕ) (old new : Seen)
     (fault : SurveyFault) : Type 0 where
   pub there : IsFileThere old.files name
@@ -149,7 +149,7 @@ pub record ReadsNothing (place : ℕ) (name : List ℕ) (old new : Seen)
   pub rose : HappenedTo name old.counts.read_faults new.counts.read_faults
   pub files : new.files ≡ old.files
 
--- an input became shorter; only a folder that tells nothing can have such a file
+-- an input became shorter, which is possible only in a folder whose contents aren't known
 pub record LosesInput (place : ℕ) (name : List ℕ) (old new : Seen)
     (fault : EditFault) : Type 0 where
   pub first : ℕ
@@ -166,8 +166,8 @@ pub record NeedsMemory (name : List ℕ) (old new : Seen) : Type 0 where
   pub few : (bytes : List ℕ) → Holds old.files name bytes → length bytes ≤ longest_file
   pub stays : new ≡ old
 
--- what a fault of the survey of an input says of it; the
--- input is counted from 0, and so many frames are allowed
+-- what a fault of the survey of an input says about the input,
+-- which is counted from 0 and may have `allowed` frames
 abbrev pub IsFileFault : ℕ → ℕ → List ℕ → Seen → Seen → EditFault → Type 0
 IsFileFault place allowed name old new fault = by_why
     (record no_cause {
@@ -179,7 +179,7 @@ IsFileFault place allowed name old new fault = by_why
     })
     (why_of fault)
 
--- what a fault that was met before the output is created says of the input
+-- what a fault met before the output is created says about the input
 abbrev pub IsInputFault : Making → List ℕ → Seen → Seen → EditFault → Type 0
 IsInputFault make name old new fault = by_why
     (record no_cause {
@@ -193,16 +193,16 @@ IsInputFault make name old new fault = by_why
 
 -- ---- before the output is created
 
--- the files are refused with this fault
+-- if the contents of the files are known, they are refused with this fault
 abbrev pub TaskRefuses : Task → Files → EditFault → Type 0
 TaskRefuses task files fault = IfTold files (λ f. task.makes f ≡ Err fault)
 
--- the files are refused with this fault, and all is as it was
+-- the files are refused with this fault, and nothing changed
 pub record RefusesFiles (task : Task) (old new : Seen) (fault : EditFault) : Type 0 where
   pub defined : TaskRefuses task old.files fault
   pub stays : new ≡ old
 
--- the input that the fault is of isn't there
+-- the input that the fault is about isn't there
 pub record MissesFile (task : Task) (old new : Seen) (fault : EditFault) : Type 0 where
   pub defined : TaskRefuses task old.files fault
   pub rose : HappenedTo (input_of task.inputs fault) old.counts.misses new.counts.misses
@@ -214,12 +214,12 @@ pub record ReadsNoFile (task : Task) (old new : Seen) (fault : EditFault) : Type
   pub rose : HappenedTo (input_of task.inputs fault) old.counts.read_faults new.counts.read_faults
   pub files : new.files ≡ old.files
 
--- the input that the fault is of became shorter
+-- the input that the fault is about became shorter
 pub record LosesFile (task : Task) (old new : Seen) (fault : EditFault) : Type 0 where
   pub ended : InputEndsEarly task.inputs old new fault
   pub files : new.files ≡ old.files
 
--- what a fault says that was met before the output was created
+-- what a fault met before the output is created says
 abbrev pub IsEarlyFault : Task → Seen → Seen → EditFault → Type 0
 IsEarlyFault task old new fault = by_why
     (record no_cause {
@@ -231,7 +231,7 @@ IsEarlyFault task old new fault = by_why
     })
     (why_of fault)
 
--- the fault is one of the inputs, a refusal that the command can give, or want of memory
+-- the fault is one of the inputs, a refusal that the command can give, or that memory ran out
 abbrev pub HasTaskNumbers : Task → EditFault → Type 0
 HasTaskNumbers task (Input place fault) =
     (place < length task.inputs) × (fault ≢ NoRoom) × HasRightNumbers fault
@@ -242,7 +242,7 @@ HasTaskNumbers task _ = ⊥
 
 -- ---- the second pass
 
--- The source is there, and if it is told, the command makes this of it.
+-- The source is there, and if the contents of the files are known, the command makes this of it.
 pub record IsMaking (task : Task) (made : List ℕ → List ℕ) (files : Files) : Type 0 where
   pub there : IsFileThere files task.source
   pub makes : IfTold files (λ f.
@@ -260,29 +260,31 @@ HoldsLess name bytes old new =
     (new ≡ old)
     ⊎ ((count : ℕ) × (count < length bytes) × (new ≡ files_holding old name (take count bytes)))
 
--- the output wasn't created, or holds a prefix of what it is to hold, if the input is told
+-- if the input's content is known, the output wasn't
+-- created, or holds a prefix of what it is to hold
 abbrev pub IsOutputBegun : (List ℕ → List ℕ) → List ℕ → List ℕ → Files → Files → Type 0
 IsOutputBegun made input output old new =
     (bytes : List ℕ) → Holds old input bytes → HoldsPrefix output (made bytes) old new
 
--- the same, and if it was created, it lacks bytes
+-- if the input's content is known, the output wasn't created, or holds a prefix that lacks bytes
 abbrev pub IsLeftShort : (List ℕ → List ℕ) → List ℕ → List ℕ → Files → Files → Type 0
 IsLeftShort made input output old new =
     (bytes : List ℕ) → Holds old input bytes → HoldsLess output (made bytes) old new
 
--- the input that the fault is of could not be read again; the output is made by the first input
+-- the input that the fault is about could not be read
+-- again; the output is made from the first input
 pub record StopsReading (made : List ℕ → List ℕ) (inputs : List (List ℕ)) (output : List ℕ)
     (old new : Seen) (fault : EditFault) : Type 0 where
   pub rose : HappenedTo (input_of inputs fault) old.counts.read_faults new.counts.read_faults
   pub files : IsOutputBegun made (first_input inputs) output old.files new.files
 
--- a call failed that writes the output, which wasn't created or lacks bytes
+-- a call that writes the output failed; the output wasn't created or lacks bytes
 pub record StopsWriting (made : List ℕ → List ℕ) (input output : List ℕ)
     (old new : Seen) : Type 0 where
   pub rose : HappenedTo output old.counts.write_faults new.counts.write_faults
   pub files : IsLeftShort made input output old.files new.files
 
--- what a fault leaves that was met while the output was written
+-- what a fault met while the output is written leaves
 abbrev pub IsPassFault : (List ℕ → List ℕ) → List (List ℕ) → List ℕ → Seen → Seen → EditFault
     → Type 0
 IsPassFault made inputs output old new fault = by_why

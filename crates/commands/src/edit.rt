@@ -1,4 +1,4 @@
-//! The one body of all commands that make one file.
+//! The common body of all commands that make one file.
 ghost use Rattle.std.specs.Prelude.{◌≡◌, IfOk, IfErr, OnOk};
 ghost use Rattle.outside.specs.Counts.{OnlyReads};
 ghost use Rattle.commands.specs.Runs.{IsRunOf};
@@ -14,13 +14,13 @@ use std::alloc::Global;
 /// A command that makes one file, without the output's name: what it reads and decides before the output is
 /// created.
 pub trait Edit {
-    /// What is known and ready before the output is created, and how that writes it.
+    /// What is known and ready before the output is created, and how the output is written from it.
     type Work: OutputPass;
 
     /// What it reads, and what it makes of the files that are there.
     ghost task: { Self → Task };
 
-    /// What is asked of its arguments.
+    /// What its arguments have to satisfy.
     ghost IsLegal: { Self → Type 0 };
 
     /// The names of what it reads.
@@ -30,8 +30,8 @@ pub trait Edit {
     /// Reads what is needed, decides, and takes all memory.
     ///
     /// # Errors
-    /// `Input` with the number of an input, counted from 0, and its fault; `Refused`; and `Memory`. The
-    /// files stay.
+    /// `Input` with the number of an input, counted from 0, and its fault; `Refused`; and `Memory`.
+    /// The files stay as they are.
     fn prepare<D: Folder>(&self, alloc: Global, folder: &mut D) -> Result<Self::Work, EditFault>
         requires { IsLegal self.now }
         ensures ready { IfOk result (λ work. Self.Work.IsReady work (task self.now).source
@@ -53,11 +53,11 @@ pub trait Edit {
 /// In this order:
 /// - `EqualNames` with the number, counted from 0, of the first input that has the output's name, byte for
 ///   byte;
-/// - what `prepare` refuses. Nothing was created then;
+/// - the errors of `prepare`. Nothing was created then;
 /// - `Input(0, ..)` with `Read` or `Shrunk`, and `Write(0)`, while the output is created and written. It is
 ///   then as it was or holds a prefix of its bytes, and with `Write(0)` not all of them.
 ///
-/// `Memory` comes before the output is created, and not from then on.
+/// `Memory` comes only before the output is created.
 pub fn make_one<E: Edit, D: Folder>(
     alloc: Global,
     folder: &mut D,

@@ -19,34 +19,35 @@ pub enum Refusal {
     GainRange(u64, u8, u8, u8),
     /// One channel is to change, and the file has only one.
     Mono,
-    /// One channel is to change, and the two of the frame at this offset in bytes are coded jointly.
+    /// One channel is to change, and the frame at this offset in bytes has its two channels coded
+    /// jointly.
     Joint(u64),
-    /// The tag of the file, or the one that is to be written, has so many bytes, more than 1,048,576.
+    /// The tag of the file, or the tag to be written, has this many bytes, more than 1,048,576.
     TagTooLarge(u64),
     /// The tag of the file is at fault at this offset in bytes.
     BadTag(u64),
     /// The tag of the file has no undo item.
     NoUndo,
-    /// The undo item at this offset in bytes has no value of its form.
+    /// The value of the undo item at this offset in bytes isn't of the form of an undo item.
     BadUndo(u64),
-    /// The undo item would have to hold this number of steps, which isn't from -999 to 999.
+    /// The undo item would have to hold this number of steps, which is outside -999 to 999.
     UndoRange(i32),
-    /// The file that is to be written would have so many bytes, more than 1,073,741,824.
+    /// The file to be written would have this many bytes, more than 1,073,741,824.
     OutputTooLong(u64),
-    /// The frames from the first number on and before the second aren't in a file with the third number of
-    /// frames, or are none.
+    /// The frames from the first number up to, but not including, the second aren't in a file with
+    /// the third number of frames, or are none.
     Range(u64, u64, u64),
-    /// The samples from the first number on and before the second aren't among those that are played, of which the
-    /// third number is how many, or are none.
+    /// The samples from the first number up to, but not including, the second aren't among those
+    /// that are played, whose number is the third, or are none.
     Span(u64, u64, u64),
     /// No frame of the class has this bit rate, in kbit/s.
     NoRate(u16),
-    /// The main data up to this frame, counted from 0, have no room in slots of the bit rates that are
-    /// allowed, even after a lead-in.
+    /// The main data up to this frame, counted from 0, don't fit in slots of the allowed bit rates,
+    /// even after a lead-in.
     Unfit(u32),
-    /// The frames of this input, counted from 0, are of another class than those of the first.
+    /// The frames of this input, counted from 0, are of another class than the frames of the first.
     Differ(u32),
-    /// The sheet has so many bytes, more than 65,536.
+    /// The sheet has this many bytes, more than 65,536.
     SheetTooLarge(u64),
     /// The cue sheet is at fault. Never `Memory`.
     Sheet(CueFault),
@@ -59,7 +60,7 @@ pub enum Refusal {
 /// Why a command wasn't done.
 #[derive(Clone, Copy, Debug, PartialEq, Eq)]
 pub enum EditFault {
-    /// An output's name is that of this input, counted from 0.
+    /// An output has the name of this input, counted from 0.
     EqualNames(u32),
     /// This input, counted from 0, isn't there, can't be read, or is at fault. Never `Memory`.
     Input(u32, SurveyFault),
@@ -69,7 +70,7 @@ pub enum EditFault {
     Write(u32),
     /// Standard output could not be written.
     Sent,
-    /// There was no memory left.
+    /// Memory ran out.
     Memory,
 }
 
@@ -97,7 +98,7 @@ impl<T: Drop> From<AllocFailed<T>> for EditFault {
     }
 }
 
-/// The fault of the one input of a command; want of memory is a fault of its own.
+/// The fault of the one input of a command; running out of memory is a fault of its own.
 impl From<SurveyFault> for EditFault {
     ghost from_gives = { λ fault e. e ≡ input_edit_fault fault };
 
@@ -107,7 +108,8 @@ impl From<SurveyFault> for EditFault {
 }
 
 impl EditFault {
-    /// The fault of the survey of this input, counted from 0; want of memory is a fault of its own.
+    /// The fault of the survey of this input, counted from 0; running out of memory is a fault of
+    /// its own.
     pub fn of_survey(input: u32, fault: SurveyFault) -> EditFault
         ensures { result ≡ survey_edit_fault input fault }
     {

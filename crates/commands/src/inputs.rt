@@ -3,8 +3,8 @@ ghost use Rattle.std.specs.Prelude.{◌≡◌, [], ◌∷◌};
 ghost use Rattle.commands.specs.Command.{clash_from};
 ghost use Rattle.commands.specs.Inputs.{names_of};
 
-/// The names of the inputs: that of the source, which is read again while the output is written, and that of a sheet, if
-/// the command reads one.
+/// The names of the inputs: the source, which is read again while the output is written, and a
+/// sheet, if the command reads one.
 #[derive(Clone, Copy)]
 pub struct Inputs<'a> {
     pub source: &'a str,
@@ -22,7 +22,7 @@ impl<'a> Inputs<'a> {
         }
     }
 
-    /// The number of the first of them that has the output's name, counted from 0.
+    /// The number of the first input that has the output's name, counted from 0.
     pub fn clash(&self, output: &str) -> Option<u32>
         ensures { result ≡ clash_from (output.now ∷ []) 0 (names_of self.now) }
     {

@@ -1,5 +1,5 @@
-//! What all commands share: what a command is, why it is refused and what it leaves, the survey of an
-//! input, the bytes of a sheet, and the one body of those that make one file.
+//! What all commands share: what a command is, why it is refused and what it leaves, the survey of
+//! an input, the bytes of a sheet, and the common body of the commands that make one file.
 #![tactic(auto)]
 
 mod edit;

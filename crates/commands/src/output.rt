@@ -12,18 +12,18 @@ use outside::{Folder, PassFault};
 
 /// What is known and ready before the output is created, with all memory that writing it takes.
 pub trait OutputPass: Drop {
-    /// The output, by the bytes of the source.
+    /// The output, made from the bytes of the source.
     ghost file_of: { Self → List ℕ → List ℕ };
 
-    /// The pass over the source of this name can begin with these files.
+    /// The pass over the source with this name can begin in these files.
     ghost IsReady: { Self → List ℕ → Files → Type 0 };
 
     /// Appends the whole output to the file that was created for it. It takes no memory.
     ///
     /// # Errors
-    /// `Read` where a read failed; `Shrunk` where one gave no byte before the length with which the source
-    /// was found; `Write` where a write failed. Then a prefix of the output was appended, and with `Write`
-    /// not all of it.
+    /// `Read` where a read failed; `Shrunk` where a read gave no byte before the length that the
+    /// source had when it was found; `Write` where a write failed. Then a prefix of the output was
+    /// appended, and with `Write` not all of it.
     fn append<D: Folder>(
         &mut self,
         folder: &mut D,

@@ -33,14 +33,14 @@ fn sheet_length<D: Folder>(folder: &mut D, sheet: &str) -> Result<u64, EditFault
     }
 }
 
-/// The bytes of a sheet, the second input of a command. The files stay.
+/// The bytes of a sheet, the second input of a command. The files stay as they are.
 ///
 /// # Errors
-/// - `Input(1, ..)` with `Absent` where it isn't there, with `Read` where a call failed, and with `Shrunk`,
-///   the length with which the sheet was found and the one at which it ended when it was read, only where
-///   the folder doesn't tell its files;
+/// - `Input(1, ..)` with `Absent` where it isn't there, with `Read` where a call failed, and with
+///   `Shrunk`, the length of the sheet when it was found and the length at which it ended when it
+///   was read, only in a folder whose contents aren't known;
 /// - `SheetTooLarge` with its length where it has more than 65,536 bytes;
-/// - `Memory` where there is no memory.
+/// - `Memory` if memory runs out.
 pub fn sheet_bytes<D: Folder>(
     alloc: Global,
     folder: &mut D,

@@ -6,15 +6,15 @@ use outside::Folder;
 use std::alloc::Global;
 use sync_survey::{Survey, survey};
 
-/// What is known of an input of a command that may have `allowed` frames. `place` is its number among the
-/// inputs, counted from 0. The files stay.
+/// The survey of an input of a command, which may have `allowed` frames. `place` is its number
+/// among the inputs, counted from 0. The files stay as they are.
 ///
-/// This is `survey` with that number in the fault, and no more: seven callers would write the same lines, and
-/// what they know of the answer is proved here once.
+/// This is `survey` with that number in the fault, and no more: its callers would otherwise repeat
+/// the same lines, and what they know about the result is proved here once.
 ///
 /// # Errors
-/// `Input` with that number and the fault of the survey, which is `TooManyFrames` if it has more frames;
-/// `Memory`.
+/// `Input` with that number and the fault of the survey, which is `TooManyFrames` if the input has
+/// more frames; `Memory`.
 pub fn survey_at<D: Folder>(
     alloc: Global,
     folder: &mut D,

@@ -1,4 +1,4 @@
--- A clash of names, what was met before the output is created, and the second pass.
+-- A clash of names, a fault met before the output is created, and the second pass.
 use Rattle.std.proofs.Common.{ap₂, IfErr, List, OnOk, rules, subst, sym, ℕ, [], ◌∷◌, ◌≡◌, ◌≢◌}
 use Rattle.commands.proofs.MakeLemmas.{clash_is, clash_left, early_left, numbers_early, one_done}
 use Rattle.commands.proofs.MakeLemmas.{one_left, one_streams, proper_holds, refused_run}

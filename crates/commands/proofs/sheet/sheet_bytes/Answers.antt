@@ -1,4 +1,4 @@
--- All bytes of the sheet come, or the cause is that of the read.
+-- All bytes of the sheet are read, or the cause is that of the read.
 use Rattle.std.proofs.Common.{rules, subst, sym}
 use Rattle.commands.proofs.SheetLemmas.{read-fault, read-number}
 use Rattle.commands.specs.Sheet.{HasSheetNumbers, IsSheetFault}
