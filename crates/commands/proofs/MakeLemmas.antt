@@ -86,7 +86,7 @@ gives_clash task output place (Untold touched) clash = tt
 gives_clash task output place (Told f) clash =
     ap (command_result output) (made_result-clash task output place f clash)
 
--- a clash changes nothing, and is refused with its number
+-- a clash is a fault of the command, with its number, that changes nothing
 pub clash_left : (task : Task) (output : List ℕ) (place : ℕ) (now : Seen) → clash_in task output
     ≡ Some place → IsCommandFault (one_command task output) now now (EqualNames place)
 clash_left task output place now clash =
@@ -136,7 +136,7 @@ module _ (task : Task) (output : List ℕ) (free : clash_in task output ≡ None
       stays_touched stays = subst (λ files. OnlyTouches (output ∷ []) old.files files) (sym stays)
           (touches_none (output ∷ []) old.files)
 
-      -- a fault met before the output is created leaves what the command may leave
+      -- a fault met before the output is created is a fault of the command
       pub early_left : IsEarlyFault task old new fault
           → IsCommandFault (one_command task output) old new fault
       early_left h = each_why (why_of fault) h (record {

@@ -132,7 +132,7 @@ module _ (text : Contents → List ℕ) (command : Command) where
       at (Ok m) is made e = by_text m made is cc
       at (Err fault) is made e = absurd cc
 
-  -- the text of a command that makes something of files whose contents are known
+  -- the text of the command is made from files whose contents are known
   pub telling-text : (files : Files) (all : List ℕ) → IsCommandText told files all
       → (f : Contents) × (files ≡ Told f) × (all ≡ text f)
   telling-text files all (inl always) = absurd cc

@@ -33,7 +33,7 @@ pub record RefusesSheet {T : Type 0} (says : List ℕ → Result T EditFault)
 abbrev pub MissesSheet : List ℕ → Seen → Seen → EditFault → Type 0
 MissesSheet name old new fault = MissesAt 1 name old new fault
 
--- what a fault says about its cause, if it was met while `says` was found from a sheet
+-- what a fault says about its cause, if it was met while `says` was found for a sheet
 abbrev pub IsFaultOfSheet : {T : Type 0} → (List ℕ → Result T EditFault)
     → List ℕ → Seen → Seen → EditFault → Type 0
 IsFaultOfSheet says name old new fault = by_why

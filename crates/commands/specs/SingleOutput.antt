@@ -92,7 +92,7 @@ clash_or None answer = answer
 unfoldable pub task_result : Task → List ℕ → Contents → Result (List ℕ) EditFault
 task_result task output files = clash_or (clash_in task output) (task.makes files)
 
--- what a command makes whose one output holds these bytes
+-- what a command makes that has one output with these bytes, or why it is refused
 abbrev pub command_result : List ℕ → Result (List ℕ) EditFault → Result Made EditFault
 command_result output (Ok bytes) =
     Ok (record { outputs = record { name = output; bytes = bytes } ∷ []; text = [] })

@@ -21,8 +21,8 @@ pub trait OutputPass: Drop {
     /// Appends the whole output to the file that was created for it. It takes no memory.
     ///
     /// # Errors
-    /// `Read` where a read failed; `Shrunk` where a read gave no byte before the length that the
-    /// source had when it was found; `Write` where a write failed. Then a prefix of the output was
+    /// `Read` if a read failed; `Shrunk` if a read gave no byte before the length that the
+    /// source had when it was found; `Write` if a write failed. Then a prefix of the output was
     /// appended, and with `Write` not all of it.
     fn append<D: Folder>(
         &mut self,

@@ -36,10 +36,10 @@ fn sheet_length<D: Folder>(folder: &mut D, sheet: &str) -> Result<u64, EditFault
 /// The bytes of a sheet, the second input of a command. The files stay as they are.
 ///
 /// # Errors
-/// - `Input(1, ..)` with `Absent` where it isn't there, with `Read` where a call failed, and with
+/// - `Input(1, ..)` with `Absent` if it isn't there, with `Read` if a call failed, and with
 ///   `Shrunk`, the length of the sheet when it was found and the length at which it ended when it
 ///   was read, only in a folder whose contents aren't known;
-/// - `SheetTooLarge` with its length where it has more than 65,536 bytes;
+/// - `SheetTooLarge` with its length if it has more than 65,536 bytes;
 /// - `Memory` if memory runs out.
 pub fn sheet_bytes<D: Folder>(
     alloc: Global,

@@ -164,7 +164,7 @@ plans-fit window choices parts placed plan = subst (λ needs. FitsFromReach wind
 abbrev pub AllSlots : PlanItem → Type 0
 AllSlots item = (slot : SlotFields) → Contains item.choices slot → IsSlot slot
 
--- each of these items is open to slots alone
+-- each of these items is open only to slots
 abbrev pub AreOpen : List PlanItem → Type 0
 AreOpen [] = Unit {0}
 AreOpen (item ∷ items) = AllSlots item × AreOpen items

@@ -54,7 +54,7 @@ module _ (laid : LaidPart) (file : List ℕ) (s : SurveyFields) (is : CanBeRelai
   pub laid-slots : map slot_in (frames_laid laid file s) ≡ map (λ (p : Placed). p.slot) laid.placed
   laid-slots = fitting-slots s.class (source_part laid file s) laid.placed part_is fitting
 
-  -- and the fields of their Info frame have its sizes
+  -- the fields of their Info frame have the right sizes
   pub sizes : length laid.extension ≡ 36 → HasInfoSizes (info_laid laid file s)
   sizes extension = record {
     table = length-map (range_with_len 0 100) (table_entry s.class (frames_laid laid file s))

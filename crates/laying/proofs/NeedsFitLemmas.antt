@@ -190,7 +190,7 @@ feasible-fit window frames fit = (
   layout-fit window 0 window window frames (omega arith) (omega arith) fit,
 )
 
--- what a law says of a part
+-- the needs of a part are of the class, and have a layout after a whole window
 abbrev pub Fits : SurveyFields → ℕ → ℕ → Type 0
 Fits s from to =
     AreNeedsOfClass s.class (needs_between s from to)

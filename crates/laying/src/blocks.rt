@@ -23,7 +23,7 @@ impl<'a> Relay<'a> {
     /// Copies a block if it goes before the frames or, with `in_front` false, if it doesn't.
     ///
     /// # Errors
-    /// `Read` or `Shrunk` where the input can't be read, `Write` where a write failed.
+    /// `Read` or `Shrunk` if the input can't be read, `Write` if a write failed.
     fn copy_chosen<D: Folder>(
         &self,
         folder: &mut D,
@@ -51,7 +51,7 @@ impl<'a> Relay<'a> {
     /// order of the input.
     ///
     /// # Errors
-    /// `Read` or `Shrunk` where the input can't be read, `Write` where a write failed.
+    /// `Read` or `Shrunk` if the input can't be read, `Write` if a write failed.
     pub(crate) fn copy_blocks<D: Folder>(
         &self,
         folder: &mut D,

@@ -19,7 +19,7 @@ impl<'a> Relay<'a> {
     /// Appends to the output what waits for it, and then these bytes.
     ///
     /// # Errors
-    /// `Write` where a write failed.
+    /// `Write` if a write failed.
     fn send<D: Folder>(
         &self,
         folder: &mut D,
@@ -92,9 +92,9 @@ impl<'a> Relay<'a> {
     /// memory.
     ///
     /// # Errors
-    /// `Read` where a read failed; `Shrunk`, with the length of the input when it was found and the
-    /// length at which it ended when it was read, where a read gave no byte before the former;
-    /// `Write` where a write failed. Then a prefix of the bytes was appended, and with `Write` not
+    /// `Read` if a read failed; `Shrunk`, with the length of the input when it was found and the
+    /// length at which it ended when it was read, if a read gave no byte before the former;
+    /// `Write` if a write failed. Then a prefix of the bytes was appended, and with `Write` not
     /// all of them.
     pub fn write<D: Folder>(
         &self,

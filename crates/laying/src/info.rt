@@ -129,9 +129,9 @@ fn fields_in(frame: &[u8], text_at: u32) -> Info
 ///
 /// # Errors
 /// None without a head, otherwise:
-/// - `Read` where a read failed;
+/// - `Read` if a read failed;
 /// - `Shrunk`, with the length of the input when it was found and the length at which it ended when
-///   it was read, where a read gave no byte before the former. It occurs only in a folder whose
+///   it was read, if a read gave no byte before the former. It occurs only in a folder whose
 ///   contents aren't known.
 pub fn head_fields<D: Folder>(
     folder: &mut D,
@@ -160,9 +160,9 @@ pub fn head_fields<D: Folder>(
 ///
 /// # Errors
 /// None without a head, otherwise:
-/// - `Read` where a read failed;
+/// - `Read` if a read failed;
 /// - `Shrunk`, with the length of the input when it was found and the length at which it ended when
-///   it was read, where a read gave no byte before the former. It occurs only in a folder whose
+///   it was read, if a read gave no byte before the former. It occurs only in a folder whose
 ///   contents aren't known.
 pub fn kept_fields<D: Folder>(
     folder: &mut D,

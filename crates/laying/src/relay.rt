@@ -125,7 +125,7 @@ impl<'a> Relay<'a> {
     /// Passes a frame to the writer.
     ///
     /// # Errors
-    /// `Write` where a write failed.
+    /// `Write` if a write failed.
     #[inline(always)]
     fn write_frame<D: Folder>(
         &self,
@@ -149,7 +149,7 @@ impl<'a> Relay<'a> {
     /// header of the frame after it.
     ///
     /// # Errors
-    /// `Write` where a write failed.
+    /// `Write` if a write failed.
     fn lead_in<D: Folder>(
         &self,
         folder: &mut D,
@@ -176,7 +176,7 @@ impl<'a> Relay<'a> {
     /// Reads `count` bytes of the input at offset `at` into the feed.
     ///
     /// # Errors
-    /// `Read` or `Shrunk` where the input can't be read.
+    /// `Read` or `Shrunk` if the input can't be read.
     #[inline(always)]
     fn fill<D: Folder>(
         &self,
@@ -198,7 +198,7 @@ impl<'a> Relay<'a> {
     /// Reads the area of frame `i` into the feed.
     ///
     /// # Errors
-    /// `Read` or `Shrunk` where the input can't be read.
+    /// `Read` or `Shrunk` if the input can't be read.
     #[inline(always)]
     fn fill_area<D: Folder>(
         &self,
@@ -220,7 +220,7 @@ impl<'a> Relay<'a> {
     /// Reads the area of the head, if there is one, into a window over no areas.
     ///
     /// # Errors
-    /// `Read` or `Shrunk` where the input can't be read.
+    /// `Read` or `Shrunk` if the input can't be read.
     fn read_head<D: Folder>(
         &self,
         folder: &mut D,
@@ -247,7 +247,7 @@ impl<'a> Relay<'a> {
     /// is the first frame of all.
     ///
     /// # Errors
-    /// `Read` or `Shrunk` where the input can't be read.
+    /// `Read` or `Shrunk` if the input can't be read.
     fn begin_at<D: Folder>(
         &self,
         folder: &mut D,
@@ -272,7 +272,7 @@ impl<'a> Relay<'a> {
     /// of all frames before frame `i`, or with all of them if there are fewer.
     ///
     /// # Errors
-    /// `Read` or `Shrunk` where the input can't be read.
+    /// `Read` or `Shrunk` if the input can't be read.
     fn read_before<D: Folder>(
         &self,
         folder: &mut D,
@@ -302,7 +302,7 @@ impl<'a> Relay<'a> {
     /// Reads into the window the area that isn't in it yet.
     ///
     /// # Errors
-    /// `Read` or `Shrunk` where the input can't be read.
+    /// `Read` or `Shrunk` if the input can't be read.
     #[inline(never)]
     fn push_last<D: Folder>(
         &self,
@@ -329,7 +329,7 @@ impl<'a> Relay<'a> {
     /// `own`, it is read into the window first, and the number is 0.
     ///
     /// # Errors
-    /// `Read` or `Shrunk` where the input can't be read.
+    /// `Read` or `Shrunk` if the input can't be read.
     #[inline(always)]
     fn first_byte<D: Folder>(
         &self,
@@ -363,7 +363,7 @@ impl<'a> Relay<'a> {
     /// that isn't in the window.
     ///
     /// # Errors
-    /// `Read` or `Shrunk` where the input can't be read.
+    /// `Read` or `Shrunk` if the input can't be read.
     #[inline(always)]
     fn fill_frame<D: Folder>(
         &self,
@@ -395,7 +395,7 @@ impl<'a> Relay<'a> {
     /// Reads the next frame and passes it to the writer.
     ///
     /// # Errors
-    /// `Read` or `Shrunk` where the input can't be read, `Write` where a write failed.
+    /// `Read` or `Shrunk` if the input can't be read, `Write` if a write failed.
     fn frame<D: Folder>(
         &self,
         folder: &mut D,
@@ -453,7 +453,7 @@ impl<'a> Relay<'a> {
     /// that frame.
     ///
     /// # Errors
-    /// `Read` or `Shrunk` where the input can't be read, `Write` where a write failed.
+    /// `Read` or `Shrunk` if the input can't be read, `Write` if a write failed.
     fn place<D: Folder>(
         &self,
         folder: &mut D,
@@ -493,7 +493,7 @@ impl<'a> Relay<'a> {
     /// the writer as planned, with the lead-ins of the plan.
     ///
     /// # Errors
-    /// `Read` or `Shrunk` where the input can't be read, `Write` where a write failed.
+    /// `Read` or `Shrunk` if the input can't be read, `Write` if a write failed.
     fn frames<D: Folder>(
         &self,
         folder: &mut D,
@@ -570,7 +570,7 @@ impl<'a> Relay<'a> {
     /// memory.
     ///
     /// # Errors
-    /// `Write` where a write failed. Then a prefix of what waits was appended.
+    /// `Write` if a write failed. Then a prefix of what waits was appended.
     pub fn finish<D: Folder>(
         &self,
         folder: &mut D,
@@ -592,9 +592,9 @@ impl<'a> Relay<'a> {
     /// takes no memory.
     ///
     /// # Errors
-    /// `Read` where a read failed; `Shrunk`, with the length of the input when it was found and the
-    /// length at which it ended when it was read, where a read gave no byte before the former;
-    /// `Write` where a write failed. Then a prefix of what waited and of these bytes was appended,
+    /// `Read` if a read failed; `Shrunk`, with the length of the input when it was found and the
+    /// length at which it ended when it was read, if a read gave no byte before the former;
+    /// `Write` if a write failed. Then a prefix of what waited and of these bytes was appended,
     /// and with `Write` not all of them.
     pub(crate) fn lay<D: Folder>(
         &self,
@@ -712,8 +712,8 @@ fn first_kept(area: usize, own: usize, taken: usize) -> usize
     area - reach.next_multiple_of(32).min(area)
 }
 
-/// Clears the window unless later main data may reach it, which they can only if no byte of the
-/// area after it was taken or is left out.
+/// Clears the window unless later main data may reach it, as they may if no byte of the area after
+/// it was taken or is left out.
 #[inline]
 fn forget_before(window: &mut Window, taken: usize, first: usize)
     requires few { taken + first ≤ most_waiting }

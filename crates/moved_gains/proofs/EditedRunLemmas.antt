@@ -286,7 +286,7 @@ module _ (steps : ℕ → Steps) (file : List ℕ) (allowed : ℕ) (start : Star
   )
   moved_by (Some found) is = later_moved
 
-  -- the frames of the file are in the edited one, with moved gains where they aren't lost
+  -- the frames of the file are in the edited one, with moved gains if they aren't lost
   pub frames-moved : AreMovedAt steps lost file new_file gap (frames_from file start)
   frames-moved = subst (λ (r : ItemRun). AreMovedAt steps lost file new_file gap
       (numbered_frames head (frames_of r.items))) (sym stream_is) (moved_by head new-stands)

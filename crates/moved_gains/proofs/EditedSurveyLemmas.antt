@@ -70,7 +70,7 @@ abbrev pub AreRight : List ℕ → List Row → Type 0
 AreRight file rows = (i : ℕ) (r : Row) → slice_get rows i ≡ Some r
     → has_wrong_crc (stored_crc (drop r.offset file)) r ≡ false
 
--- ---- a frame in another file, with moved gains where it isn't lost
+-- ---- a frame in another file, with moved gains if it isn't lost
 
 -- the row of such a frame, not marked as lost
 abbrev pub moved_plain : (ℕ → Steps) → (ℕ → Bool) → ℕ → Row → Row

@@ -182,7 +182,7 @@ module _ (to : ℕ → ℕ) (head : Option Head) (rows : List Row) where
   unfolding marked_rows
   marked-by = marks 0 rows
 
-  -- ---- the same stream, where the main data are the same
+  -- ---- the same stream, if the main data are the same
 
   frame_same : (main : List ℕ) (i : ℕ) (r : Row)
       → stream_frame main far_head far_rows i (row_by to r) ≡ stream_frame main head rows i r

@@ -163,7 +163,7 @@ whole steps lost file ps from to e nothing =
     ∙ ap (λ (l : List ℕ). moved_items steps lost file ps ++ l) nothing
     ∙ append-nil (moved_items steps lost file ps)
 
--- after the head, where the first frame is one
+-- after the head, if the first frame is one
 behind_head : (steps : ℕ → Steps) (lost : ℕ → Bool) (file : List ℕ) (head : Option Head)
     (ps : List PlacedItem) (from to : ℕ) (h : HeaderFields) → AreEndToEnd Stream file from ps to
     → drop to file ≡ [] → item_at file from ≡ Frame h

@@ -153,7 +153,7 @@ pub record IsInFront (s : SurveyFields) : Type 0 where
   pub some : 0 < tag_length s
   pub before : tag_offset s + tag_length s ≤ s.junk
 
--- the tag is before the first frame, or after the first frame's beginning and among the frames
+-- the tag is before the junk, or after some frames and before the others
 pub record StandsSomewhere (steps : ℕ → Steps) (file : List ℕ) (s : SurveyFields) : Type 0 where
   pub size : length file ≡ s.length
   pub junk : s.junk ≤ s.first
@@ -367,7 +367,7 @@ module _ (steps : ℕ → Steps) (file : List ℕ) (allowed : ℕ) (start : Star
       inr (among_by b is (omega (arith, beyond, first_whole.some)) (cut_by head b cut))
   place_by None None front_is later_is is = inr (last_by s.frames refl rows_ends frames_some is)
 
-  -- the tag is before the first frame, or apart from all frames
+  -- the tag is before the junk, or apart from all frames
   pub apart_place : IsInFront s ⊎ IsApart s
   apart_place =
       place_by _ _ refl refl
@@ -379,7 +379,7 @@ module _ (steps : ℕ → Steps) (file : List ℕ) (allowed : ℕ) (start : Star
   somewhere (inl front) = inl front
   somewhere (inr apart) = inr apart.among
 
-  -- the tag is somewhere among the frames
+  -- the tag is before the junk or among the frames
   pub stands : StandsSomewhere steps file s
   stands = record {
     size = refl;
@@ -391,7 +391,7 @@ module _ (steps : ℕ → Steps) (file : List ℕ) (allowed : ℕ) (start : Star
     place = somewhere apart_place;
   }
 
--- in every surveyed file the tag is somewhere among the frames
+-- in every surveyed file the tag is before the junk or among the frames
 pub stands_somewhere : (steps : ℕ → Steps) (file : List ℕ) (allowed : ℕ) (s : SurveyFields)
     → survey_fields file allowed ≡ Ok s → StandsSomewhere steps file s
 stands_somewhere steps file allowed s e =

@@ -27,8 +27,8 @@ separate_steps left right = record { left = left; right = right; wrap = false }
 
 -- When a gain of these frames would leave the range.
 pub record TakeSteps (rows : List Row) : Type 0 where
-  -- if all frames move by the same steps: exactly if the
-  -- gains of one channel don't take the steps of that channel
+  -- if all frames move by the same steps: exactly if the gains
+  -- of either channel don't take the steps of that channel
   pub apart_is : (left right : ℤ)
       → is_some_out_of_range (constant_steps (separate_steps left right)) rows
       ≡ not (takes_steps (extremes_of 0 rows) left && takes_steps (extremes_of 1 rows) right)

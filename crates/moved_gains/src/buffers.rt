@@ -44,7 +44,7 @@ impl Model for GainBuffers {
 /// Appends bytes to the output.
 ///
 /// # Errors
-/// `Write` where a write failed.
+/// `Write` if a write failed.
 fn hand_on<D: Folder>(folder: &mut D, pass: &Pass, bytes: &[u8]) -> Result<(), PassFault>
     requires { IsFileThere (D.seen folder.old).files pass.now.output.now }
     ensures appended { OnOk result ((D.seen folder.new).files ≡ with_appended_bytes (D.seen folder.old).files
@@ -66,7 +66,7 @@ fn hand_on<D: Folder>(folder: &mut D, pass: &Pass, bytes: &[u8]) -> Result<(), P
 /// At the end of the input nothing is read.
 ///
 /// # Errors
-/// `Read` where a read failed; `Shrunk` where a read gave no byte before the input's length.
+/// `Read` if a read failed; `Shrunk` if a read gave no byte before the input's length.
 fn read_behind<D: Folder>(
     folder: &mut D,
     pass: &Pass,
@@ -114,7 +114,7 @@ impl GainBuffers {
     /// within its length.
     ///
     /// # Errors
-    /// `Read` or `Shrunk` where the input can't be read, `Write` where a write failed.
+    /// `Read` or `Shrunk` if the input can't be read, `Write` if a write failed.
     #[inline(always)]
     pub(crate) fn fill<D: Folder>(
         &mut self,
@@ -203,7 +203,7 @@ impl GainBuffers {
     /// Appends to the output what waits, and then a piece.
     ///
     /// # Errors
-    /// `Write` where a write failed.
+    /// `Write` if a write failed.
     pub(crate) fn push<D: Folder>(
         &mut self,
         folder: &mut D,
@@ -231,7 +231,7 @@ impl GainBuffers {
     /// Appends to the output what waits.
     ///
     /// # Errors
-    /// `Write` where a write failed.
+    /// `Write` if a write failed.
     pub(crate) fn finish<D: Folder>(&mut self, folder: &mut D, pass: &Pass) -> Result<(), PassFault>
         requires { IsFileThere (D.seen folder.old).files pass.now.output.now }
         ensures appended { OnOk result ((D.seen folder.new).files

@@ -32,7 +32,7 @@ pub fn joined(some: Option<Gains>, others: Option<Gains>) -> Option<Gains>
     })
 }
 
-/// The gain of this granule and channel; `None` where it is silent.
+/// The gain of this granule and channel; `None` if it is silent.
 #[tactic(auto, unfolding(crate::specs::GainExtremes::extremes))]
 #[inline(always)]
 fn gain_of(side: &Side, granule: u8, channel: u8) -> Option<Gains>

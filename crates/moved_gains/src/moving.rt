@@ -47,7 +47,7 @@ impl<'a> GainPass<'a> {
     /// Copies the bytes from one offset up to another, with the new tag if what it replaces is among them.
     ///
     /// # Errors
-    /// `Read` or `Shrunk` where the input can't be read, `Write` where a write failed.
+    /// `Read` or `Shrunk` if the input can't be read, `Write` if a write failed.
     #[inline]
     fn copy<D: Folder>(
         &self,
@@ -75,7 +75,7 @@ impl<'a> GainPass<'a> {
     /// among them.
     ///
     /// # Errors
-    /// `Read` or `Shrunk` where the input can't be read, `Write` where a write failed.
+    /// `Read` or `Shrunk` if the input can't be read, `Write` if a write failed.
     #[inline(never)]
     fn copy_around<D: Folder>(
         &self,
@@ -102,7 +102,7 @@ impl<'a> GainPass<'a> {
     /// ends.
     ///
     /// # Errors
-    /// `Read` or `Shrunk` where the input can't be read, `Write` where a write failed.
+    /// `Read` or `Shrunk` if the input can't be read, `Write` if a write failed.
     #[inline]
     fn move_frame<D: Folder>(
         &self,
@@ -130,7 +130,7 @@ impl<'a> GainPass<'a> {
     /// Copies the input from offset `from` on, with the gains of these frames moved.
     ///
     /// # Errors
-    /// `Read` or `Shrunk` where the input can't be read, `Write` where a write failed.
+    /// `Read` or `Shrunk` if the input can't be read, `Write` if a write failed.
     #[inline(never)]
     fn move_frames<D: Folder>(
         &self,
@@ -179,9 +179,9 @@ fn new_tag<'a>(survey: &Survey, change: &'a Change) -> Option<NewTag<'a>>
 /// that changes, and without its junk. It takes no memory.
 ///
 /// # Errors
-/// `Read` where a read failed; `Shrunk`, with the length of the input when it was found and the
-/// length at which it ended when it was read, where a read gave no byte before the former; `Write`
-/// where a write failed. Then a prefix of the bytes was appended, and with `Write` not all of them.
+/// `Read` if a read failed; `Shrunk`, with the length of the input when it was found and the
+/// length at which it ended when it was read, if a read gave no byte before the former; `Write`
+/// if a write failed. Then a prefix of the bytes was appended, and with `Write` not all of them.
 pub fn write_changed<D: Folder>(
     folder: &mut D,
     input: &str,

@@ -105,9 +105,9 @@ fn read_piece<D: Folder>(
 ///
 /// # Errors
 /// In this order, and none if the file has no tag:
-/// - `TooLarge` with the length of the block, before any byte is read, where it is longer than 1,048,576 bytes;
+/// - `TooLarge` with the length of the block, before any byte is read, if it is longer than 1,048,576 bytes;
 /// - `Memory` if memory runs out for the block's bytes;
-/// - `Read(Failed)` where a call failed;
+/// - `Read(Failed)` if a call failed;
 /// - `Read(Shrunk)` with the survey's length and the offset at which a read gave no byte, before
 ///   the end of the block. It occurs only in a folder whose contents aren't known;
 /// - `Bad` with the offset in the file of the first fault that `Tag::read` finds, or with the

@@ -1,4 +1,4 @@
--- By the slots alone.
+-- From only the slots.
 use Rattle.std.proofs.Common.{IfSome, length, List, subst, ℕ, ◌≡◌}
 use Rattle.laying.proofs.InfoLemmas.{fields-are}
 use Rattle.slot_plan.specs.declared.needs.Placed.{Placed}
