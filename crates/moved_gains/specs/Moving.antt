@@ -1,4 +1,4 @@
--- A file that is read once from beginning to end and written with moved gains and with another tag.
+-- A file read once from beginning to end and written with moved gains and with another tag.
 use Rattle.std.specs.Prelude.{drop, if◌then◌else◌, length, List, nat_le, None, Option, slice_get}
 use Rattle.std.specs.Prelude.{Some, take, ℕ, [], ◌&&◌, ◌++◌, ◌+◌, ◌∷◌, ◌≡◌}
 use Rattle.frame_header.specs.{Fields.ClassFields, Tables.{class_of, length_of, overhead_of}}

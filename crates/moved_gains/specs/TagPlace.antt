@@ -1,5 +1,4 @@
--- Where the tag of a file is, which is its first
--- APEv2 block, and the file with another tag instead.
+-- The place of the tag of a file (its first APEv2 block), and the file with another tag instead.
 use Rattle.std.specs.List.{find}
 use Rattle.std.specs.Prelude.{Bool, drop, false, filter, if◌then◌else◌, length, List, map, nat_le}
 use Rattle.std.specs.Prelude.{nat_lt, None, Option, option_map, slice_get, Some, take, true, ℕ, []}
