@@ -110,33 +110,30 @@ pub refusal_numbers : (refuses : Refusal → Bool) (fault : EditFault) → IsEdi
 refusal_numbers refuses (Refused refusal) is = is
 refusal_numbers refuses _ is = absurd is
 
--- a refusal of what was read is one of the input, with its cause
-pub refused_is_input : (make : Making) (name : List ℕ) (old new : Seen) (s : SurveyFields)
-    (refuses : Refusal → Bool) (fault : EditFault) → IsEditRefusal refuses fault
-    → IsFileThere old.files name
-    → ((bytes : List ℕ) → Holds old.files name bytes → survey_of bytes most_frames ≡ Ok s)
-    → ((bytes : List ℕ) → Holds old.files name bytes → make bytes s ≡ Err fault) → new ≡ old
-    → IsInputFault make name old new fault
-refused_is_input make name old new s refuses
-    (Refused refusal) is there survey_fields refused stays =
-    record {
-      there = there;
-      bytes = λ bytes holds. made-survey make bytes s (survey_fields bytes holds)
-          ∙ refused bytes holds;
-      stays = stays;
-    }
-refused_is_input make name old new s refuses _ is there survey_fields refused stays = absurd is
+module _ (make : Making) (name : List ℕ) (old new : Seen) (s : SurveyFields) where
+  -- a refusal of what was read is one of the input, with its cause
+  pub refused_is_input : (refuses : Refusal → Bool) (fault : EditFault)
+      → IsEditRefusal refuses fault → IsFileThere old.files name
+      → ((bytes : List ℕ) → Holds old.files name bytes → survey_of bytes most_frames ≡ Ok s)
+      → ((bytes : List ℕ) → Holds old.files name bytes → make bytes s ≡ Err fault) → new ≡ old
+      → IsInputFault make name old new fault
+  refused_is_input refuses (Refused refusal) is there survey_fields refused stays = record {
+    there = there;
+    bytes = λ bytes holds. made-survey make bytes s (survey_fields bytes holds)
+        ∙ refused bytes holds;
+    stays = stays;
+  }
+  refused_is_input refuses _ is there survey_fields refused stays = absurd is
 
--- running out of memory is a fault of the input, once it was surveyed
-pub memory_is_input : (make : Making) (name : List ℕ) (old new : Seen) (s : SurveyFields)
-    → IsFileThere old.files name
-    → ((bytes : List ℕ) → Holds old.files name bytes → survey_of bytes most_frames ≡ Ok s)
-    → new ≡ old → IsInputFault make name old new Memory
-memory_is_input make name old new s there is stays = record {
-  there = there;
-  few = λ bytes holds. (survey_of-parts bytes most_frames s (is bytes holds)).0;
-  stays = stays;
-}
+  -- running out of memory is a fault of the input, once it was surveyed
+  pub memory_is_input : IsFileThere old.files name
+      → ((bytes : List ℕ) → Holds old.files name bytes → survey_of bytes most_frames ≡ Ok s)
+      → new ≡ old → IsInputFault make name old new Memory
+  memory_is_input there is stays = record {
+    there = there;
+    few = λ bytes holds. (survey_of-parts bytes most_frames s (is bytes holds)).0;
+    stays = stays;
+  }
 
 -- ---- as a command that makes one file
 

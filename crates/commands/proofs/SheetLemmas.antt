@@ -31,8 +31,7 @@ sheet-late sheet = sheet-all IsLateFault refl (λ size. refl) sheet
 -- a sheet that was found, and whose bytes aren't read
 module _ (sheet : List ℕ) (files mid last : Files) (before between after : Counts) (size : ℕ)
     (found : mid ≡ files) (stays : last ≡ mid) (same : between ≡ before) where
-  -- a fault of reading is one of the sheet, with its cause
-  pub read-fault : (fault : ReadFault) → HasReadCause sheet size mid between after fault
+  read-fault : (fault : ReadFault) → HasReadCause sheet size mid between after fault
       → IsSheetFault sheet (seen_folder files before) (seen_folder last after)
       (Input 1 (survey_fault_of fault))
   read-fault Failed cause = record {
@@ -50,8 +49,16 @@ module _ (sheet : List ℕ) (files mid last : Files) (before between after : Cou
     files = stays ∙ found;
   }
 
-  -- a fault of reading has the number of the sheet
-  pub read-number : (fault : ReadFault) → HasReadCause sheet size mid between after fault
+  read-number : (fault : ReadFault) → HasReadCause sheet size mid between after fault
       → HasSheetNumbers (Input 1 (survey_fault_of fault))
   read-number Failed cause = (refl, (λ e. cc), tt, (λ e. cc))
   read-number (ShrunkRead first second) cause = (refl, (λ e. cc), cause.2, (λ e. cc))
+
+  -- a fault of reading is one of the sheet, with its cause, and has the number of the sheet
+  pub read-stops : (fault : ReadFault) (edit : EditFault) → edit ≡ Input 1 (survey_fault_of fault)
+      → HasReadCause sheet size mid between after fault
+      → IsSheetFault sheet (seen_folder files before) (seen_folder last after) edit
+      × HasSheetNumbers edit
+  read-stops fault edit is cause =
+      subst (λ e. IsSheetFault sheet (seen_folder files before) (seen_folder last after) e
+      × HasSheetNumbers e) (sym is) (read-fault fault cause, read-number fault cause)

@@ -62,31 +62,20 @@ module _ (text : Contents → List ℕ) (command : Command) where
   written-to : (k : ℕ) (old new : Files) → IsWrittenTo command k old new
       → IsWrittenTo told k old new
   written-to k (Untold touched) new h = record { made = tt; touches = h.touches }
-  written-to k (Told f) new h = record {
-    made = (
-      record h.made.0 { text = text f },
-      ap (with_text (text f)) h.made.1,
-      h.made.2,
-      h.made.3,
-      h.made.4,
-    );
-    touches = h.touches;
-  }
+  written-to k (Told f) new h =
+      let m = h.made in record {
+        made = (record m.0 { text = text f }, ap (with_text (text f)) m.1, m.2, m.3, m.4);
+        touches = h.touches;
+      }
 
   unfinished-to : (k : ℕ) (old new : Files) → IsOutputUnfinished command k old new
       → IsOutputUnfinished told k old new
   unfinished-to k (Untold touched) new h = record { made = tt; touches = h.touches }
-  unfinished-to k (Told f) new h = record {
-    made = (
-      record h.made.0 { text = text f },
-      ap (with_text (text f)) h.made.1,
-      h.made.2,
-      h.made.3,
-      h.made.4,
-      h.made.5,
-    );
-    touches = h.touches;
-  }
+  unfinished-to k (Told f) new h =
+      let m = h.made in record {
+        made = (record m.0 { text = text f }, ap (with_text (text f)) m.1, m.2, m.3, m.4, m.5);
+        touches = h.touches;
+      }
 
   module _ (old new : Seen) (fault : EditFault) where
     unread-to : (new.files ≡ old.files) ⊎ ((k : ℕ) × IsWrittenTo command k old.files new.files)

@@ -1,7 +1,6 @@
 -- All bytes of the sheet are read, or the cause is that of the read.
-use Rattle.std.proofs.Common.{rules, subst, sym}
-use Rattle.commands.proofs.SheetLemmas.{read-fault, read-number}
-use Rattle.commands.specs.Sheet.{HasSheetNumbers, IsSheetFault}
+use Rattle.std.proofs.Common.{ap, rules, subst, sym}
+use Rattle.commands.proofs.SheetLemmas.{read-stops}
 use Rattle.commands.specs.declared.fault.EditFault.TheVariants.{Input}
 use Rattle.outside.specs.Files.{Holds}
 use Rattle.commands.proofs.sheet.sheet_bytes.Goals as goal
@@ -14,24 +13,16 @@ read_exact-requires-clause-found g c = λ bytes holds.
 pub returns-in-Err-clause-sheet : goal.returns-in-Err-clause-sheet
 returns-in-Err-clause-sheet g c =
     let seen = g.D.Folder.seen in
+    let stops = read-stops c.args.sheet.now (seen c.args.folder.now).files
+    (seen c.sheet_length.new.folder).files (seen c.read_exact.new.folder).files
+    (seen c.args.folder.now).counts (seen c.sheet_length.new.folder).counts
+    (seen c.read_exact.new.folder).counts c.in_ok-length.length
+    c.sheet_length.ensures.sheet.reads.files c.read_exact.ensures.files
+    c.in_ok-length.ensures.sheet.reads.done c.in-Err.fault _ (ap (λ f. Input 1 f) c.into.ensures)
+    c.in-Err.ensures.cause in
     record {
       there = tt;
-      refused =
-          subst (λ f. IsSheetFault c.args.sheet.now (seen c.args.folder.now)
-          (seen c.read_exact.new.folder) (Input 1 f)) (sym c.into.ensures)
-          (read-fault c.args.sheet.now (seen c.args.folder.now).files
-          (seen c.sheet_length.new.folder).files (seen c.read_exact.new.folder).files
-          (seen c.args.folder.now).counts (seen c.sheet_length.new.folder).counts
-          (seen c.read_exact.new.folder).counts c.in_ok-length.length
-          c.sheet_length.ensures.sheet.reads.files c.read_exact.ensures.files
-          c.in_ok-length.ensures.sheet.reads.done c.in-Err.fault c.in-Err.ensures.cause);
-      numbers =
-          subst (λ f. HasSheetNumbers (Input 1 f)) (sym c.into.ensures)
-          (read-number c.args.sheet.now (seen c.args.folder.now).files
-          (seen c.sheet_length.new.folder).files (seen c.read_exact.new.folder).files
-          (seen c.args.folder.now).counts (seen c.sheet_length.new.folder).counts
-          (seen c.read_exact.new.folder).counts c.in_ok-length.length
-          c.sheet_length.ensures.sheet.reads.files c.read_exact.ensures.files
-          c.in_ok-length.ensures.sheet.reads.done c.in-Err.fault c.in-Err.ensures.cause);
+      refused = stops.0;
+      numbers = stops.1;
       reads = record { files = search rules; done = tt; counts = search rules };
     }
