@@ -15,18 +15,28 @@ use Rattle.outside.specs.Files.{Files, Holds, IsFileThere, with_appended_bytes}
 use Rattle.outside.specs.{Pass.{IsPassReady, IsReadPassFault}, declared.pass.PassFault.PassFault}
 use Rattle.sync_survey.specs.Faults.{SurveyFields}
 
--- all is ready for the next step after bytes were appended
--- to the output, with the feed still on the input
-pub ready-with : (relay : Relay) (old new : Files) (fed now : Fed) (more : List ℕ)
-    → new ≡ with_appended_bytes old relay.pass.output.now more → IsRelayReady relay old fed
-    → IsPassReady relay.pass new now → IsRelayReady relay new now
-ready-with relay old new fed now more is ready pass = record {
-  pass = pass;
-  length_is = ready.length_is;
-  exact = λ file holds. ready.exact file (input_held old new
-      relay.pass.input.now relay.pass.output.now more file ready.pass.apart is holds);
-  laid = ready.laid;
-}
+module _ (relay : Relay) (old new : Files) (fed now : Fed) where
+  ready-held : ((file : List ℕ) → Holds new relay.pass.input.now file
+      → Holds old relay.pass.input.now file) → IsRelayReady relay old fed
+      → IsPassReady relay.pass new now → IsRelayReady relay new now
+  ready-held held ready pass = record {
+    pass = pass;
+    length_is = ready.length_is;
+    exact = λ file holds. ready.exact file (held file holds);
+    laid = ready.laid;
+  }
+
+  -- all is ready for the next step after bytes were appended
+  -- to the output, with the feed still on the input
+  pub ready-with : (more : List ℕ) → new ≡ with_appended_bytes old relay.pass.output.now more
+      → IsRelayReady relay old fed → IsPassReady relay.pass new now → IsRelayReady relay new now
+  ready-with more is ready = ready-held (λ file. input_held old new
+      relay.pass.input.now relay.pass.output.now more file ready.pass.apart is) ready
+
+  -- if no file changed, all is ready for the next step
+  pub ready-filled : new ≡ old → IsRelayReady relay old fed → IsPassReady relay.pass new now
+      → IsRelayReady relay new now
+  ready-filled same = ready-held (λ file. subst (λ f. Holds f relay.pass.input.now file) same)
 
 -- after bytes were appended to the output, all is ready for the next step
 pub ready-later : (relay : Relay) (old new : Files) (fed : Fed) (more : List ℕ)
@@ -41,17 +51,6 @@ pub ready-passed : (relay : Relay) {before after : List ℕ} {old new : Files} {
     → IsRelayReady relay new fed
 ready-passed relay {before} {after} {old} {new} {fed} passed ready =
     ready-later relay old new fed passed.passed passed.files ready
-
--- if no file changed, all is ready for the next step
-pub ready-filled : (relay : Relay) (old new : Files) (fed now : Fed) → new ≡ old
-    → IsRelayReady relay old fed → IsPassReady relay.pass new now → IsRelayReady relay new now
-ready-filled relay old new fed now same ready pass = record {
-  pass = pass;
-  length_is = ready.length_is;
-  exact =
-      λ file holds. ready.exact file (subst (λ f. Holds f relay.pass.input.now file) same holds);
-  laid = ready.laid;
-}
 
 -- after bytes were appended to another file, the
 -- window still holds the last of the input's main data
