@@ -10,7 +10,7 @@ use Rattle.std.proofs.lemmas.{Bool.{eqb-true, ltb-false}, List.{drop-map, take-m
 use Rattle.std.proofs.lemmas.List.Sums.{sum_by-cons}
 use Rattle.frame_header.specs.{Fields.{ClassFields, IsHeader}, Tables.window_of}
 use Rattle.laying.{proofs.BeginLemmas.begin-near, specs.{Needs.need_of, NeedsFit.IsPlacedSurvey}}
-use Rattle.laying.specs.NeedsLaws.{needs_between}
+use Rattle.laying.specs.Passing.{needs_from}
 use Rattle.side_info.specs.Side.{payload_bits, payload_bytes}
 use Rattle.slot_plan.proofs.{FreeByteLemmas.within-fit, PartLemmas.class-range}
 use Rattle.slot_plan.proofs.ReserveLemmas.{AllFit, fit-from, layout-fit, starts_of}
@@ -193,9 +193,9 @@ feasible-fit window frames fit = (
 -- the needs of a part are of the class, and have a layout after a whole window
 abbrev pub Fits : SurveyFields → ℕ → ℕ → Type 0
 Fits s from to =
-    AreNeedsOfClass s.class (needs_between s from to)
+    AreNeedsOfClass s.class (needs_from s from to)
     × HasLayout (window_of s.class.version) (window_of s.class.version)
-    (map own_frame (needs_between s from to))
+    (map own_frame (needs_from s from to))
 
 part_of : (s : SurveyFields) (from to : ℕ) → AreNeedsOfClass s.class (map need_of s.frames)
     → AllFit (window_of s.class.version) (window_of s.class.version)
@@ -207,7 +207,7 @@ part_of s from to classes fit =
     (fit-from window from (map own_frame (map need_of s.frames)) (feasible-fit window _ fit)) in (
       subst (AreNeedsOfClass s.class) of_needs
           (class-range s.class (map need_of s.frames) from to classes),
-      feasible-fit window (map own_frame (needs_between s from to))
+      feasible-fit window (map own_frame (needs_from s from to))
           (subst (AllFit window window) (range-map own_frame from to (map need_of s.frames)
           ∙ ap (map own_frame) of_needs) frames),
     )
