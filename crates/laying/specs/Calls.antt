@@ -26,12 +26,17 @@ pub record IsRelayOpen (relay : Relay) (files : Files) (b : RelayBuffers) : Type
   pub class : b.writer.class ≡ (survey_view relay.survey.now).class
   pub unsettled : IsNextSettled b.writer → ⊥
 
+-- A window, and the area before the next frame if that
+-- isn't in it yet, hold what that frame can reach.
+abbrev pub HoldsUpTo : Relay → Reading → Files → List ℕ → Type 0
+HoldsUpTo relay reading files window = HoldsLastAreas window relay.pass.input.now files
+    (survey_view relay.survey.now) reading.at reading.count reading.next
+
 -- The relay is open, and what the next frame can reach is held.
 pub record IsRelayAtFrame (relay : Relay) (files : Files) (b : RelayBuffers)
     (reading : Reading) : Type 0 where
   pub on : IsRelayOpen relay files b
-  pub over : HoldsLastAreas b.window relay.pass.input.now files
-      (survey_view relay.survey.now) reading.at reading.count reading.next
+  pub over : HoldsUpTo relay reading files b.window
 
 -- The next frame of the input is this one.
 pub record IsNextFrame (relay : Relay) (reading : Reading) (next : NextFrame) : Type 0 where

@@ -15,7 +15,7 @@ ghost use Rattle.reservoir.specs.Window.{IsWindowOver, window_size};
 ghost use Rattle.laying.specs.Needs.{need_of};
 ghost use Rattle.laying.specs.Relaid.{payload_of, lead_in_before};
 ghost use Rattle.laying.specs.Fits.{placed_bytes, placed_area};
-ghost use Rattle.laying.specs.Calls.{IsRelayOpen, IsRelayAtFrame, IsNextFrame, CanGiveFrame, RelayReadAnswer, GivesArea, CanCutData, TakesFrame, RelayFramesAnswer, ForwardAnswer, AddMadeAnswer};
+ghost use Rattle.laying.specs.Calls.{IsRelayOpen, IsRelayAtFrame, IsNextFrame, HoldsUpTo, CanGiveFrame, RelayReadAnswer, GivesArea, CanCutData, TakesFrame, RelayFramesAnswer, ForwardAnswer, AddMadeAnswer};
 ghost use Rattle.laying.specs.Passing.{ReachesBack, IsRelayReady, AreGivenBytes, IsAreaOf, KeepsReach, IsWindowOverFrames, HoldsLastAreas, HoldsLastWithBytes, IsWindowOverLast, relay_frame, relay_planned_frame, planned_frames, own_reach, placed_reach, reach_behind_all, FitsRelayReach, GivesFrames, GivesPart};
 ghost use Rattle.laying.specs.Laid.{selected_frames, IsWritableSelection};
 ghost use Rattle.laying.specs.Places.{places_for, own_places};
@@ -312,8 +312,7 @@ impl<'a> Relay<'a> {
         window: &mut Window,
     ) -> Result<(), PassFault>
         requires ready { IsRelayReady self.now (D.seen folder.old).files feed.old }
-        requires over { HoldsLastAreas window.old self.now.pass.input.now (D.seen folder.old).files
-            (survey_view self.now.survey.now) reading.now.at reading.now.count reading.now.next }
+        requires over { HoldsUpTo self.now reading.now (D.seen folder.old).files window.old }
         ensures over { OnOk result ((at : ℕ) → at ≤ (survey_view self.now.survey.now).length
             → HoldsLastAreas window.new self.now.pass.input.now (D.seen folder.new).files
             (survey_view self.now.survey.now) at 0 reading.now.next) }
@@ -340,8 +339,7 @@ impl<'a> Relay<'a> {
         window: &mut Window,
     ) -> Result<(u64, usize), PassFault>
         requires ready { IsRelayReady self.now (D.seen folder.old).files feed.old }
-        requires over { HoldsLastAreas window.old self.now.pass.input.now (D.seen folder.old).files
-            (survey_view self.now.survey.now) reading.now.at reading.now.count reading.now.next }
+        requires over { HoldsUpTo self.now reading.now (D.seen folder.old).files window.old }
         requires within { own.at + own.size ≤ (survey_view self.now.survey.now).length }
         requires few { own.size ≤ most_frame_length }
         ensures over { IfOk result (λ first. HoldsLastAreas window.new self.now.pass.input.now
@@ -375,8 +373,7 @@ impl<'a> Relay<'a> {
     ) -> Result<AreaSpan, PassFault>
         requires ready { IsRelayReady self.now (D.seen folder.old).files feed.old }
         requires next { IsNextFrame self.now reading.now known.now }
-        requires over { HoldsLastAreas window.old self.now.pass.input.now (D.seen folder.old).files
-            (survey_view self.now.survey.now) reading.now.at reading.now.count reading.now.next }
+        requires over { HoldsUpTo self.now reading.now (D.seen folder.old).files window.old }
         ensures given { IfOk result (GivesArea self.now reading.now known.now.row.now
             (D.seen folder.new).files window.new feed.new.given) }
         ensures reads { RelayReadAnswer self.now feed.new (D.seen folder.old) (D.seen folder.new) result }

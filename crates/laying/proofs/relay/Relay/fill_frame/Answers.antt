@@ -5,16 +5,21 @@ use Rattle.std.proofs.Common.{◌≡◌, ◌≤◌}
 use Rattle.std.proofs.lemmas.List.{drop-drop, drop-take, length-take-le, take-take}
 use Rattle.frame_header.specs.Tables.{class_of, overhead_of}
 use Rattle.laying.proofs.{ReachLemmas.holds-given, ReadLemmas.{area-at, laid-within}}
+use Rattle.laying.proofs.relay.Relay.fill_frame.Goals.{After-area_place-own}
 use Rattle.laying.specs.Passing.{HoldsLastAreas}
 use Rattle.sync_survey.specs.Faults.{survey_view}
+use Rattle.laying.proofs.relay.Relay.fill_frame.Given as given
 use Rattle.laying.proofs.relay.Relay.fill_frame.Goals as goal
 
 pub area_place-own-requires : goal.area_place-own-requires
 area_place-own-requires g c = c.requires.next.known ∙ sym (c.requires.ready.laid.placed
     c.args.reading.now.next c.args.known.now.row.now c.requires.next.found).class_is
 
-pub first_byte-requires-clause-within : goal.first_byte-requires-clause-within
-first_byte-requires-clause-within g c =
+-- the area is within the input
+area-within : (g : given.Over) (c : After-area_place-own g)
+    → c.area_place-own.result.at + c.area_place-own.result.size
+    ≤ (survey_view c.args.self.now.survey.now).length
+area-within g c =
     let s = survey_view c.args.self.now.survey.now in
     omega (
       arith,
@@ -23,16 +28,16 @@ first_byte-requires-clause-within g c =
       c.area_place-own.ensures.whole,
     )
 
+pub first_byte-requires-clause-within : goal.first_byte-requires-clause-within
+first_byte-requires-clause-within g c =
+    area-within g (goal.at.first_byte-requires-clause-within g c).After-area_place-own
+
 pub fill-requires-clause-within : goal.fill-requires-clause-within
-fill-requires-clause-within g c =
-    let s = survey_view c.args.self.now.survey.now in
-    omega (
-      arith,
-      laid-within s.first s.length s.frames c.args.reading.now.next c.args.known.now.row.now
-          c.requires.ready.laid.frames c.requires.next.found,
-      c.area_place-own.ensures.whole,
-      c.in_ok-first.ensures.near,
-    )
+fill-requires-clause-within g c = omega (
+  arith,
+  area-within g (goal.at.fill-requires-clause-within g c).After-area_place-own,
+  c.in_ok-first.ensures.near,
+)
 
 pub returns-clause-given : goal.returns-clause-given
 returns-clause-given g c = record {
@@ -77,14 +82,10 @@ returns-clause-given g c = record {
   before = search rules;
   skip = search rules;
   at = search rules;
-  ends = let s = survey_view c.args.self.now.survey.now in
-      let skip = c.area_place-own.result.at - c.in_ok-first.first in
-      omega (
-        arith,
-        laid-within s.first s.length s.frames c.args.reading.now.next c.args.known.now.row.now
-            c.requires.ready.laid.frames c.requires.next.found,
-        c.area_place-own.ensures.whole,
-        c.in_ok-fill.ensures.given.long,
-        length-drop skip c.fill.new.feed.given,
-      );
+  ends = omega (
+    arith,
+    area-within g (goal.at.returns-clause-given g c).After-area_place-own,
+    c.in_ok-fill.ensures.given.long,
+    length-drop (c.area_place-own.result.at - c.in_ok-first.first) c.fill.new.feed.given,
+  );
 }
