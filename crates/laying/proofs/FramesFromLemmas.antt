@@ -120,22 +120,26 @@ module _ (s : SurveyFields) (placed : List Placed) (from n k : ℕ) (all : n ≡
       last_reach (window_of s.class.version) reach l ps) needs-are taken
       ∙ reach-own reach from s placed
 
-  module _ (input output : List ℕ) (old : Writing) (before after : Files) where
+  module _ (input output : List ℕ) (old : Writing) (first before after : Files)
+      (same : before ≡ first) where
     -- laying these frames is laying those of the input from there on
     pub lays-from : (new : Writing) → LaysFrames input output made old new before after
-        → LaysFrames input output (planned from s placed) old new before after
-    lays-from new =
-        lays_as input output made (planned from s placed) old new before after
-        (λ file holds. made-is file)
+        → LaysFrames input output (planned from s placed) old new first after
+    lays-from new lays =
+        subst (λ f. LaysFrames input output (planned from s placed) old new f after) same
+        (lays_as input output made (planned from s placed) old new before after
+        (λ file holds. made-is file) lays)
 
     -- laying a part of these is laying a part of those
     pub part-from : (reach : ℕ) {fault : PassFault}
         → LaysPart input output made (last reach) old before after fault
         → LaysPart input output (planned from s placed) (reached reach from s placed)
-        old before after fault
-    part-from reach =
-        part_more input output made (λ file. []) (planned from s placed) (last reach)
+        old first after fault
+    part-from reach {fault} part =
+        subst (λ f. LaysPart input output (planned from s placed) (reached reach from s placed)
+        old f after fault) same
+        (part_more input output made (λ file. []) (planned from s placed) (last reach)
         (reached reach from s placed) old before after
         (λ file holds more begins.
         subst (λ m. BeginsWithin m (all_frame_data more)) (sym (reach-is reach)) begins)
-        (λ file holds. append-nil (made file) ∙ made-is file)
+        (λ file holds. append-nil (made file) ∙ made-is file) part)

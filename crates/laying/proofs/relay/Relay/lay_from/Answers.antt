@@ -4,8 +4,8 @@ use Rattle.frame_header.specs.Tables.{window_of}
 use Rattle.frame_writer.specs.Frames.{reach_of}
 use Rattle.laying.proofs.FramesFromLemmas.{fits-from, from-begins, lays-from, part-from, reach-is}
 use Rattle.laying.proofs.PassLemmas.{part_none}
-use Rattle.laying.specs.Passing.{GivesFrames, GivesPart, planned_frames, reach_behind_all}
-use Rattle.laying.specs.{Passing.writing_in, Places.places_for}
+use Rattle.laying.specs.Passing.{GivesPart, planned_frames, reach_behind_all, writing_in}
+use Rattle.laying.specs.Places.{places_for}
 use Rattle.outside.proofs.BufferOutputLemmas.{err_at}
 use Rattle.sync_survey.specs.Faults.{survey_view}
 use Rattle.laying.proofs.relay.Relay.lay_from.Goals as goal
@@ -45,22 +45,12 @@ frames-requires-clause-fits g c =
 pub returns-in_err-frames-clause-gives : goal.returns-in_err-frames-clause-gives
 returns-in_err-frames-clause-gives g c = record {
   lays = search rules;
-  part = let relay = c.args.self.now in
-      let from = c.args.from in
-      let s = survey_view relay.survey.now in
-      let to = length s.frames in
-      let b = c.args.buffers.now in
-      let placed = c.args.placed.now in
-      let reach = reach_of b.writer in
-      let after = (g.D.Folder.seen c.frames.new.folder).files in
+  part = let b = c.args.buffers.now in
       err_at c.from_residual-in_err-frames.result _ c.from_residual-in_err-frames.ensures.1
-      (subst (λ f. GivesPart relay (planned_frames relay from to placed)
-      (reach_behind_all reach relay from to placed)
-      b f after c.in_err-frames.field-0.0) c.read_before.ensures.reads.files
-      (part-from s placed from _ _ (ap length c.frames-rows.ensures)
-      c.places_for-count.ensures.places relay.pass.input.now relay.pass.output.now (writing_in b)
-      (g.D.Folder.seen c.read_before.new.folder).files after reach
-      c.in_err-frames.ensures.gives.part));
+      (part-from (survey_view c.args.self.now.survey.now) c.args.placed.now c.args.from _ _
+      (ap length c.frames-rows.ensures) c.places_for-count.ensures.places _ _ (writing_in b)
+      _ _ _ c.read_before.ensures.reads.files (reach_of b.writer)
+      c.in_err-frames.ensures.gives.part);
   reach = search rules;
   done = search rules;
   cause = search rules;
@@ -68,21 +58,11 @@ returns-in_err-frames-clause-gives g c = record {
 
 pub returns-clause-gives : goal.returns-clause-gives
 returns-clause-gives g c = record {
-  lays = let relay = c.args.self.now in
-      let from = c.args.from in
-      let s = survey_view relay.survey.now in
-      let to = length s.frames in
-      let b = c.args.buffers.now in
-      let placed = c.args.placed.now in
-      let seen = g.D.Folder.seen in
-      let after = (seen c.frames.new.folder).files in
-      subst (λ f. GivesFrames relay
-      (planned_frames relay from to placed) b c.frames.new.buffers f after)
-      c.read_before.ensures.reads.files
-      (lays-from s placed from _ _ (ap length c.frames-rows.ensures)
-      c.places_for-count.ensures.places relay.pass.input.now relay.pass.output.now (writing_in b)
-      (seen c.read_before.new.folder).files after (writing_in c.frames.new.buffers)
-      c.in_ok-frames.ensures.gives.lays);
+  lays =
+      lays-from (survey_view c.args.self.now.survey.now) c.args.placed.now c.args.from _ _
+      (ap length c.frames-rows.ensures) c.places_for-count.ensures.places _ _
+      (writing_in c.args.buffers.now) _ _ _ c.read_before.ensures.reads.files
+      (writing_in c.frames.new.buffers) c.in_ok-frames.ensures.gives.lays;
   part = search rules;
   reach = c.in_ok-frames.ensures.gives.reach
       ∙ reach-is (survey_view c.args.self.now.survey.now) c.args.placed.now c.args.from _ _
