@@ -5,7 +5,7 @@ use Rattle.std.proofs.Common.{refl, slice_index, subst, sym, take, true, ℕ, []
 use Rattle.std.proofs.{Common.{◌<◌, ◌==◌, ◌^◌, ◌∙◌, ◌∷◌, ◌≡◌, ◌≤◌}, lemmas.List.get_or_default}
 use Rattle.bit_fields.specs.Bits.{bits}
 use Rattle.frame_header.proofs.SlotLemmas.{IsSlot-nth_slot, length-all_slots}
-use Rattle.frame_header.specs.Fields.{ClassFields, HeaderFields, IsSlot, SlotFields}
+use Rattle.frame_header.specs.Fields.{ClassFields, HeaderFields, IsHeader, IsSlot, SlotFields}
 use Rattle.frame_header.specs.{Slots.{all_slots, slot_of}, Tables.window_of}
 use Rattle.frame_header.specs.declared.version.Version.{Version, TheVariants.One}
 use Rattle.frame_writer.specs.Frames.{all_frame_data, Frame, frame_area}
@@ -84,18 +84,22 @@ nothing_filled n m none few =
 
 module _ (c : ClassFields) (p : Placed) (f : Frame) (slot : IsSlot p.slot)
     (near : p.begin ≤ window_of c.version) (is : IsStreamEntry c f) where
+  header-there : (guarded : Bool)
+      → IsHeader (record f.kept.header { protected = guarded; slot = p.slot })
+  header-there guarded = record {
+    slot = slot;
+    frequency_index = is.header.frequency_index;
+    mode = is.header.mode;
+    mode_extension = is.header.mode_extension;
+    emphasis = is.header.emphasis;
+  }
+
   lead_in-entry : IsStreamEntry c (lead_in_with_place p f)
   lead_in-entry =
       let none = bits_begun no_side p.begin ∙ no_bits in
       let few = bytes_begun no_side p.begin ∙ no_bytes in
       record {
-        header = record {
-          slot = slot;
-          frequency_index = is.header.frequency_index;
-          mode = is.header.mode;
-          mode_extension = is.header.mode_extension;
-          emphasis = is.header.emphasis;
-        };
+        header = header-there false;
         class = is.class;
         pairs = record { scfsi = refl; granules = refl; first = refl; second = refl };
         fits = begun_fits c no_side p.begin (SideFits-no_side c) near;
@@ -106,13 +110,7 @@ module _ (c : ClassFields) (p : Placed) (f : Frame) (slot : IsSlot p.slot)
 
   moved-entry : IsStreamEntry c (frame_with_place p f)
   moved-entry = record {
-    header = record {
-      slot = slot;
-      frequency_index = is.header.frequency_index;
-      mode = is.header.mode;
-      mode_extension = is.header.mode_extension;
-      emphasis = is.header.emphasis;
-    };
+    header = header-there f.kept.header.protected;
     class = is.class;
     pairs = record {
       scfsi = is.pairs.scfsi;
