@@ -127,15 +127,6 @@ pub fitting-slots : FittingSlots
 fitting-slots c part placed is fitting = slots-by (window_of c.version) 0 (part_needs part)
     (part_frames part) placed (part-needs c part is) fitting.fits
 
--- the frames of a part can be laid, and their stream is the part's with the lead-ins of the plan
-pub fitting-laid : (c : ClassFields) (part : FilePart) (placed : List Placed) → IsPart c part
-    → IsFittingPlan (window_of c.version) (part_needs part) placed → AreLaidFrom c 0 0
-    (relaid_frames (part_frames part) placed)
-    (stream_with_lead_ins placed (map stream_entry (part_frames part)))
-fitting-laid c part placed is fitting =
-    laid-fitting c (part_needs part) (part_frames part) placed 0 0 0 (part-entries c part is)
-    (part-needs c part is) fitting.slots fitting.fits (omega arith) (omega arith)
-
 -- frames that can be laid, in a file
 module _ (c : ClassFields) (frames : List Frame) (stream : List StreamFrame)
     (hold : AreFramesOfStream c frames stream) (front : List (List ℕ)) (first : HeaderFields)
@@ -162,32 +153,36 @@ module _ (c : ClassFields) (frames : List Frame) (stream : List StreamFrame)
   file-loses-none : LosesNoFrame (laid_file front first info frames back)
   file-loses-none = laid-frames-stay c front first info frames back file_is
 
-fitting_as : (c : ClassFields) (part : FilePart) (placed : List Placed) → IsPart c part
-    → IsFittingPlan (window_of c.version) (part_needs part) placed → AreFramesOfStream c
-    (relaid_frames (part_frames part) placed) (stream_with_lead_ins placed (part_stream part))
-fitting_as c part placed is fitting =
-    let laid = fitting-laid c part placed is fitting in
-    record {
-      some = some-by (window_of c.version) 0 (part_needs part) (part_frames part) placed
-          (part-needs c part is) fitting.fits (part-some c part is);
-      entries = laid.entries;
-      fit = laid.fit;
-      stream_is = laid.stream_is ∙ ap (stream_with_lead_ins placed) (part-stream c part is);
-    }
+module _ (c : ClassFields) (part : FilePart) (placed : List Placed) (is : IsPart c part)
+    (fitting : IsFittingPlan (window_of c.version) (part_needs part) placed) where
+  -- the frames of a part can be laid, and their stream is the part's with the lead-ins of the plan
+  pub fitting-laid : AreLaidFrom c 0 0 (relaid_frames (part_frames part) placed)
+      (stream_with_lead_ins placed (map stream_entry (part_frames part)))
+  fitting-laid =
+      laid-fitting c (part_needs part) (part_frames part) placed 0 0 0 (part-entries c part is)
+      (part-needs c part is) fitting.slots fitting.fits (omega arith) (omega arith)
+
+  fitting_as : AreFramesOfStream c
+      (relaid_frames (part_frames part) placed) (stream_with_lead_ins placed (part_stream part))
+  fitting_as = record {
+    some = some-by (window_of c.version) 0 (part_needs part) (part_frames part) placed
+        (part-needs c part is) fitting.fits (part-some c part is);
+    entries = fitting-laid.entries;
+    fit = fitting-laid.fit;
+    stream_is = fitting-laid.stream_is ∙ ap (stream_with_lead_ins placed) (part-stream c part is);
+  }
+
+  -- no frame of a file of them is lost, whether or not its head is set apart
+  pub fitting-loses-none : (front : List (List ℕ)) (first : HeaderFields) (info : Info)
+      (back : List (List ℕ))
+      → AreBlocks front → IsHeader first → class_of first ≡ c → HasInfoSizes info → AreBlocks back
+      → LosesNoFrame (laid_file front first info (relaid_frames (part_frames part) placed) back)
+  fitting-loses-none = file-loses-none c (relaid_frames (part_frames part) placed)
+      (stream_with_lead_ins placed (part_stream part)) fitting_as
 
 -- the file of them holds their stream
 pub fitting-files-hold : FittingFilesHold
 fitting-files-hold c part placed is fitting = file-holds c (relaid_frames (part_frames part) placed)
-    (stream_with_lead_ins placed (part_stream part)) (fitting_as c part placed is fitting)
-
--- no frame of a file of them is lost, whether or not its head is set apart
-pub fitting-loses-none : (c : ClassFields) (part : FilePart) (placed : List Placed) → IsPart c part
-    → IsFittingPlan (window_of c.version) (part_needs part) placed
-    → (front : List (List ℕ)) (first : HeaderFields) (info : Info) (back : List (List ℕ))
-    → AreBlocks front → IsHeader first → class_of first ≡ c → HasInfoSizes info → AreBlocks back
-    → LosesNoFrame (laid_file front first info (relaid_frames (part_frames part) placed) back)
-fitting-loses-none c part placed is fitting =
-    file-loses-none c (relaid_frames (part_frames part) placed)
     (stream_with_lead_ins placed (part_stream part)) (fitting_as c part placed is fitting)
 
 -- ---- the frames of parts, as planned
