@@ -2,7 +2,7 @@
 use Rattle.std.proofs.Common.{ap, drop, List, None, Option, refl, replicate, Some, sym, take, ℕ, []}
 use Rattle.std.proofs.Common.{◌∙◌, ◌≡◌}
 use Rattle.frame_header.specs.Tables.{class_of, length_of}
-use Rattle.info_header.specs.Info.{field_in, field_place, info_in}
+use Rattle.info_header.specs.{Info.{field_in, field_place, info_in}, declared.fields.Info.Info}
 use Rattle.laying.specs.{KeptFields.fields_of_head, Written.head_info}
 use Rattle.sync_survey.specs.declared.places.Head.{Head}
 
@@ -16,24 +16,24 @@ unfolding info_in field_place
 none-extension = refl
 
 -- a file without a head has no quality
-pub quality-none : (file : List ℕ) (head : Option Head) → head ≡ None
+pub quality-none : (file : List ℕ) (head : Option Head) → None ≡ fields_of_head file head
     → None ≡ (head_info file head).quality
 unfolding head_info
-quality-none file head is = sym (ap (λ h. (head_info file h).quality) is ∙ none-quality)
+quality-none file None is = sym none-quality
+quality-none file (Some head) is = absurd cc
 
 -- a file without a head has an extension of zeros
-pub extension-none : (file : List ℕ) (head : Option Head) → head ≡ None
+pub extension-none : (file : List ℕ) (head : Option Head) → None ≡ fields_of_head file head
     → replicate 36 0 ≡ (head_info file head).extension
 unfolding head_info
-extension-none file head is = sym (ap (λ h. (head_info file h).extension) is ∙ none-extension)
+extension-none file None is = sym none-extension
+extension-none file (Some head) is = absurd cc
 
--- the fields of a head that is there are read from the bytes of its frame
-pub info-some : (file frame : List ℕ) (all : Option Head) (head : Head) → all ≡ Some head
-    → frame ≡ take (length_of (class_of head.header) head.header.slot) (drop head.offset file)
-    → info_in (drop head.text_at frame) ≡ head_info file all
-unfolding head_info
-info-some file frame all head some is =
-    ap (λ l. info_in (drop head.text_at l)) is ∙ ap (head_info file) (sym some)
+-- the fields of a head that is there are those of the head
+pub info-some : (file : List ℕ) (head : Option Head) (info : Info)
+    → Some info ≡ fields_of_head file head → info ≡ head_info file head
+info-some file None info is = absurd cc
+info-some file (Some head) info is = cc
 
 -- the fields of a head are read from its frame
 pub fields-some : (file frame : List ℕ) (all : Option Head) (head : Head) → all ≡ Some head

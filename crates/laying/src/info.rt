@@ -43,17 +43,15 @@ impl Kept {
         }
     }
 
-    /// What the bytes of a head's frame say. Its text is at byte `text_at`.
-    fn read(frame: &[u8], text_at: u32) -> Kept
-        ensures quality { result.quality ≡ (info_in (drop text_at frame.now)).quality }
-        ensures extension { result.extension ≡ (info_in (drop text_at frame.now)).extension }
+    /// The quality and the extension of these fields.
+    fn of(info: &Info) -> Kept
+        ensures quality { result.quality ≡ info.now.quality }
+        ensures extension { result.extension ≡ info.now.extension }
     {
-        let Info {
-            quality,
-            extension,
-            ..
-        } = fields_in(frame, text_at);
-        Kept { quality, extension }
+        Kept {
+            quality: info.quality,
+            extension: info.extension,
+        }
     }
 }
 
@@ -176,12 +174,8 @@ pub fn kept_fields<D: Folder>(
     ensures { KeptAnswer name.now (survey_view survey.now) (D.seen folder.old)
         (D.seen folder.new) result }
 {
-    let Some(head) = survey.head() else {
-        return Ok(Kept::none());
-    };
-    let length = head.header.length();
-    let mut room = [0; 1441];
-    let frame = &mut room[..length as usize];
-    read_exact(folder, name, survey.length(), head.offset, frame)?;
-    Ok(Kept::read(frame, head.text_at))
+    match head_fields(folder, name, survey)? {
+        Some(info) => Ok(Kept::of(&info)),
+        None => Ok(Kept::none()),
+    }
 }

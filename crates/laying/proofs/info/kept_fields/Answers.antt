@@ -1,20 +1,18 @@
--- The fields of the head are those of the bytes of its frame; without a head there is none.
-use Rattle.std.proofs.Common.{ap, arith, drop, length, List, replicate, rules, sym, take, ℕ, ◌∙◌}
-use Rattle.std.proofs.{Common.◌≡◌, lemmas.List.{length-replicate, length-take-le}}
+-- What is kept are fields of the head; without a head there is none.
+use Rattle.std.proofs.Common.{ap, rules, sym, ◌∙◌}
 use Rattle.info_header.specs.declared.fields.Info.{Info}
 use Rattle.laying.proofs.KeptLemmas.{extension-none, info-some, quality-none}
 use Rattle.laying.specs.declared.info.Kept.{Kept}
 use Rattle.sync_survey.specs.Faults.{survey_view}
 use Rattle.laying.proofs.info.kept_fields.Goals as goal
 
-pub returns-in_default : goal.returns-in_default
-returns-in_default g c = record {
-  kept = let none = sym c.head.ensures ∙ c.in_default.is in
-      λ file holds. (
-        ap (λ (k : Kept). k.quality) c.none.ensures
-            ∙ quality-none file (survey_view c.args.survey.now).head none,
-        ap (λ (k : Kept). k.extension) c.none.ensures
-            ∙ extension-none file (survey_view c.args.survey.now).head none,
+pub returns-in-Some : goal.returns-in-Some
+returns-in-Some g c = record {
+  kept = λ file holds.
+      let same = info-some file (survey_view c.args.survey.now).head c.in-Some.info
+      (sym c.in-Some.is ∙ c.in_ok-info.ensures.fields file holds) in (
+        c.of.ensures.quality ∙ ap (λ (i : Info). i.quality) same,
+        c.of.ensures.extension ∙ ap (λ (i : Info). i.extension) same,
       );
   none = search rules;
   done = search rules;
@@ -24,25 +22,13 @@ returns-in_default g c = record {
   counts = search rules;
 }
 
-pub read_exact-requires-clause-found : goal.read_exact-requires-clause-found
-read_exact-requires-clause-found g c =
-    λ file holds. (c.requires.exact file holds).long ∙ sym c.length.ensures
-
-pub returns : goal.returns
-returns g c = record {
+pub returns-in-None : goal.returns-in-None
+returns-in-None g c = record {
   kept = λ file holds.
-      let head = c.in-Some.head in
-      let blank : List ℕ = take c.length-length.result (replicate 1441 0) in
-      let many : length blank ≡ c.length-length.result =
-      length-take-le c.length-length.result (replicate 1441 0)
-      (omega (arith, length-replicate {A = ℕ} 1441 0, c.length-length.ensures.most)) in
-      let bytes : c.read_exact.new.into ≡ take (length blank) (drop head.offset file) =
-      c.in_ok-read_exact.ensures.bytes file holds in
-      let same = info-some file c.read_exact.new.into (survey_view c.args.survey.now).head head
-      (sym c.head.ensures ∙ c.in-Some.is) (bytes
-      ∙ ap (λ n. take n (drop head.offset file)) (many ∙ c.length-length.ensures.length)) in (
-        c.read.ensures.quality ∙ ap (λ (i : Info). i.quality) same,
-        c.read.ensures.extension ∙ ap (λ (i : Info). i.extension) same,
+      let head = (survey_view c.args.survey.now).head in
+      let none = sym c.in-None.is ∙ c.in_ok-info.ensures.fields file holds in (
+        ap (λ (k : Kept). k.quality) c.none.ensures ∙ quality-none file head none,
+        ap (λ (k : Kept). k.extension) c.none.ensures ∙ extension-none file head none,
       );
   none = search rules;
   done = search rules;
