@@ -17,8 +17,8 @@ use Rattle.laying.specs.Fits.{AreInSlots, FitsFromReach, IsFittingPlan, placed_a
 use Rattle.laying.specs.{Fits.reach_behind, InfoLaws.SlotsArePlanned}
 use Rattle.laying.specs.LaidFiles.{AreBlocks, AreStreamEntries, HasInfoSizes, IsLaidFile, laid_file}
 use Rattle.laying.specs.{LaidFiles.stream_entry, LaidLaws.LosesNoFrame}
-use Rattle.laying.specs.Laws.{AreFramesOfStream, EntriesHold, FilesHold, FittingFilesHold}
-use Rattle.laying.specs.Laws.{FittingSlots, PlannedFramesStay}
+use Rattle.laying.specs.Laws.{AreFramesOfStream, EachLaidFile, EntriesHold, FilesHold}
+use Rattle.laying.specs.Laws.{FittingFilesHold, FittingSlots, PlannedFramesStay}
 use Rattle.laying.specs.Relaid.{FilePart, IsPart, part_frames, part_needs, part_stream}
 use Rattle.laying.specs.{Relaid.{relaid_frames, rest_behind, stream_with_lead_ins}, Written.slot_in}
 use Rattle.slot_plan.specs.declared.needs.{Need.Need, Placed.Placed}
@@ -173,10 +173,7 @@ module _ (c : ClassFields) (part : FilePart) (placed : List Placed) (is : IsPart
   }
 
   -- no frame of a file of them is lost, whether or not its head is set apart
-  pub fitting-loses-none : (front : List (List ℕ)) (first : HeaderFields) (info : Info)
-      (back : List (List ℕ))
-      → AreBlocks front → IsHeader first → class_of first ≡ c → HasInfoSizes info → AreBlocks back
-      → LosesNoFrame (laid_file front first info (relaid_frames (part_frames part) placed) back)
+  pub fitting-loses-none : EachLaidFile c (relaid_frames (part_frames part) placed) LosesNoFrame
   fitting-loses-none = file-loses-none c (relaid_frames (part_frames part) placed)
       (stream_with_lead_ins placed (part_stream part)) fitting_as
 

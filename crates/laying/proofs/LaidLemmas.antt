@@ -14,7 +14,8 @@ use Rattle.laying.specs.Laid.{file_laid, file_with_first, frames_laid, info_laid
 use Rattle.laying.specs.Laid.{IsWritableSelection, LaidPart, needs_laid, selected_front}
 use Rattle.laying.specs.Laid.{selected_part, source_part, stream_laid}
 use Rattle.laying.specs.{LaidFiles.{HasInfoSizes, laid_file}, LaidLaws.LosesNoFrame}
-use Rattle.laying.specs.{Laws.ChosenFramesStay, Needs.need_of, Relaid.IsPart, Surveys.CanBeRelaid}
+use Rattle.laying.specs.{Laws.{ChosenFramesStay, EachLaidFile}, Needs.need_of, Relaid.IsPart}
+use Rattle.laying.specs.Surveys.{CanBeRelaid}
 use Rattle.laying.specs.Written.{back_blocks, front_blocks, slot_in, table_entry}
 use Rattle.laying.specs.declared.selected.Selected.{Selected}
 use Rattle.slot_plan.specs.{Parts.AreNeedsOfClass, declared.needs.Placed.Placed}
@@ -76,37 +77,30 @@ module _ (laid : LaidPart) (file : List ℕ) (s : SurveyFields) (is : CanBeRelai
     first-class = (subst (λ (l : List Row). AreNeedsOfClass s.class (map need_of l)) rows_are
         (part-fits s laid.from laid.to is.placed).0).0
 
-    first-loses-none : length laid.extension ≡ 36
-        → LosesNoFrame (file_with_first (Some first) laid file s)
-    first-loses-none extension =
+    first-file : (P : List ℕ → Type 0) → EachLaidFile s.class (frames_laid laid file s) P
+        → length laid.extension ≡ 36 → P (file_with_first (Some first) laid file s)
+    first-file P each extension =
         let kept = blocks-kept file s is in
-        fitting-loses-none s.class (source_part laid file s) laid.placed part_is fitting
-        (front_blocks file s) first.header (info_laid laid file s)
+        each (front_blocks file s) first.header (info_laid laid file s)
         (back_blocks file s) kept.0 first-header first-class (sizes extension) kept.1
 
-    first-holds : length laid.extension ≡ 36
-        → HoldsStream (file_with_first (Some first) laid file s) (stream_laid laid file s)
-    first-holds extension =
-        let kept = blocks-kept file s is in
-        fitting-files-hold s.class (source_part laid file s) laid.placed part_is fitting
-        (front_blocks file s) first.header (info_laid laid file s)
-        (back_blocks file s) kept.0 first-header first-class (sizes extension) kept.1
+  of_each : (P : List ℕ → Type 0) → EachLaidFile s.class (frames_laid laid file s) P
+      → length laid.extension ≡ 36 → P (file_laid laid file s)
+  of_each P each extension =
+      let found = first-there s.frames laid.from (omega (arith, some, within)) in
+      subst (λ (o : Option Row). P (file_with_first o laid file s)) (sym found.1)
+      (first-file found.0 found.1 P each extension)
 
   -- the file is well-formed, and that is its stream
   pub laid-holds : length laid.extension ≡ 36
       → HoldsStream (file_laid laid file s) (stream_laid laid file s)
-  laid-holds extension =
-      let found = first-there s.frames laid.from (omega (arith, some, within)) in
-      subst (λ (o : Option Row). HoldsStream (file_with_first o laid file s)
-      (stream_laid laid file s))
-      (sym found.1) (first-holds found.0 found.1 extension)
+  laid-holds = of_each (λ f. HoldsStream f (stream_laid laid file s))
+      (fitting-files-hold s.class (source_part laid file s) laid.placed part_is fitting)
 
   -- no frame of the file is lost
   pub laid-loses-none : length laid.extension ≡ 36 → LosesNoFrame (file_laid laid file s)
-  laid-loses-none extension =
-      let found = first-there s.frames laid.from (omega (arith, some, within)) in
-      subst (λ (o : Option Row). LosesNoFrame (file_with_first o laid file s)) (sym found.1)
-      (first-loses-none found.0 found.1 extension)
+  laid-loses-none = of_each LosesNoFrame
+      (fitting-loses-none s.class (source_part laid file s) laid.placed part_is fitting)
 
 -- no chosen frame is lost
 pub chosen-frames-stay : ChosenFramesStay

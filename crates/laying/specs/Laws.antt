@@ -36,16 +36,21 @@ EntriesHold =
     (relaid_frames (flat_map part_frames parts) placed)
     (stream_with_lead_ins placed (flat_map part_stream parts))
 
+-- this is true of each file of these frames between blocks and after an Info frame of their class
+abbrev pub EachLaidFile : ClassFields → List Frame → (List ℕ → Type 0) → Type 0
+EachLaidFile c frames P =
+    (front : List (List ℕ)) (first : HeaderFields) (info : Info) (back : List (List ℕ))
+    → AreBlocks front → IsHeader first → class_of first ≡ c → HasInfoSizes info → AreBlocks back
+    → P (laid_file front first info frames back)
+
 -- a file of them between blocks and after an Info frame is well-formed and has that stream
 abbrev pub FilesHold : Type 0
 FilesHold =
     (c : ClassFields) (choices : HeaderFields → List SlotFields) (parts : List FilePart)
     (placed : List Placed) → 1 ≤ length parts → AreParts c parts → AreSlots choices
-    → IsPlan (window_of c.version) choices (map part_needs parts) placed → (front : List (List ℕ))
-    (first : HeaderFields) (info : Info) (back : List (List ℕ)) → AreBlocks front → IsHeader first
-    → class_of first ≡ c → HasInfoSizes info → AreBlocks back → HoldsStream
-    (laid_file front first info (relaid_frames (flat_map part_frames parts) placed) back)
-    (stream_with_lead_ins placed (flat_map part_stream parts))
+    → IsPlan (window_of c.version) choices (map part_needs parts) placed
+    → EachLaidFile c (relaid_frames (flat_map part_frames parts) placed)
+    (λ file. HoldsStream file (stream_with_lead_ins placed (flat_map part_stream parts)))
 
 -- by a survey of a file without fault its frames can be repacked
 abbrev pub SurveysCanBeRelaid : Type 0
@@ -78,11 +83,9 @@ PlansAreOfParts =
 abbrev pub FittingFilesHold : Type 0
 FittingFilesHold =
     (c : ClassFields) (part : FilePart) (placed : List Placed) → IsPart c part
-    → IsFittingPlan (window_of c.version) (part_needs part) placed → (front : List (List ℕ))
-    (first : HeaderFields) (info : Info) (back : List (List ℕ)) → AreBlocks front → IsHeader first
-    → class_of first ≡ c → HasInfoSizes info → AreBlocks back → HoldsStream (laid_file front first
-    info (relaid_frames (part_frames part) placed) back)
-    (stream_with_lead_ins placed (part_stream part))
+    → IsFittingPlan (window_of c.version) (part_needs part) placed
+    → EachLaidFile c (relaid_frames (part_frames part) placed)
+    (λ file. HoldsStream file (stream_with_lead_ins placed (part_stream part)))
 
 -- these frames are in the slots of the plan, one for each place
 abbrev pub FittingSlots : Type 0
@@ -107,7 +110,5 @@ abbrev pub PlannedFramesStay : Type 0
 PlannedFramesStay =
     (c : ClassFields) (choices : HeaderFields → List SlotFields) (parts : List FilePart)
     (placed : List Placed) → 1 ≤ length parts → AreParts c parts → AreSlots choices
-    → IsPlan (window_of c.version) choices (map part_needs parts) placed → (front : List (List ℕ))
-    (first : HeaderFields) (info : Info) (back : List (List ℕ)) → AreBlocks front → IsHeader first
-    → class_of first ≡ c → HasInfoSizes info → AreBlocks back → LosesNoFrame
-    (laid_file front first info (relaid_frames (flat_map part_frames parts) placed) back)
+    → IsPlan (window_of c.version) choices (map part_needs parts) placed
+    → EachLaidFile c (relaid_frames (flat_map part_frames parts) placed) LosesNoFrame
