@@ -75,38 +75,6 @@ front-four h s rest =
     ap (take 4) (append_assoc (bytes (header_bits h)) (crc_part h s ++ side) rest)
     ∙ take_at (bytes (header_bits h)) ((crc_part h s ++ side) ++ rest) 4 (length-header h)
 
--- putting the side information into the frame again changes nothing
-put_again : (h : HeaderFields) (s : Side) (rest : List ℕ) → IsHeader h → IsShaped s
-    → frame_with_side h s (frame_front_bytes h s ++ rest) ≡ frame_front_bytes h s ++ rest
-unfolding frame_with_side frame_front_bytes
-put_again h s rest is pairs =
-    let head = bytes (header_bits h) in
-    let side = bytes (side_bits (class_of h) s) in
-    let over = overhead_of (class_of h) h.protected in
-    ap₂ (λ (xs ys : List ℕ). xs ++ (crc_part h s ++ (side ++ ys))) (front-four h s rest)
-    (drop_at (frame_front_bytes h s) rest over (length-front h s is pairs))
-    ∙ ap (λ (xs : List ℕ). head ++ xs) (sym (append_assoc (crc_part h s) side rest))
-    ∙ sym (append_assoc head (crc_part h s ++ side) rest)
-
-room : (h : HeaderFields) (s : Side) (rest : List ℕ) → IsHeader h → IsShaped s
-    → HasRoom h (frame_front_bytes h s ++ rest)
-room h s rest is pairs =
-    omega (arith, length-front h s is pairs, length-append (frame_front_bytes h s) rest)
-
--- the side information is read back
-pub front-side : (h : HeaderFields) (s : Side) (rest : List ℕ) → IsHeader h → IsShaped s
-    → SideFits (class_of h) s → side_in h (frame_front_bytes h s ++ rest) ≡ s
-front-side h s rest is pairs fits =
-    ap (side_in h) (sym (put_again h s rest is pairs)) ∙ side_in-frame_with h s
-    (frame_front_bytes h s ++ rest) (IsClass-class_of h is) pairs fits (room h s rest is pairs)
-
--- the check word of the frame is right
-pub front-word : (h : HeaderFields) (s : Side) (rest : List ℕ) → IsHeader h → IsShaped s
-    → h.protected ≡ true → stored_crc (frame_front_bytes h s ++ rest) ≡ check_word_of h s
-front-word h s rest is pairs protected =
-    ap stored_crc (sym (put_again h s rest is pairs))
-    ∙ word_said-frame_with h s (frame_front_bytes h s ++ rest) protected (room h s rest is pairs)
-
 front_header : (h : HeaderFields) (s : Side) (rest : List ℕ) → IsHeader h
     → header_front (frame_front_bytes h s ++ rest) ≡ Ok h
 unfolding frame_front_bytes
@@ -115,26 +83,48 @@ front_header h s rest is =
     ap header_front (append_assoc (bytes (header_bits h)) (crc_part h s ++ side) rest)
     ∙ header_front-is h ((crc_part h s ++ side) ++ rest) is
 
+module _ (h : HeaderFields) (s : Side) (rest : List ℕ) (is : IsHeader h) (pairs : IsShaped s) where
+  -- putting the side information into the frame again changes nothing
+  put_again : frame_with_side h s (frame_front_bytes h s ++ rest) ≡ frame_front_bytes h s ++ rest
+  unfolding frame_with_side frame_front_bytes
+  put_again =
+      let head = bytes (header_bits h) in
+      let side = bytes (side_bits (class_of h) s) in
+      let over = overhead_of (class_of h) h.protected in
+      ap₂ (λ (xs ys : List ℕ). xs ++ (crc_part h s ++ (side ++ ys))) (front-four h s rest)
+      (drop_at (frame_front_bytes h s) rest over (length-front h s is pairs))
+      ∙ ap (λ (xs : List ℕ). head ++ xs) (sym (append_assoc (crc_part h s) side rest))
+      ∙ sym (append_assoc head (crc_part h s ++ side) rest)
+
+  room : HasRoom h (frame_front_bytes h s ++ rest)
+  room = omega (arith, length-front h s is pairs, length-append (frame_front_bytes h s) rest)
+
+  -- the side information is read back
+  pub front-side : SideFits (class_of h) s → side_in h (frame_front_bytes h s ++ rest) ≡ s
+  front-side fits = ap (side_in h) (sym put_again) ∙ side_in-frame_with h s
+      (frame_front_bytes h s ++ rest) (IsClass-class_of h is) pairs fits room
+
+  -- the check word of the frame is right
+  pub front-word : h.protected ≡ true
+      → stored_crc (frame_front_bytes h s ++ rest) ≡ check_word_of h s
+  front-word protected = ap stored_crc (sym put_again)
+      ∙ word_said-frame_with h s (frame_front_bytes h s ++ rest) protected room
+
 -- ---- the frame
 
--- with its area the frame is as long as its header says
-pub length-entry : (h : HeaderFields) (s : Side) (area : List ℕ) → IsHeader h → IsShaped s
-    → length area ≡ area_of (class_of h) h.slot h.protected
-    → length (frame_front_bytes h s ++ area) ≡ length_of (class_of h) h.slot
-length-entry h s area is pairs many =
-    omega (
-      arith,
-      many,
-      length-append (frame_front_bytes h s) area,
-      length-front h s is pairs,
-      (area-is (class_of h) h.slot h.protected (IsClass-class_of h is) is.slot).0,
-    )
+module _ (h : HeaderFields) (s : Side) (area : List ℕ) (is : IsHeader h) (pairs : IsShaped s)
+    (many : length area ≡ area_of (class_of h) h.slot h.protected) where
+  -- with its area the frame is as long as its header says
+  pub length-entry : length (frame_front_bytes h s ++ area) ≡ length_of (class_of h) h.slot
+  length-entry = omega (
+    arith,
+    many,
+    length-append (frame_front_bytes h s) area,
+    length-front h s is pairs,
+    (area-is (class_of h) h.slot h.protected (IsClass-class_of h is) is.slot).0,
+  )
 
--- the frame's bytes are an item
-pub entry_item : (h : HeaderFields) (s : Side) (area : List ℕ) → IsHeader h → IsShaped s
-    → length area ≡ area_of (class_of h) h.slot h.protected
-    → IsItem (FrameItem h) (frame_front_bytes h s ++ area)
-entry_item h s area is pairs many =
-    let long = length-entry h s area is pairs many in
-    frame_item h (frame_front_bytes h s ++ area) (front_header h s area is) long
-    (omega (arith, long, frame-least h is))
+  -- the frame's bytes are an item
+  pub entry_item : IsItem (FrameItem h) (frame_front_bytes h s ++ area)
+  entry_item = frame_item h (frame_front_bytes h s ++ area) (front_header h s area is) length-entry
+      (omega (arith, length-entry, frame-least h is))

@@ -37,10 +37,15 @@ pub range-none : {X : Type 0} (xs : List X) (i to : ℕ) → to ≤ i → slice_
 range-none xs i to past = let none : to - i ≡ 0 = omega (arith, past) in
     ap (λ n. take n (drop i xs)) none
 
--- the item at a place of a list is found there
-pub found-at : {X : Type 0} (xs : List X) (i : ℕ) (x : X) → i < length xs → x ≡ get_or xs i x
-    → slice_get xs i ≡ Some x
-found-at xs i x within is = slice_get-get_or xs i x within ∙ ap (λ y. Some y) (sym is)
+module _ {X : Type 0} (xs : List X) (i : ℕ) (x : X) (within : i < length xs)
+    (is : x ≡ get_or xs i x) where
+  -- the item at a place of a list is found there
+  pub found-at : slice_get xs i ≡ Some x
+  found-at = slice_get-get_or xs i x within ∙ ap (λ y. Some y) (sym is)
+
+  -- what is left from a place on is the item there and those after it
+  pub item-next : drop i xs ≡ x ∷ drop (i + 1) xs
+  item-next = drop-next xs i x found-at
 
 -- the item at a place of a list is at that place of an equal list
 pub read-at : {X : Type 0} (xs ys : List X) (i : ℕ) (x : X) → i < length ys → xs ≡ ys
@@ -48,11 +53,6 @@ pub read-at : {X : Type 0} (xs ys : List X) (i : ℕ) (x : X) → i < length ys 
 read-at {X} xs ys i x within same is =
     let here : i < length xs = omega (arith, within, ap length same) in
     ap (λ (l : List X). slice_get l i) (sym same) ∙ found-at xs i x here is
-
--- what is left from a place on is the item there and those after it
-pub item-next : {X : Type 0} (xs : List X) (i : ℕ) (x : X) → i < length xs → x ≡ get_or xs i x
-    → drop i xs ≡ x ∷ drop (i + 1) xs
-item-next xs i x within is = drop-next xs i x (found-at xs i x within is)
 
 -- what is left after a lead-in or a frame
 pub left-range : {X : Type 0} (xs : List X) (i to next : ℕ) (x : X) (b : Bool)
