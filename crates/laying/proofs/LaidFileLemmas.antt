@@ -15,6 +15,7 @@ use Rattle.laying.proofs.LaidFrameLemmas.{areas-there, row-get, rows-there, Stan
 use Rattle.laying.proofs.LaidRunLemmas.{blocks-are, frames-are, frames-stand, head-is, head_area-is}
 use Rattle.laying.proofs.LaidRunLemmas.{no-end_fault, start, start-is}
 use Rattle.laying.proofs.LaidSoundLemmas.{laid-near, laid-sound, none-marked, starts-there}
+use Rattle.laying.proofs.RelayLemmas.{AreOnward, onward-all, onward-first, onward-rest}
 use Rattle.laying.specs.LaidFiles.{AreStreamEntries, frame_length, frames_offset, head_at}
 use Rattle.laying.specs.LaidFiles.{IsLaidFile, IsStreamEntry, laid_fields, laid_file, rows_from}
 use Rattle.laying.specs.LaidFiles.{stream_entry}
@@ -71,14 +72,14 @@ HasPayload main head rows i f = (at : ℕ) → slice_get rows i ≡ Some (row_at
 
 frames_by : (main : List ℕ) (head : Option Head) (rows : List Row) (n at : ℕ) (fs : List Frame)
     → ((i : ℕ) (f : Frame) → slice_get fs i ≡ Some f → HasPayload main head rows (n + i) f)
-    → ((i : ℕ) (r : Row) → slice_get (rows_from at fs) i ≡ Some r → slice_get rows (n + i) ≡ Some r)
+    → AreOnward rows n (rows_from at fs)
     → map (λ (p : ℕ × Row). stream_frame main head rows p.0 p.1)
     (enumerate_from n (rows_from at fs)) ≡ map stream_entry fs
 frames_by main head rows n at [] has there = refl
 frames_by main head rows n at (f ∷ fs) has there =
     let none : n + 0 ≡ n = omega arith in
-    let here : slice_get rows n ≡ Some (row_at at f) =
-    ap (slice_get rows) (sym none) ∙ there 0 (row_at at f) refl in
+    let later = rows_from (at + frame_length f) fs in
+    let here = onward-first rows n (row_at at f) later there in
     let area_data : payload_at main (start_of_data (place head rows n) (row_at at f)) f.kept.side
     ≡ take (payload_bits f.kept.side) (bits f.payload) =
     subst (λ m. HasPayload main head rows m f) none (has 0 f refl) at here in
@@ -91,7 +92,7 @@ frames_by main head rows n at (f ∷ fs) has there =
     ap₂ (λ (x : StreamFrame) (xs : List StreamFrame). x ∷ xs) own
     (frames_by main head rows (n + 1) (at + frame_length f) fs
     (λ i g is. subst (λ m. HasPayload main head rows m g) (omega arith) (has (suc i) g is))
-    (λ i r is. ap (slice_get rows) (omega arith) ∙ there (suc i) r is))
+    (onward-rest rows n (n + 1) (row_at at f) later refl there))
 
 -- frames whose main data are where their side information says are the given frames
 pub entries_by : (main : List ℕ) (head : Option Head) (at : ℕ) (fs : List Frame)
@@ -102,7 +103,7 @@ entries_by main head at fs has =
     frames_by main head (rows_from at fs) 0 at fs
     (λ i f is. subst (λ m. HasPayload main head (rows_from at fs) m f) (sym (zero-add i))
     (has i f is))
-    (λ i r is. ap (slice_get (rows_from at fs)) (zero-add i) ∙ is)
+    (onward-all (rows_from at fs))
 
 -- ---- the file
 

@@ -9,8 +9,9 @@ use Rattle.std.proofs.Common.{zero, ℕ, [], ◌+◌, ◌-◌, ◌||◌, ◌∙�
 use Rattle.std.proofs.lemmas.{Bool.{eqb-true, ltb-false}, List.{drop-map, take-map}}
 use Rattle.std.proofs.lemmas.List.Sums.{sum_by-cons}
 use Rattle.frame_header.specs.{Fields.{ClassFields, IsHeader}, Tables.window_of}
-use Rattle.laying.{proofs.BeginLemmas.begin-near, specs.{Needs.need_of, NeedsFit.IsPlacedSurvey}}
-use Rattle.laying.specs.Passing.{needs_from}
+use Rattle.laying.proofs.BeginLemmas.{begin-near}
+use Rattle.laying.proofs.RelayLemmas.{AreOnward, onward-all, onward-first, onward-rest}
+use Rattle.laying.specs.{Needs.need_of, NeedsFit.IsPlacedSurvey, Passing.needs_from}
 use Rattle.side_info.specs.Side.{payload_bits, payload_bytes}
 use Rattle.slot_plan.proofs.{FreeByteLemmas.within-fit, PartLemmas.class-range}
 use Rattle.slot_plan.proofs.ReserveLemmas.{AllFit, fit-from, layout-fit, starts_of}
@@ -101,45 +102,32 @@ known-drop _ _ all = all
 
 module _ (head : Option Head) (class : ClassFields) (rows : List Row)
     (placed : AreWellPlaced head class rows) where
-  -- these rows are those from number n on
-  abbrev StandFrom : ℕ → List Row → Type 0
-  StandFrom n xs = (i : ℕ) (r : Row) → slice_get xs i ≡ Some r → slice_get rows (n + i) ≡ Some r
-
-  first_stands : (n : ℕ) (r : Row) (xs : List Row) → StandFrom n (r ∷ xs)
-      → slice_get rows n ≡ Some r
-  first_stands n r xs stand = ap (slice_get rows) (omega arith) ∙ stand zero r refl
-
-  rest_stand : (n : ℕ) (r : Row) (xs : List Row) → StandFrom n (r ∷ xs) → StandFrom (suc n) xs
-  rest_stand n r xs stand = λ i q is. ap (slice_get rows) (omega arith) ∙ stand (suc i) q is
-
-  all_stand : StandFrom 0 rows
-  all_stand = λ i r is. ap (slice_get rows) (omega arith) ∙ is
-
-  classes_from : (n : ℕ) (xs : List Row) → StandFrom n xs → AreNeedsOfClass class (map need_of xs)
+  classes_from : (n : ℕ) (xs : List Row) → AreOnward rows n xs
+      → AreNeedsOfClass class (map need_of xs)
   unfolding AreNeedsOfClass
   classes_from n [] stand = tt
   classes_from n (r ∷ xs) stand = (
-    (placed n r (first_stands n r xs stand)).class_is,
-    classes_from (suc n) xs (rest_stand n r xs stand),
+    (placed n r (onward-first rows n r xs stand)).class_is,
+    classes_from (suc n) xs (onward-rest rows n (suc n) r xs (omega arith) stand),
   )
 
-  known_from : (n : ℕ) (xs : List Row) → StandFrom n xs → AreKnown xs
+  known_from : (n : ℕ) (xs : List Row) → AreOnward rows n xs → AreKnown xs
   known_from n [] stand = tt
   known_from n (r ∷ xs) stand = (
-    (placed n r (first_stands n r xs stand)).known,
-    known_from (suc n) xs (rest_stand n r xs stand),
+    (placed n r (onward-first rows n r xs stand)).known,
+    known_from (suc n) xs (onward-rest rows n (suc n) r xs (omega arith) stand),
   )
 
   abbrev of_class : ℕ
   of_class = window_of class.version
 
-  fit_from : (n : ℕ) (xs : List Row) (free : ℕ) → StandFrom n xs → data_end_before head rows n
+  fit_from : (n : ℕ) (xs : List Row) (free : ℕ) → AreOnward rows n xs → data_end_before head rows n
       ≤ place head rows n → shown of_class (place head rows n) (data_end_before head rows n) ≤ free
       → AllFit of_class free (map own_frame (map need_of xs))
   unfolding AllFit
   fit_from n [] free stand ends some = tt
   fit_from n (r ∷ xs) free stand ends some =
-      let here = first_stands n r xs stand in
+      let here = onward-first rows n r xs stand in
       let is = placed n r here in
       let step = step_by of_class (place head rows n) (data_end_before head rows n) free r
       (is_silent r) r.lost refl (sym is.mark)
@@ -150,13 +138,13 @@ module _ (head : Option Head) (class : ClassFields) (rows : List Row)
       (data_end_before head rows n) (end_of_data (place head rows n) r)) (sym is.mark) in (
         step.0,
         fit_from (suc n) xs (free_bytes_behind of_class free (need_of r).bytes (own_area r.header))
-            (rest_stand n r xs stand) (omega (arith, at, ended, step.1))
+            (onward-rest rows n (suc n) r xs (omega arith) stand) (omega (arith, at, ended, step.1))
             (omega (arith, at, ended, step.2)),
       )
 
   fit_all : AllFit of_class of_class (map own_frame (map need_of rows))
   unfolding data_end_before
-  fit_all = fit_from 0 rows of_class all_stand (omega arith) (omega arith)
+  fit_all = fit_from 0 rows of_class (onward-all rows) (omega arith) (omega arith)
 
 -- the frames of a stream without a head fit after no free
 -- bytes: none of them has main data before the first
@@ -165,7 +153,7 @@ pub rows-alone : (class : ClassFields) (rows : List Row) → AreWellPlaced None 
 unfolding data_end_before place
 rows-alone class rows placed =
     within-fit (window_of class.version) 0 (map own_frame (map need_of rows)) (omega arith)
-    (fit_from None class rows placed 0 rows 0 (all_stand None class rows placed) (omega arith)
+    (fit_from None class rows placed 0 rows 0 (onward-all rows) (omega arith)
     (omega arith))
 
 -- ---- a part of them
@@ -215,11 +203,12 @@ part_of s from to classes fit =
 -- every part of a placed survey fits in its own slots after a whole window
 pub part-fits : (s : SurveyFields) (from to : ℕ) → IsPlacedSurvey s → Fits s from to
 part-fits s from to placed = part_of s from to (classes_from s.head s.class s.frames placed 0
-    s.frames (all_stand s.head s.class s.frames placed)) (fit_all s.head s.class s.frames placed)
+    s.frames (onward-all s.frames))
+    (fit_all s.head s.class s.frames placed)
 
 -- the frames of every part of a placed survey have headers of the standard
 pub part-known : (s : SurveyFields) (from to : ℕ) → IsPlacedSurvey s
     → AreKnown (slice_range s.frames from to)
 part-known s from to placed =
     known-take (to - from) (drop from s.frames) (known-drop from s.frames (known_from s.head s.class
-    s.frames placed 0 s.frames (all_stand s.head s.class s.frames placed)))
+    s.frames placed 0 s.frames (onward-all s.frames)))

@@ -54,6 +54,26 @@ read-at {X} xs ys i x within same is =
     let here : i < length xs = omega (arith, within, ap length same) in
     ap (λ (l : List X). slice_get l i) (sym same) ∙ found-at xs i x here is
 
+module _ {X : Type 0} (xs : List X) where
+  -- these items are those from number n on
+  abbrev pub AreOnward : ℕ → List X → Type 0
+  AreOnward n more = (i : ℕ) (x : X) → slice_get more i ≡ Some x → slice_get xs (n + i) ≡ Some x
+
+  -- the first of them is item n
+  pub onward-first : (n : ℕ) (x : X) (more : List X) → AreOnward n (x ∷ more)
+      → slice_get xs n ≡ Some x
+  onward-first n x more are = ap (slice_get xs) (omega arith) ∙ are 0 x refl
+
+  -- those after it are the items from the next number on
+  pub onward-rest : (n next : ℕ) (x : X) (more : List X) → next ≡ n + 1 → AreOnward n (x ∷ more)
+      → AreOnward next more
+  onward-rest n next x more after are =
+      λ i y is. ap (slice_get xs) (omega (arith, after)) ∙ are (suc i) y is
+
+  -- all items are those from number 0 on
+  pub onward-all : AreOnward 0 xs
+  onward-all = λ i x is. ap (slice_get xs) (omega arith) ∙ is
+
 -- what is left after a lead-in or a frame
 pub left-range : {X : Type 0} (xs : List X) (i to next : ℕ) (x : X) (b : Bool)
     → slice_get xs i ≡ Some x → i < to → next ≡ i + cond b 0 1

@@ -13,6 +13,7 @@ use Rattle.frame_header.proofs.{HeaderLemmas.IsClass-class_of, SlotLemmas.area-i
 use Rattle.frame_header.specs.{Fields.{ClassFields, HeaderFields}, Tables.{class_of, overhead_of}}
 use Rattle.frame_writer.{proofs.LaidLemmas.length-zeros, specs.{Frames.Frame, Laid.zeros}}
 use Rattle.laying.proofs.BlockLemmas.{surveyed-blocks}
+use Rattle.laying.proofs.RelayLemmas.{AreOnward, onward-all, onward-first, onward-rest}
 use Rattle.laying.specs.LaidFiles.{AreStreamEntries, HasPairs, IsStreamEntry, stream_entry}
 use Rattle.laying.specs.{Laws.SurveysCanBeRelaid, Relaid.{all_frames, packed_bytes}}
 use Rattle.laying.specs.Surveys.{AreWholeRows, CanBeRelaid, HasWholeHead, IsWholeFrameAt}
@@ -349,31 +350,22 @@ module _ (file : List ℕ) (head : Option Head) (c : ClassFields) (rows : List R
         packed_bytes (payload_at main (start_of_data (place head rows p.0) p.1) (row_side p.1));
   }
 
-  abbrev AreAt : ℕ → List Row → Type 0
-  AreAt n more = (i : ℕ) (r : Row) → slice_get more i ≡ Some r → slice_get rows (n + i) ≡ Some r
-
-  first_at : (n : ℕ) (r : Row) (more : List Row) → AreAt n (r ∷ more) → slice_get rows n ≡ Some r
-  first_at n r more at = ap (slice_get rows) (omega arith) ∙ at 0 r refl
-
-  later_at : (n : ℕ) (r : Row) (more : List Row) → AreAt n (r ∷ more) → AreAt (n + 1) more
-  later_at n r more at = λ i q is. ap (slice_get rows) (omega arith) ∙ at (suc i) q is
-
-  each-entries : (n : ℕ) (more : List Row) → AreWholeRows file more → AreAt n more
+  each-entries : (n : ℕ) (more : List Row) → AreWholeRows file more → AreOnward rows n more
       → AreStreamEntries c (map each (enumerate_from n more))
   each-entries n [] whole_rows at = tt
   each-entries n (r ∷ more) whole_rows at = (
-    own-entry n r (first_at n r more at) whole_rows.0,
-    each-entries (n + 1) more whole_rows.1 (later_at n r more at),
+    own-entry n r (onward-first rows n r more at) whole_rows.0,
+    each-entries (n + 1) more whole_rows.1 (onward-rest rows n (n + 1) r more refl at),
   )
 
-  each-stream : (n : ℕ) (more : List Row) → AreWholeRows file more → AreAt n more
+  each-stream : (n : ℕ) (more : List Row) → AreWholeRows file more → AreOnward rows n more
       → map stream_entry (map each (enumerate_from n more))
       ≡ map (λ (p : ℕ × Row). stream_frame main head rows p.0 p.1) (enumerate_from n more)
   each-stream n [] whole_rows at = refl
   each-stream n (r ∷ more) whole_rows at =
       ap₂ (λ (x : StreamFrame) (xs : List StreamFrame). x ∷ xs)
-      (own-stream n r (first_at n r more at) whole_rows.0)
-      (each-stream (n + 1) more whole_rows.1 (later_at n r more at))
+      (own-stream n r (onward-first rows n r more at) whole_rows.0)
+      (each-stream (n + 1) more whole_rows.1 (onward-rest rows n (n + 1) r more refl at))
 
 -- ---- the frames of a survey
 
@@ -385,15 +377,12 @@ pub record AreFramesOf (file : List ℕ) (s : SurveyFields) : Type 0 where
 -- the frames of a survey whose file can be repacked are frames with side information and main data
 pub frames-of : (file : List ℕ) (s : SurveyFields) → CanBeRelaid file s → AreFramesOf file s
 unfolding all_frames stream_of_survey stream_frames
-frames-of file s has =
-    let at : AreAt file s.head s.class s.frames has.head has.rows has.placed 0 s.frames =
-    λ i r is. ap (slice_get s.frames) (omega arith) ∙ is in
-    record {
-      entries = each-entries file s.head s.class s.frames has.head has.rows has.placed 0
-          s.frames has.rows at;
-      stream_is = each-stream file s.head s.class s.frames has.head has.rows has.placed 0
-          s.frames has.rows at;
-    }
+frames-of file s has = record {
+  entries = each-entries file s.head s.class s.frames has.head has.rows has.placed 0
+      s.frames has.rows (onward-all s.frames);
+  stream_is = each-stream file s.head s.class s.frames has.head has.rows has.placed 0
+      s.frames has.rows (onward-all s.frames);
+}
 
 -- ---- a file without fault
 
