@@ -12,14 +12,9 @@ read_exact-requires-clause-found g c = λ bytes holds.
 
 pub returns-in-Err-clause-sheet : goal.returns-in-Err-clause-sheet
 returns-in-Err-clause-sheet g c =
-    let seen = g.D.Folder.seen in
-    let stops = read-stops c.args.sheet.now (seen c.args.folder.now).files
-    (seen c.sheet_length.new.folder).files (seen c.read_exact.new.folder).files
-    (seen c.args.folder.now).counts (seen c.sheet_length.new.folder).counts
-    (seen c.read_exact.new.folder).counts c.in_ok-length.length
-    c.sheet_length.ensures.sheet.reads.files c.read_exact.ensures.files
-    c.in_ok-length.ensures.sheet.reads.done c.in-Err.fault _ (ap (λ f. Input 1 f) c.into.ensures)
-    c.in-Err.ensures.cause in
+    let stops = read-stops c.args.sheet.now _ _ _ _ _ _ _ c.sheet_length.ensures.sheet.reads.files
+    c.read_exact.ensures.files c.in_ok-length.ensures.sheet.reads.done c.in-Err.fault _
+    (ap (λ f. Input 1 f) c.into.ensures) c.in-Err.ensures.cause in
     record {
       there = tt;
       refused = stops.0;
