@@ -29,7 +29,7 @@ unfolding head_info
 extension-none file None is = sym none-extension
 extension-none file (Some head) is = absurd cc
 
--- the fields of a head that is there are those of the head
+-- the fields of a file with a head are those that are read from its text
 pub info-some : (file : List ℕ) (head : Option Head) (info : Info)
     → Some info ≡ fields_of_head file head → info ≡ head_info file head
 info-some file None info is = absurd cc
