@@ -1,4 +1,4 @@
--- Where the head of a file is set apart, its frames fit behind no bytes.
+-- Where the head of a file is set apart, its frames fit with no free bytes before them.
 use Rattle.std.proofs.Common.{List, map, None, Option}
 use Rattle.frame_header.specs.{Fields.ClassFields, Tables.window_of}
 use Rattle.laying.{proofs.NeedsFitLemmas.rows-alone, specs.Needs.need_of}
@@ -7,7 +7,7 @@ use Rattle.sync_survey.proofs.{ApartLemmas.placed-apart, EmptiedLemmas.placed-em
 use Rattle.sync_survey.specs.{HeadApart.{emptied_row, rows_set_apart}, Row.Row}
 use Rattle.sync_survey.specs.{Survey.AreWellPlaced, declared.places.Head.Head}
 
--- the frames of a file without fault fit behind no bytes, if its head is set apart
+-- the frames of a file without fault fit with no free bytes before them, if its head is set apart
 pub apart-fit : (head : Option Head) (class : ClassFields) (rows : List Row)
     → AreWellPlaced head class rows → FitsBehind (window_of class.version) 0
     (map need_of (map emptied_row (rows_set_apart head rows)))

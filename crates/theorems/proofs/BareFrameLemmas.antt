@@ -1,4 +1,5 @@
--- What a frame with all main data is in a stream says the frame, but for its slot and its begin.
+-- What a frame with all main data is in a stream determines the frame, but for its slot and its
+-- begin.
 use Rattle.std.proofs.Common.{ap, ap₂, arith, Bool, drop, false, length, List, map, refl, subst}
 use Rattle.std.proofs.Common.{sum, sym, take, true, ℕ, [], ◌*◌, ◌++◌, ◌+◌, ◌-◌, ◌/◌, ◌∙◌, ◌∷◌, ◌≡◌}
 use Rattle.std.proofs.lemmas.List.{length-drop, length-take-le, take-append-drop, Sums.sum_by-cons}
@@ -39,7 +40,7 @@ lacks-others c s fits granule channel lacks =
     (granule_in s granule channel ≡ no_granule)) lacks
     (fits.granules granule channel)
 
--- they are as long as the main data
+-- the lengths of the granules add up to the length of the main data
 abbrev AreParts : ClassFields → Side → Type 0
 AreParts c s = LacksOthers c s
     → sum (map (λ (g : Granule). g.part2_3_length) (granules_in c s)) ≡ payload_bits s
@@ -110,7 +111,7 @@ module _ (c : ClassFields) (known : IsClass c) where
       concat-parts (granule_lengths f.kept.header f.kept.side) (own_bits f)
       (bits-long f is ∙ sym same)
 
-  -- of its side information the main data and their length are no part of main_data_begin
+  -- the payload bits of side information don't depend on its main_data_begin
   begun-bits : (s : Side) → payload_bits (record s { main_data_begin = 0 }) ≡ payload_bits s
   unfolding payload_bits
   begun-bits s = refl
@@ -163,7 +164,7 @@ module _ (c : ClassFields) (known : IsClass c) where
       ap₂ (λ (x : Frame) (xs : List Frame). x ∷ xs) (same-bare f g first.0 second.0 here)
       (bare-same fs gs first.1 second.1 more)
 
--- In the slots of a plan they are the same as without them.
+-- In the slots of a plan, bare frames are the same as the frames themselves.
 one-bare : (b : Bool) (p : Placed) (f : Frame) → one b p (bare f) ≡ one b p f
 one-bare true p f = refl
 one-bare false p f = refl

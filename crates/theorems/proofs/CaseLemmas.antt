@@ -17,14 +17,14 @@ use Rattle.sync_survey.specs.{MainData.StreamFrame, Survey.survey_of}
 use Rattle.theorems.{proofs.ExactLemmas.planned-exact, specs.Exact.IsExactly}
 use Rattle.theorems.specs.Laws.{ChosenPlansAreFirst, ChosenStreamsAreExact}
 
--- ---- frames of a file with a survey, whether or not it is one without fault
+-- ---- frames of a file with a survey, whether or not it is without fault
 
 module _ (chosen : Chosen) (file : List ℕ) (s : SurveyFields) (has : CanBeRelaid file s)
     (some : chosen.from < chosen.to) (within : chosen.to ≤ length s.frames) where
   abbrev part : FilePart
   part = chosen_file_part chosen file s
 
-  -- the chosen frames of a survey that is had are a part
+  -- the chosen frames of a file with such a survey are a part
   pub had-part : IsPart s.class part
   had-part = record { has = has; class = refl; some = some; within = within }
 
@@ -36,7 +36,7 @@ module _ (chosen : Chosen) (file : List ℕ) (s : SurveyFields) (has : CanBeRela
     pub had-plan : IsPlan (window_of s.class.version) choices (chosen_needs chosen s ∷ []) first
     had-plan = the-plan chosen s has.placed some within choices usual
 
-    -- the stream by it is exactly the frames, behind at most one lead-in
+    -- the stream laid by that plan is exactly the frames, after at most one lead-in
     pub had-exact : IsExactly (part_stream part ∷ [])
         (stream_with_lead_ins first (part_stream part))
     had-exact =
@@ -45,9 +45,9 @@ module _ (chosen : Chosen) (file : List ℕ) (s : SurveyFields) (has : CanBeRela
         (append-nil (part_stream part))
         (planned-exact s.class choices (part ∷ []) first (had-part, tt) had-plan)
 
--- ---- of one without fault
+-- ---- frames of a file without fault
 
--- the stream of a surveyed file is that of its survey
+-- the stream of a surveyed file is the stream of its survey
 pub stream-is : (file : List ℕ) (allowed : ℕ) (s : SurveyFields) → survey_of file allowed ≡ Ok s
     → stream_of file ≡ stream_of_survey file s
 stream-is file allowed s is =
@@ -58,7 +58,7 @@ module _ (chosen : Chosen) (file : List ℕ) (s : SurveyFields) (is : survey_of 
   abbrev had : CanBeRelaid file s
   had = survey-had file most_frames s is
 
-  -- so they are by any survey without fault
+  -- the chosen frames are a part by any survey without fault
   pub chosen-part : IsPart s.class (chosen_file_part chosen file s)
   chosen-part = had-part chosen file s had some within
 
@@ -68,7 +68,7 @@ module _ (chosen : Chosen) (file : List ℕ) (s : SurveyFields) (is : survey_of 
   own-stream = ap (λ (l : List StreamFrame). slice_range l chosen.from chosen.to)
       (stream-is file most_frames s is)
 
-  -- their stream by a usual plan is exactly these, behind at most one lead-in
+  -- their stream by a usual plan is exactly these frames, after at most one lead-in
   pub chosen-exact_is : (choices : HeaderFields → List SlotFields) → AreUsualChoices choices
       → IsExactly (slice_range (stream_of file) chosen.from chosen.to ∷ [])
       (stream_laid (placed_part chosen (first_plan choices s.class (chosen_needs chosen s))) file s)
@@ -78,7 +78,7 @@ module _ (chosen : Chosen) (file : List ℕ) (s : SurveyFields) (is : survey_of 
       (part_stream (chosen_file_part chosen file s))))
       (sym own-stream) (had-exact chosen file s had some within choices usual)
 
--- the stream of chosen frames is exactly these, behind at most one lead-in
+-- the stream of chosen frames is exactly these, after at most one lead-in
 pub chosen-exact : ChosenStreamsAreExact
 chosen-exact = λ choices chosen file s usual is some within. chosen-exact_is chosen file s is some
     within choices usual

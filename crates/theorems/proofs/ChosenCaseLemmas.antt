@@ -95,7 +95,7 @@ module _ (file : List ℕ) (s : SurveyFields) (is : survey_of file most_frames �
       (sym between.0)
       (chosen-exact_is chosen file s is between.1 between.2 choices usual)
 
-  -- those that a cut chooses, in the slots of their plan
+  -- the frames that a cut chooses, in the slots of their plan
   pub cut-exact : (from to : Place) (least : Bool) (chosen : Chosen) (placed : List Placed)
       → cut_choice from to file s ≡ Ok chosen
       → first_planning (slot_choices least) s.class (chosen_needs chosen s) ≡ Ok placed → IsExactly
@@ -118,7 +118,7 @@ module _ (file : List ℕ) (s : SurveyFields) (is : survey_of file most_frames �
       ∙ ap (λ (l : List StreamFrame). slice_range l 0 (length s.frames)) (stream-is file most_frames
       s is) ∙ whole-stream file s ∙ sym (stream-is file most_frames s is)
 
-  -- in the slots of the plan of a mode
+  -- all frames in the slots of the plan of a mode
   packed-is : (mode : PackMode) (chosen : Chosen) (placed : List Placed) → all_choice file s
       ≡ Ok chosen → mode_planning mode s.class (chosen_needs chosen s) ≡ Ok placed
       → IsExactly (stream_of file ∷ []) (stream_laid (placed_part chosen placed) file s)
@@ -135,7 +135,7 @@ module _ (file : List ℕ) (s : SurveyFields) (is : survey_of file most_frames �
 
 -- ---- the commands
 
--- the frames of the input are those of its bytes
+-- the input has these bytes
 abbrev Reads : Contents → List ℕ → List ℕ → Type 0
 Reads files input file = files input ≡ Some file
 
@@ -189,7 +189,7 @@ pub packed-made : (mode : PackMode) (o : Option (List ℕ)) (r : Result (List �
 packed-made Best o r new e = limited-made most_best o r new e
 packed-made _ o r new e = e
 
--- so does a packing
+-- a packing holds the frames that its job chooses
 pub pack-holds : (mode : PackMode) (input output : List ℕ)
     → HoldsChosen (Pack mode input output) (pack_mode_command mode input output)
 pack-holds mode input output files made e =

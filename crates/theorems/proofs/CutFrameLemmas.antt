@@ -1,4 +1,4 @@
--- The frames of a file that was cut short: the first of those that it had, each as it was.
+-- The frames of a file that was cut short: the first frames that it had, each as it was.
 use Rattle.std.proofs.Common.{ap, ap₂, arith, drop, false, inl, inr, length, List, None, Ok, Option}
 use Rattle.std.proofs.Common.{refl, Some, suc, sym, take, zero, ℕ, [], ◌++◌, ◌+◌, ◌-◌, ◌∙◌, ◌∷◌}
 use Rattle.std.proofs.{Common.{◌≡◌, ◌≤◌}, Math.Path.transport, lemmas.Bool.ne_eqb}
@@ -103,7 +103,7 @@ module _ (file : List ℕ) (n : ℕ) (within : n ≤ length file) where
     word-same = ap stored_crc (drop-cut file n within p.offset low)
         ∙ word_said-take (n - p.offset) (drop p.offset file) six
 
-    -- so are its bytes
+    -- the bytes of a frame that is still whole are the same
     pub bytes-same : frame_bytes now p ≡ frame_bytes file p
     bytes-same =
         let size = length_of (class_of p.header) p.header.slot in
@@ -117,7 +117,7 @@ module _ (file : List ℕ) (n : ℕ) (within : n ≤ length file) where
   rows-same (p ∷ ps) are =
       ap₂ (λ (r : Row) (rs : List Row). r ∷ rs) (row-same p are.0) (rows-same ps are.1)
 
-  -- each row is that of a frame that is still whole
+  -- each row belongs to a frame that is still whole
   pub row-in : (ps : List PlacedFrame) (i : ℕ) (r : Row) → AreIn (rows_of file ps)
       → slice_get (rows_of file ps) i ≡ Some r
       → (p : PlacedFrame) × IsIn p.offset p.header × (r ≡ row_of file p)
@@ -127,7 +127,7 @@ module _ (file : List ℕ) (n : ℕ) (within : n ≤ length file) where
 
   -- ---- their faults
 
-  -- and still sound
+  -- the frames that are still whole are still sound
   pub sound-now : (head : Option Head) (class : ClassFields) (allowed many : ℕ)
       (ps : List PlacedFrame) (more : List Row) → AreIn (rows_of file ps)
       → AreSound file head class allowed (rows_of file ps ++ more) → length (rows_of file ps) ≤ many
@@ -189,7 +189,7 @@ module _ (file : List ℕ) (n : ℕ) (within : n ≤ length file) (start : Start
   abbrev later : ItemRun
   later = item_run Stream file behind
 
-  -- the items after the first frame are those that are still whole
+  -- the items after the first frame are the items that are still whole
   pub r : IsCutRun file n within Stream behind later.items later.stop
   r = cut-run file n within Stream behind later.items later.stop (run-ends Stream file behind) kept
 
@@ -218,7 +218,7 @@ module _ (file : List ℕ) (n : ℕ) (within : n ≤ length file) (start : Start
   stopped : whole_item_at Stream front r.stop ≡ None
   stopped = stopped_by r.last
 
-  -- the stream is the first frame and what is still whole behind it
+  -- the stream is the first frame and what is still whole after it
   pub runs-now : stream_run front start
       ≡ record { items = record { offset = at; item = Frame h } ∷ r.front; stop = r.stop }
   runs-now =
@@ -244,11 +244,11 @@ module _ (file : List ℕ) (n : ℕ) (within : n ≤ length file) (start : Start
   abbrev pub gone : List PlacedFrame
   gone = frames_of r.rest
 
-  -- the frames are those that are still whole
+  -- the frames are the frames that are still whole
   pub frames-now : frames ≡ numbered_frames head (frames_of (stream_run front start).items)
   frames-now = sym (ap (λ (q : ItemRun). numbered_frames head (frames_of q.items)) runs-now)
 
-  -- the file has these, and then others
+  -- the file has these frames, and then others
   pub frames-were : frames_from file start ≡ frames ++ gone
   frames-were =
       ap (λ (q : ItemRun). numbered_frames head (frames_of q.items)) runs-on
@@ -272,22 +272,22 @@ module _ (file : List ℕ) (n : ℕ) (within : n ≤ length file) (start : Start
   abbrev pub more : List Row
   more = rows_of file gone
 
-  -- the file has their rows, and then others
+  -- the file has the rows of these frames, and then others
   pub rows-were : rows_of file (frames_from file start) ≡ rows ++ more
   rows-were = ap (rows_of file) frames-were ∙ map-append (row_of file) frames gone
 
-  -- and they are the same
+  -- the rows are the same in the cut file
   pub rows-now : rows_of front frames ≡ rows
   rows-now = rows-same file n within frames are-in
 
   -- ---- their faults
 
-  -- they were sound
+  -- the frames were sound
   pub sound-were : AreSound file head (class_from start) allowed (rows ++ more)
   sound-were = all_faults-none_sound file head (class_from start) allowed (rows ++ more)
       (sym (ap (all_faults file head (class_from start) allowed) rows-were) ∙ read.frames)
 
-  -- so none has a fault
+  -- none has a fault
   pub no-faults : (many : ℕ) → length rows ≤ many
       → all_faults front head (class_from start) many (rows_of front frames) ≡ []
   no-faults many few =
@@ -295,7 +295,7 @@ module _ (file : List ℕ) (n : ℕ) (within : n ≤ length file) (start : Start
       ∙ sound-no_all_faults front head (class_from start) many rows (sound-now file n within head
       (class_from start) allowed many frames more are-in sound-were few)
 
-  -- ---- where it stops
+  -- ---- where the stream stops
 
   fault_now : IsStop file n within Stream later.stop r.stop r.rest
       → MayBeCut file n within (fault_at r.stop (item_at front r.stop))

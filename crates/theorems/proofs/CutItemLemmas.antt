@@ -1,4 +1,4 @@
--- With what bytes begin that were cut short: the item that was there, or nothing that is known.
+-- What bytes that were cut short begin with: the item that was there, or nothing that is known.
 use Rattle.std.proofs.Common.{ap, arith, Bool, codes, cond, drop, Err, false, inl, inr, leb, length}
 use Rattle.std.proofs.Common.{List, None, Ok, Option, refl, Some, subst, sym, take, true, ℕ, []}
 use Rattle.std.proofs.Common.{◌++◌, ◌+◌, ◌-◌, ◌<◌, ◌∙◌, ◌∷◌, ◌≡◌, ◌≢◌, ◌≤◌, ◌⊎◌}
@@ -37,7 +37,7 @@ pub text-long : (text bytes : List ℕ) → begins_with text bytes ≡ true
     → take (length text) bytes ≡ text
 text-long text bytes is = sym ((bytes_eq-Decides text (take (length text) bytes)).0 is)
 
--- bytes that begin with a kind of block have as many as tell it
+-- bytes that begin with a kind of block are at least as many as the kind is known by
 pub begins-long : (kind : Kind) (bytes : List ℕ) → begins kind bytes ≡ true
     → known_by kind ≤ length bytes
 unfolding is_id3v2 is_id3v1 is_ape
@@ -48,9 +48,9 @@ begins-long Id3v1 bytes is =
 begins-long Ape bytes is = leb-true 32 (length bytes)
     (and_parts _ _ (and_parts _ _ (and_parts _ _ (and_parts _ _ (and_parts _ _ is).0).0).0).0).0
 
--- ---- the first of bytes
+-- ---- the first item of bytes
 
--- the item that was there, or what isn't known
+-- the item that was there, or no known item
 abbrev pub IsCutItem : Item → Item → Type 0
 IsCutItem now whole = (now ≡ whole) ⊎ ((now ≡ End) ⊎ (now ≡ Nothing))
 
@@ -95,17 +95,17 @@ module _ (file : List ℕ) (n : ℕ) (within : n ≤ length file) where
   abbrev pub cut : List ℕ
   cut = take n file
 
-  -- the first bytes are as many
+  -- the length of the first bytes is their count
   pub length-cut : length cut ≡ n
   length-cut = length-take-le n file within
 
-  -- from an offset on they are the first bytes from there on
+  -- from an offset on, the first bytes are the first bytes of the file's bytes from there on
   pub drop-cut : (at : ℕ) → at ≤ n → drop at cut ≡ take (n - at) (drop at file)
   drop-cut at low =
       let split : n ≡ at + (n - at) = omega (arith, low) in
       ap (λ k. drop at (take k file)) split ∙ drop-take at (n - at) file
 
-  -- at each offset is the same item, or none that is known
+  -- at each offset there is the same item, or none that is known
   pub item-cut : (at : ℕ) (item : Item) → at ≤ n → item_at file at ≡ item
       → IsCutItem (item_at cut at) item
   unfolding item_at
@@ -114,7 +114,7 @@ module _ (file : List ℕ) (n : ℕ) (within : n ≤ length file) where
       (subst (λ (bytes : List ℕ). IsCutItem (item_front bytes) (item_front (drop at file)))
       (sym (drop-cut at low)) (cut-item (n - at) (drop at file)))
 
-  -- an item that still is whole is there
+  -- an item that is still whole is there
   pub item-kept : (part : Region) (at : ℕ) (item : Item) → whole_item_at part file at ≡ Some item
       → at + size_of item ≤ n → whole_item_at part cut at ≡ Some item
   item-kept part at item is low =

@@ -18,7 +18,7 @@ use Rattle.theorems.proofs.{CutItemLemmas.cut, CutRunLemmas.{cut-start, IsCutSta
 use Rattle.theorems.proofs.CutStreamLemmas.{marked-front}
 use Rattle.theorems.specs.CutLaws.{IsCutAnswer, IsCutFault, IsStreamPrefix, PrefixFault}
 
--- an answer of a survey, by what it is equal to
+-- what a survey returns, by what it is equal to
 fault_answer : (file front : List ℕ) (answer : Result SurveyFields SurveyFault)
     (fault : SurveyFault) → answer ≡ Err fault → IsCutFault fault → IsCutAnswer file front answer
 fault_answer file front answer fault is kind = subst (IsCutAnswer file front) (sym is) kind
@@ -116,12 +116,12 @@ module _ (file : List ℕ) (n : ℕ) (within : n ≤ length file) (allowed : ℕ
       fault_answer file front (survey_fields front (length s.frames))
       found.0 (surveyed_by front (length s.frames) found.0 found.1) found.2
 
-  -- the answer of the survey is the one for a file that was cut short
+  -- the survey returns what it should for a file that was cut short
   pub cut-answer : survey_fields file allowed ≡ Ok s
       → IsCutAnswer file front (survey_fields front (length s.frames))
   cut-answer is = by_start (cut-start file n within start read.start_is no_junk) is
 
--- the first bytes of a file without fault and junk have the fault that the definition says
+-- the first bytes of a file without fault and junk have the fault that the definition names
 pub prefix-fault : PrefixFault
 prefix-fault file allowed s n is no_junk within =
     let parts = surveyed-parts file allowed s is in

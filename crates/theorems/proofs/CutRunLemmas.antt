@@ -1,4 +1,4 @@
--- The items of a file that was cut short: those that still are whole.
+-- The items of a file that was cut short: the items that are still whole.
 use Rattle.std.proofs.Common.{ap, arith, Err, false, inl, inr, length, List, None, Ok, Option, refl}
 use Rattle.std.proofs.Common.{Some, subst, sym, true, ℕ, [], ◌++◌, ◌+◌, ◌-◌, ◌<◌, ◌∙◌, ◌∷◌, ◌≡◌}
 use Rattle.std.proofs.{Common.{◌≤◌, ◌⊎◌}, lemmas.Bool.{cases_lt, false≢true, le-leb, lt-leb}}
@@ -76,7 +76,7 @@ module _ (file : List ℕ) (n : ℕ) (within : n ≤ length file) where
         last = behind.last;
       }
 
-  -- the run has the items that are still whole, and stops behind them
+  -- the run has the items that are still whole, and stops after them
   pub cut-run : (part : Region) (from : ℕ) (ps : List PlacedItem) (to : ℕ)
       → AreEndToEnd part file from ps to → from ≤ n → IsCutRun part from ps to
   cut-run part from [] to ends low = record {
@@ -95,7 +95,7 @@ module _ (file : List ℕ) (n : ℕ) (within : n ≤ length file) where
 
   -- ---- where no item of the part is whole
 
-  -- a fault that a file that was cut may have, or none
+  -- a fault that a cut file may have, or none
   abbrev pub MayBeCut : Option SurveyFault → Type 0
   MayBeCut o = (o ≡ None) ⊎ ((fault : SurveyFault) × (o ≡ Some fault) × IsCutFault fault)
 

@@ -1,4 +1,4 @@
--- Where the stream of a file starts that was cut short.
+-- Where the stream of a file that was cut short starts.
 use Rattle.std.proofs.Common.{ap, arith, codes, drop, Err, get_or, inl, inr, length, List, lit<}
 use Rattle.std.proofs.Common.{None, Ok, Option, refl, Some, subst, suc, sym, take, true, zero, ℕ}
 use Rattle.std.proofs.Common.{◌+◌, ◌-◌, ◌<◌, ◌∙◌, ◌≡◌, ◌≤◌}
@@ -65,7 +65,7 @@ module _ (file : List ℕ) (n : ℕ) (within : n ≤ length file) where
   abbrev now : List ℕ
   now = cut file n within
 
-  -- the frame of a later offset that would be whole
+  -- the frame at a later offset that would be whole
   record IsLater (at : ℕ) (h : HeaderFields) (offset : ℕ) : Type 0 where
     low : at < offset
     here : header_front (drop offset now) ≡ Ok h
@@ -142,7 +142,7 @@ module _ (file : List ℕ) (n : ℕ) (within : n ≤ length file) where
   no-placed None not = refl
   no-placed (Some p) not = absurd (not p refl)
 
-  -- after an item that was cut through no frame is anchored
+  -- no frame is anchored after an item that was cut through
   pub no-anchor : (at : ℕ) (item : Item) → IsCutThrough file n within Stream at item
       → (item_at now at ≡ item → ⊥) → (offset : ℕ) → at < offset → anchored_frame now offset ≡ None
   no-anchor at item through unknown offset behind =
@@ -160,7 +160,7 @@ module _ (file : List ℕ) (n : ℕ) (within : n ≤ length file) where
         high = omega (arith, size, anchored.frame.within, length-cut file n within);
       }))
 
-  -- so there is no frame
+  -- there is no frame
   pub no-start : (at : ℕ) (item : Item) → IsCutThrough file n within Stream at item
       → (item_at now at ≡ item → ⊥)
       → start_after_junk at (first_anchored longest_junk now (at + 1)) ≡ Err (NoFrame at)

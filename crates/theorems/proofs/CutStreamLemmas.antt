@@ -1,4 +1,5 @@
--- The stream of a file that was cut short: the first frames of the file's, with the same main data.
+-- The stream of a file that was cut short: the first frames of the file's stream, with the same
+-- main data.
 use Rattle.std.proofs.Common.{ap, append_assoc, ap₂, arith, Bool, cond, drop, false, length}
 use Rattle.std.proofs.Common.{length-append, length-drop, List, map, None, Option, refl, Some}
 use Rattle.std.proofs.Common.{subst, suc, sym, take, true, zero, ℕ, [], ◌*◌, ◌++◌, ◌+◌, ◌-◌, ◌∙◌}
@@ -132,7 +133,7 @@ module _ (file : List ℕ) (n : ℕ) (within : n ≤ length file) where
         sum_by-cons (λ (q : Row). own_area q.header) r rows,
       )
 
-  -- the areas of a frame and of those before it are among all
+  -- the areas of a frame and of the frames before it are among all areas
   own-within : (rows : List Row) (i : ℕ) (r : Row) → slice_get rows i ≡ Some r
       → all_own (take i rows) + own_area r.header ≤ all_own rows
   own-within [] i r is = absurd cc
@@ -262,7 +263,7 @@ module _ (file : List ℕ) (n : ℕ) (within : n ≤ length file) where
                 r ≡ stream_frame main head rows k r) (sym (zero_more i)) (frame-same i r found)))),
           )
 
-    -- with the rows marked the stream of the first frames begins that of all, too
+    -- with the rows marked, the stream of the first frames begins the stream of all frames too
     pub marked-front : (class : ClassFields) (ps : List PlacedFrame) (gone : List Row)
         → AreIn file n within (rows_of file ps)
         → AreWellPlaced head class (marked_rows head (rows_of file ps))

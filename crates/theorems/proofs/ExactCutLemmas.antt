@@ -1,5 +1,5 @@
 -- Exact pieces, joined in order, are the file that is cut from the first place to the last, but for
--- its blocks behind, where the first piece doesn't begin with a look-alike.
+-- its blocks after the frames, where the first piece doesn't begin with a look-alike.
 use Rattle.std.proofs.Common.{ap, ap₂, arith, Bool, cond, drop, false, find, flat_map, inl, inr}
 use Rattle.std.proofs.Common.{length, List, map, max, None, Ok, Option, refl, replicate, Some}
 use Rattle.std.proofs.Common.{subst, sym, take, true, zero, ℕ, [], ◌++◌, ◌+◌, ◌-◌, ◌∙◌, ◌∷◌, ◌≡◌}
@@ -84,7 +84,8 @@ find-same f g (x ∷ xs) same =
 
 -- ---- lead-ins
 
--- frames that fit behind no bytes and begin with the same frame have the same lead-in
+-- frames that fit with no free bytes before them and begin with the same frame have the same
+-- lead-in
 same-lead : (window : ℕ) (first : Need) (xs ys : List Need)
     → fits_behind window 0 (first ∷ xs) ≡ true → fits_behind window 0 (first ∷ ys) ≡ true
     → lead_in_header window (first ∷ xs) ≡ lead_in_header window (first ∷ ys)
@@ -120,7 +121,8 @@ lead-header window first needs h is =
 
 -- ---- the plan after a lead-in in any case
 
--- what the plan of frames after a lead-in in any case is, and that of the lead-in and the frames
+-- what the plan of frames after an unconditional lead-in is, and the plan of the lead-in and the
+-- frames
 record IsLedRun (window : ℕ) (first : Need) (needs : List Need) (led run : List Placed) : Type 0
   where
     lead : Placed
@@ -149,7 +151,7 @@ led-run window first needs led run is own begins =
           (begins ∙ sym is.begins ∙ ap (map (λ (p : Placed). p.begin)) is.are);
     }
 
--- frames with a lead-in in front, in the slots of that plan, are the frames after a lead-in
+-- frames after a lead-in, in the slots of that plan, are relaid as the frames after a lead-in
 led-relaid : (lead : Placed) (rest : List Placed) (f : Frame) (fs : List Frame)
     → lead.lead_in ≡ true
     → relaid_frames (lead_in_with_place lead f ∷ f ∷ fs) (record lead { lead_in = false } ∷ rest)
@@ -161,7 +163,7 @@ led-relaid lead rest f fs leads =
 
 -- ---- the first frame of the run
 
--- it has this need
+-- a row needs what the list of needs has at its number
 row-need : (rows : List Row) (i : ℕ) (r : Row) (n : Need) → slice_get rows i ≡ Some r
     → slice_get (map need_of rows) i ≡ Some n → need_of r ≡ n
 row-need rows i r n found is =
@@ -195,7 +197,7 @@ module _ (file : List ℕ) (s : SurveyFields) (has : CanBeRelaid file s)
       (plain-long (head file s has) long span file (own file s has) (has-own file s has) there))
       (read-head file s has few from to span piece.1 c p is piece.2).numbers.encoder
 
-  -- so all say the same of peak and gains
+  -- all pieces have the same peak and gains
   gains-are : (gain : List ℕ) → gain ≡ replay_gain (kept_extension (head file s has))
       → (c : ClassFields) (from : ExactPlace) (tos : List ExactPlace) (parts : List FilePart)
       → AreInputs c parts → AreExactFiles file s has few from tos parts
@@ -316,7 +318,7 @@ module _ (file : List ℕ) (s : SurveyFields) (has : CanBeRelaid file s)
   abbrev placed : List Placed
   placed = (plain file s has span).placed
 
-  -- the frames of the join are those that are cut, and so is the header of its Info frame
+  -- the frames of the join are the frames that are cut, and both Info frames have the same header
   pub record IsSame : Type 0 where
     pub frames : seamless_frames first parts ≡ relaid_frames (part_frames part) placed
     pub header : (r : Row) → slice_get first.survey.frames front ≡ Some r
@@ -350,7 +352,8 @@ module _ (file : List ℕ) (s : SurveyFields) (has : CanBeRelaid file s)
       ap₂ (λ (d : ClassFields) (ns : List Need).
       least_plan (window_of d.version) own_choice (ns ∷ [])) class-same same
 
-  -- frames that are read as those that are cut are these
+  -- if the run has the stream and the plan of the cut, the frames of the join are the frames that
+  -- are cut
   bare-frames : stream first parts inputs ≡ stream_all → run_plan first parts ≡ placed
       → seamless_frames first parts ≡ relaid_frames (part_frames part) placed
   bare-frames streams plans =
@@ -360,7 +363,7 @@ module _ (file : List ℕ) (s : SurveyFields) (has : CanBeRelaid file s)
       (run-read.is ∙ streams ∙ sym part-streams))
       ∙ ap (relaid_frames (part_frames part)) plans
 
-  -- what the frames of the first piece need begins with the first of these
+  -- the needs of the first piece's frames begin with the first need of these frames
   first-needs : slice_get (needs_of (run_between file t piece.0.first piece.0.last)) 0
       ≡ Some (need_of row)
   first-needs =
@@ -416,7 +419,7 @@ module _ (file : List ℕ) (s : SurveyFields) (has : CanBeRelaid file s)
         (slice_range (st file s has few) piece.0.first piece.0.last)
     brought = brings file s has few known place next places first parts inputs files ways
 
-    -- that leaves the run
+    -- where the lead-in leaves the run, it gets it again
     same-again : front ≡ 1 → IsSame
     same-again out =
         let run_is : needs_of (run first parts inputs) ≡ needs =
@@ -440,7 +443,7 @@ module _ (file : List ℕ) (s : SurveyFields) (has : CanBeRelaid file s)
               ∙ first-needs));
         }
 
-    -- ---- or stays
+    -- ---- where it stays
 
     module _ (stays : front ≡ 0) where
       abbrev begin_at : ℕ
@@ -645,7 +648,7 @@ module _ (file : List ℕ) (s : SurveyFields) (has : CanBeRelaid file s)
             ∙ lead-header window (need_of row) own_more brought.lead_in.need.header own-found;
       }
 
-  -- the frames are those that are cut, unless the first piece begins with a look-alike
+  -- the frames are the frames that are cut, unless the first piece begins with a look-alike
   pub is-same : (leads file s has piece.0 ≡ 0
       → has_lead_in (window_of first.survey.class.version) (part_brought first) ≡ false) → IsSame
   is-same none =
@@ -698,7 +701,7 @@ module _ (file : List ℕ) (s : SurveyFields) (has : CanBeRelaid file s)
       ∙ made-again head_here first_read pieces_delay (padding_of span)
       (piece-keeps file s has few first.survey.class place next first inputs.0 piece)
 
-  -- peak and gains stay
+  -- peak and gains stay as they are
   run-made : run_extension pieces_delay first parts ≡ made
   run-made =
       let gain : replay_gain made ≡ replay_gain (kept_extension head_here) =
@@ -773,7 +776,7 @@ module _ (file : List ℕ) (s : SurveyFields) (has : CanBeRelaid file s)
           piece.2.back piece.2.blocks first.survey.class first inputs.0 piece.2.file_is most s e
           refl
 
-      -- the join is what is cut, without the blocks behind
+      -- the join is what is cut, without the blocks after the frames
       pub cut-file : seamless_file (first ∷ parts)
           ≡ bare_file (span_piece head_here span file t) file t
       unfolding seamless_file laid_file

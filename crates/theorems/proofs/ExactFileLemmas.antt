@@ -106,7 +106,7 @@ module _ (file : List ℕ) (s : SurveyFields) (has : CanBeRelaid file s) where
   abbrev pub own : SurveyFields
   own = survey_without_head s
 
-  -- frames can be laid by it
+  -- frames can be laid by this survey
   pub has-own : CanBeRelaid file own
   has-own = apart-had file s has (apart-placed s has.placed)
 
@@ -122,7 +122,7 @@ module _ (file : List ℕ) (s : SurveyFields) (has : CanBeRelaid file s) where
   abbrev pub plain : Span → LaidPart
   plain span = span_part head span own
 
-  -- the same with them, by the row of its first frame
+  -- what is laid of a span, with music length and tag CRC, by the row of its first frame
   abbrev pub laid_by : Span → Row → LaidPart
   laid_by span row =
       record (plain span) {
@@ -133,7 +133,7 @@ module _ (file : List ℕ) (s : SurveyFields) (has : CanBeRelaid file s) where
   abbrev pub leads : Span → ℕ
   leads span = span_lead_ins span (plain span).placed
 
-  -- the span between two places: there is a sample, all are played, and its frames are there
+  -- the span between two places: it has a sample, all are played, and its frames are there
   pub record IsFound (from to : ExactPlace) (span : Span) : Type 0 where
     pub some : sample from < sample to
     pub within : sample to ≤ length_of_played (input_played file s)
@@ -160,7 +160,7 @@ module _ (file : List ℕ) (s : SurveyFields) (has : CanBeRelaid file s) where
         found = e;
       }
 
-  -- the file of a piece, with any blocks behind its frames
+  -- the file of a piece, with any blocks after its frames
   pub record IsExactFile (span : Span) (bytes : List ℕ) : Type 0 where
     pub row : Row
     pub row_is : slice_get own.frames span.first ≡ Some row
@@ -176,7 +176,7 @@ module _ (file : List ℕ) (s : SurveyFields) (has : CanBeRelaid file s) where
   unfolding span_piece
   piece-by span row found = ap (λ o. row_sealed_part o (plain span) file own) found
 
-  -- a file that was laid is one
+  -- a file that was laid is the file of a piece
   pub laid-exact : (span : Span) → IsSpanIn s span
       → IsExactFile span (file_laid (span_piece head span file own) file own)
   laid-exact span there =
@@ -194,7 +194,7 @@ module _ (file : List ℕ) (s : SurveyFields) (has : CanBeRelaid file s) where
 
   -- ---- the frames of the recording
 
-  -- all frames, as those of a run
+  -- all frames of the recording, as frames of a run
   abbrev pub all_run : List RunFrame
   all_run = run_between file own 0 (length own.frames)
 
@@ -215,13 +215,13 @@ module _ (file : List ℕ) (s : SurveyFields) (has : CanBeRelaid file s) where
       (sym (stream-many file own has-own))
       ∙ ap (map (sound_of s.class)) (range-whole (all_stream file own))
 
-  -- there are as many as frames
+  -- the run has a frame for each frame of the recording
   pub all-many : length all_run ≡ length own.frames
   all-many =
       sym (length-map all_run (λ (f : RunFrame). f.need))
       ∙ ap (λ (l : List Need). length l) all-needs ∙ length-map own.frames need_of
 
-  -- those between two numbers
+  -- a range of these frames is the run between the two numbers
   pub all-range : (i j : ℕ) → slice_range all_run i j ≡ run_between file own i j
   all-range i j =
       frames-same (slice_range all_run i j) (run_between file own i j)
@@ -253,7 +253,7 @@ module _ (file : List ℕ) (s : SurveyFields) (has : CanBeRelaid file s) where
     inside : IsSpanIn own span
     inside = span_apart s span there
 
-    -- it can be laid
+    -- the span can be laid
     pub span-fitting : IsFittingPlan window needs placed
     span-fitting = with-fitting chosen own has-own.placed inside.some inside.within span.led
 
@@ -271,8 +271,9 @@ module _ (file : List ℕ) (s : SurveyFields) (has : CanBeRelaid file s) where
         ∙ length-take-le (span.last - span.first) (drop span.first own.frames)
         (omega (arith, length-drop span.first own.frames, inside.within))
 
-    -- Either its frames are in their own slots without a lead-in, where it doesn't have to have one
-    -- and they fit behind no bytes; or they are after their lead-in, where one of these isn't so.
+    -- Either its frames are in their own slots without a lead-in, where none is asked for and they
+    -- fit with no free bytes before them; or they are after their lead-in, where one of these
+    -- doesn't hold.
     abbrev pub IsLaidOwn : Type 0
     IsLaidOwn =
         AreInOwnSlots needs placed × (span.led ≡ false) × (fits_behind window 0 needs ≡ true)
@@ -320,7 +321,7 @@ module _ (file : List ℕ) (s : SurveyFields) (has : CanBeRelaid file s) where
           inr (refl, test),
         )
 
-    -- so it is laid in one of two ways
+    -- the span is laid in one of two ways
     pub span-ways : IsLaidOwn ⊎ IsLaidLed
     span-ways = laid-ways span.led (fits_behind window 0 needs) refl
 
@@ -331,11 +332,11 @@ module _ (file : List ℕ) (s : SurveyFields) (has : CanBeRelaid file s) where
     led-more (need ∷ needs) [] led = absurd led
     led-more (need ∷ needs) (p ∷ ps) led = omega (arith, own-many (need ∷ needs) ps led.2)
 
-    -- in the first way it has no lead-in
+    -- laid the first way, it has no lead-in
     pub own-leads : IsLaidOwn → leads span ≡ 0
     own-leads ways = omega (arith, own-many needs placed ways.0, needs-many)
 
-    -- in the second it has one
+    -- laid the second way, it has one
     pub led-leads : IsLaidLed → leads span ≡ 1
     led-leads ways = omega (arith, led-more needs placed ways.0, needs-many)
 
@@ -363,13 +364,13 @@ module _ (file : List ℕ) (s : SurveyFields) (has : CanBeRelaid file s) where
           class-same (laid_by span row) file own has-own inside.some inside.within span-fitting
           span-long row row_is back blocks c p is same_file
 
-      -- in the first way it brings the frames of the span
+      -- laid the first way, the input brings the frames of the span
       pub span-own : AreInOwnSlots needs placed → BringsOwn c p is run stream
       span-own in_own =
           brings-own (laid_by span row) file own has-own inside.some inside.within span-fitting
           span-long row row_is back blocks c p is same_file in_own
 
-      -- in the second it brings them after its lead-in
+      -- laid the second way, it brings them after its lead-in
       pub span-led : AreLedInOwnSlots window needs placed → BringsLed c p is run stream
       span-led led =
           brings-led (laid_by span row) file own has-own inside.some inside.within span-fitting

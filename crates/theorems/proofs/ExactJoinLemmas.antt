@@ -31,7 +31,7 @@ use Rattle.theorems.specs.SeamlessLaws.{is_look_alike, last_place, PlaysTheSpan}
 
 module _ (file : List ℕ) (s : SurveyFields) (has : CanBeRelaid file s)
     (few : length s.frames ≤ most_frames) where
-  -- parts whose files are those of pieces laid are files from each place to the next
+  -- parts whose files are the files of pieces laid are files from each place to the next
   pub exact-files : (from : ExactPlace) (tos : List ExactPlace) (laid : List LaidPart)
       (parts : List FilePart) → PlayInTurn file s from tos laid
       → map (λ (p : FilePart). Some p.file) parts

@@ -117,7 +117,7 @@ parts-on window c choices (p ∷ parts) (lead_in ∷ lead_ins) placed are alone 
       parts-on window c choices parts lead_ins on.1 are.1 alone.1 on.4,
     )
 
--- the stream of planned frames is exactly these, behind at most one lead-in a part
+-- the stream of planned frames is exactly these, after at most one lead-in a part
 pub planned-exact : PlannedStreamsAreExact
 planned-exact c choices parts placed are plan = parts-on (window_of c.version) c choices parts
     plan.lead_ins placed are plan.alone plan.whole.slots
@@ -147,7 +147,7 @@ module _ (choices : HeaderFields → List SlotFields) (needs : List Need) where
   own-exact fs placed sized for_items =
       let on = own-on choices needs fs placed sized.same for_items in ([], on.0, tt, on.1, on.2)
 
-  -- and of those behind one the frames behind it
+  -- the stream of places after a lead-in is exactly the frames after it
   pub led-exact : (lead : PlanItem) → lead.lead_in ≡ true → (fs : List StreamFrame)
       (placed : List Placed) → IsSized needs fs
       → AreItemSlots (lead ∷ map (need_item choices) needs) placed

@@ -1,5 +1,5 @@
--- The numbers in the Info frame of exact pieces that are joined
--- in order: those of the span from the first place to the last.
+-- The numbers in the Info frame of exact pieces that are joined in order: the numbers of the span
+-- from the first place to the last.
 use Rattle.std.proofs.Common.{ap, ap₂, arith, Bool, cond, drop, false, get_or, IsTrue, length, List}
 use Rattle.std.proofs.Common.{None, Ok, refl, replicate, Some, subst, sym, take, true, ℕ, [], ◌%◌}
 use Rattle.std.proofs.Common.{◌*◌, ◌++◌, ◌+◌, ◌-◌, ◌/◌, ◌<◌, ◌∙◌, ◌∷◌, ◌≡◌, ◌≤◌}
@@ -107,7 +107,7 @@ either-long false extension long =
       long,
     )
 
--- an extension that is made of a head says its numbers, and has 36 bytes
+-- an extension that is made from a head has its numbers, and has 36 bytes
 made-says : (fields : Info) (delay padding : ℕ) → length fields.extension ≡ 36 → delay < 4096
     → padding < 4096 → SaysNumbers delay padding (extension_of (Some fields) delay padding)
 unfolding extension_of
@@ -130,7 +130,7 @@ delay-same Two start first p given leads front many starts before same =
 delay-same TwoFive start first p given leads front many starts before same =
     omega (arith, starts, before, same)
 
--- what is left behind the last position of a piece
+-- what is left after the last position of a piece
 rest-same : (v : Version) (frames leads from to end q : ℕ) → frames ≡ leads + (to - from)
     → end + from * samples_of v ≡ q + leads * samples_of v → from < to → q ≤ to * samples_of v
     → frames * samples_of v - end ≡ to * samples_of v - q
@@ -153,7 +153,7 @@ led-is : (class : ClassFields) (p q : ℕ) → (span_of class p q).led ≡ nat_l
 unfolding span_of
 led-is class p q = refl
 
--- a whole file as the planner has it
+-- an input is a whole file for the planner
 pub whole-file : (c : ClassFields) (p : FilePart) → IsInput c p → IsWholeFile c p
 whole-file c p is = record {
   had = is.has;
@@ -163,7 +163,7 @@ whole-file c p is = record {
   some = is.some;
 }
 
--- so is each of them
+-- all inputs are whole files
 pub whole-files : (c : ClassFields) (parts : List FilePart) → AreInputs c parts
     → AreWholeFiles c parts
 whole-files c [] are = tt
@@ -224,7 +224,7 @@ module _ (file : List ℕ) (s : SurveyFields) (has : CanBeRelaid file s)
       let later = places-within to next q files.0 tos parts files.1 in
       (omega (arith, piece.1.some, later.0), later.1)
 
-  -- the span of two places whose samples rise and are played
+  -- two places whose samples rise and are played have a span
   span-of-places : (from to : ExactPlace) → sample file s has from < sample file s has to
       → sample file s has to ≤ length_of_played (input_played file s)
       → file_span from to (head file s has) s
@@ -249,7 +249,7 @@ module _ (file : List ℕ) (s : SurveyFields) (has : CanBeRelaid file s)
       (first_leads file s has few known place next places first parts inputs files)
   joined = joined-is file s has few known place next places first parts inputs files
 
-  -- how many lead-ins are in front
+  -- how many lead-ins come first
   abbrev pub many : ℕ
   many = length joined.leads
 
@@ -267,21 +267,21 @@ module _ (file : List ℕ) (s : SurveyFields) (has : CanBeRelaid file s)
       × (sample file s has (last_place next places) ≤ length_of_played (input_played file s))
   within = places-within file s has few place next first files.0 places parts files.1
 
-  -- it is what `cut --exact` needs
+  -- the span is what `cut --exact` needs
   pub whole-is : file_span place (last_place next places) (head file s has) s ≡ Ok whole_span
   whole-is = span-of-places file s has few place (last_place next places) within.0 within.1
 
-  -- so it is found
+  -- the span is found
   pub whole-found : IsFound file s has place (last_place next places) whole_span
   whole-found = span-found file s has place (last_place next places) whole_span whole-is
 
-  -- its first frame is that of the first piece
+  -- its first frame is the first frame of the first piece
   pub whole-first : files.0.0.first ≡ whole_span.first
   whole-first =
       first-is s.class p (position file s has few next) files.0.0 files.0.1.is
       ∙ sym (first-is s.class p q whole_span refl)
 
-  -- and the last that of the last
+  -- its last frame is the last frame of the last piece
   pub whole-last : ended_at file s has few (last_place next places) ≡ whole_span.last
   whole-last = sym (last-is s.class p q whole_span refl)
 
@@ -291,7 +291,7 @@ module _ (file : List ℕ) (s : SurveyFields) (has : CanBeRelaid file s)
       has-span file s has few place next files.0.0 files.0.1 first.survey.class first inputs.0
       files.0.2
 
-  -- whether it has to have a lead-in is the same for both
+  -- both the span and the first piece must have a lead-in, or neither
   pub led-same : files.0.0.led ≡ whole_span.led
   led-same =
       ap (λ (t : Span). t.led) (sym files.0.1.is)
@@ -303,7 +303,7 @@ module _ (file : List ℕ) (s : SurveyFields) (has : CanBeRelaid file s)
       files.0.2).led
       (led-same ∙ led)
 
-  -- the lead-ins are those that the span has to have
+  -- the lead-ins are those that the span must have
   pub many-leads : AreLeads whole_span many
   many-leads = record {
     one = joined.one;
@@ -336,7 +336,7 @@ module _ (file : List ℕ) (s : SurveyFields) (has : CanBeRelaid file s)
       starts (first-before v p) (omega (arith, joined.many, first-span.many_is))
       ∙ ap (λ n. many * samples_in s.class + n - decoder_delay) (sym (from-is s.class p q))
 
-  -- it is in range
+  -- the delay is in range
   pub delay-most : delay ≤ 2830
   delay-most = (span-in_range s.class whole_span many whole-found.there.is many-leads).delay_most
 
@@ -351,7 +351,7 @@ module _ (file : List ℕ) (s : SurveyFields) (has : CanBeRelaid file s)
       ∙ ap (λ b. if b then Some delay else None)
       (le-leb delay 4095 (omega (arith, delay-most)))
 
-  -- and the padding of the join is that of the span
+  -- the padding of the join is the padding of the span
   pub padding-is : seamless_padding first parts ≡ padding_of whole_span
   padding-is =
       ap (λ n. n + decoder_delay)
@@ -359,19 +359,19 @@ module _ (file : List ℕ) (s : SurveyFields) (has : CanBeRelaid file s)
       inputs.1 files.1
       ∙ sym (to-is s.class p q))
 
-  -- which is no less than the decoder's delay
+  -- the padding is no less than the decoder's delay
   pub padding-least : 529 ≤ padding_of whole_span
   padding-least =
       (span-in_range s.class whole_span many whole-found.there.is many-leads).padding_least
 
-  -- and no more than a frame more
+  -- the padding is at most a frame more than that
   pub padding-most : padding_of whole_span ≤ 1680
   padding-most =
       (span-in_range s.class whole_span many whole-found.there.is many-leads).padding_most
 
   -- ---- the Info frame
 
-  -- there are as many frames as in the stream
+  -- the stream has this many frames
   pub frames-many : length (seamless_frames first parts)
       ≡ many + (whole_span.last - whole_span.first)
   unfolding seamless_stream
@@ -439,7 +439,7 @@ module _ (file : List ℕ) (s : SurveyFields) (has : CanBeRelaid file s)
   pub run-long : length (run_extension delay first parts) ≡ 36
   run-long = either-long (list_all (part_says_gain (replay_gain made)) parts) made made-long
 
-  -- the Info frame says the span
+  -- the Info frame describes the span
   pub info-head : (row : Row)
       → IsPieceHead s.class many whole_span (seamless_info (Some delay) row first parts)
   info-head row =
@@ -453,7 +453,7 @@ module _ (file : List ℕ) (s : SurveyFields) (has : CanBeRelaid file s)
         numbers = sealed.says delay (padding_of whole_span) run-says;
       }
 
-  -- so the join plays the samples from the first place to the last
+  -- the join plays the samples from the first place to the last
   pub join-plays : (row : Row)
       → KeepsPlaces s.class many whole_span.first (sample file s has place)
       (sample file s has (last_place next places))

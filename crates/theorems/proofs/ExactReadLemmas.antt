@@ -130,7 +130,7 @@ module _ (file : List ℕ) (s : SurveyFields) (has : CanBeRelaid file s)
         few,
       )
 
-  -- it says what the Info frame does
+  -- it says what the Info frame says
   read-says : IsPieceHead s.class leads span read
   read-says = record {
     frames =
@@ -169,7 +169,7 @@ module _ (file : List ℕ) (s : SurveyFields) (has : CanBeRelaid file s)
         played_of (fields_of_head l t.head) t.class (length t.frames)) join-is (sym told)
         ∙ ap₂ (λ (d : ClassFields) (n : ℕ). played_of (Some read) d n) class count
 
-    -- by it the join plays the samples from the first place to the last
+    -- by this head the join plays the samples from the first place to the last
     pub read-plays : KeepsPlaces s.class leads span.first (sample file s has place)
         (sample file s has (last_place next places))
         (input_played (seamless_file (first ∷ parts)) j) (input_played file s)

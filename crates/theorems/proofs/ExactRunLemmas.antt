@@ -1,6 +1,6 @@
--- Exact pieces, joined in order: each follows the one before it, and
--- the stream is at most one empty frame and then the frames of the
--- recording from the first of the first piece to the last of the last.
+-- Exact pieces, joined in order: each follows the one before it, and the stream is at most one
+-- empty frame and then the recording's frames from the first frame of the first piece to the last
+-- frame of the last.
 use Rattle.std.proofs.Common.{ap, append_assoc, ap₂, arith, Bool, cond, drop, false, flat_map, inl}
 use Rattle.std.proofs.Common.{inr, length, List, map, not, refl, Some, subst, suc, sym, take, true}
 use Rattle.std.proofs.Common.{zero, ℕ, [], ◌&&◌, ◌*◌, ◌++◌, ◌+◌, ◌-◌, ◌<◌, ◌∙◌, ◌∷◌, ◌≡◌, ◌≤◌}
@@ -47,7 +47,7 @@ use Rattle.theorems.specs.SeamlessLaws.{is_empty_frame, last_place}
 
 -- ---- lists
 
--- what is behind so many items begins with an item
+-- what is left after n items begins with an item
 next-of : {X : Type 0} (n : ℕ) (xs ys : List X) (y : X) → drop n xs ≡ y ∷ ys
     → (slice_get xs n ≡ Some y) × (drop (suc n) xs ≡ ys)
 next-of zero [] ys y is = absurd cc
@@ -71,7 +71,7 @@ follows-by (Follows out) is = (out, refl)
 follows-by LeadIn is = absurd cc
 follows-by Whole is = absurd cc
 
--- those before the last of the piece before it
+-- how many frames are left out: those before the last frame of the piece before it
 out-is : (v : Version) (start end leads leads_before from from_before last mid out : ℕ)
     → start + from * samples_of v ≡ mid + leads * samples_of v
     → end + from_before * samples_of v ≡ mid + leads_before * samples_of v
@@ -99,11 +99,11 @@ module _ (file : List ℕ) (s : SurveyFields) (has : CanBeRelaid file s)
   abbrev pub position : ExactPlace → ℕ
   position place = begin file s has + sample file s has place
 
-  -- the frame after the last one that is needed before it
+  -- the frame after the last one that is needed before a place
   abbrev pub ended_at : ExactPlace → ℕ
   ended_at place = frames_before (samples_in s.class) (position place)
 
-  -- the first frame that is needed from it on
+  -- the first frame that is needed from a place on
   abbrev pub begun_at : ExactPlace → ℕ
   begun_at place = warm_up_frame (samples_in s.class) (position place)
 
@@ -134,7 +134,7 @@ module _ (file : List ℕ) (s : SurveyFields) (has : CanBeRelaid file s)
       (piece : IsPiece from to p) → IsSpan c from to p is piece
   span-of c from to p is piece = has-span file s has few from to piece.0 piece.1 c p is piece.2
 
-  -- where it begins and ends
+  -- where a piece begins and ends
   piece-begins : (from to : ExactPlace) (p : FilePart) (piece : IsPiece from to p)
       → piece.0.first ≡ begun_at from
   piece-begins from to p piece = first-is s.class (position from) (position to) piece.0 piece.1.is
@@ -320,7 +320,8 @@ not-both true true is first = refl
 not-both true false is first = absurd cc
 not-both false y is first = absurd cc
 
--- a frame without main data, and then frames that fit behind no bytes, fit behind none
+-- a frame without main data, followed by frames that fit with no free bytes before them, fits so
+-- too
 empty-before : (window : ℕ) (need : Need) (needs : List Need) → need.bytes ≡ 0
     → FitsBehind window 0 needs → FitsBehind window 0 (need ∷ needs)
 empty-before window need needs empty fits =
@@ -350,7 +351,7 @@ module _ (file : List ℕ) (s : SurveyFields) (has : CanBeRelaid file s)
   pub class-is : first.survey.class ≡ s.class
   class-is = input-class file s has few place next piece.0 piece.1 c first inputs.0 piece.2
 
-  -- the first piece, the span of the whole
+  -- where the first piece begins: the span of the whole
   abbrev pub low : ℕ
   low = piece.0.first
 
@@ -377,14 +378,14 @@ module _ (file : List ℕ) (s : SurveyFields) (has : CanBeRelaid file s)
       joints-are first parts inputs
       ∙ ap (λ (d : ClassFields). joints_of d (part_brought first) (map part_brought parts)) class-is
 
-  -- by the span of the first piece each later one
-  -- follows, and the run is its lead-ins and the frames
+  -- by the span of the first piece, each later one follows, and the run is the lead-ins of the
+  -- first and the frames of the recording
   pub record IsOneRun (sp : FirstSpan) : Type 0 where
     pub follow : list_all (λ (j : JointFrames). is_following_seam j.seam) joints ≡ true
     pub run_is : run_with (part_brought first) joints
         ≡ sp.spans.lead_ins ++ run_between file (own file s has) low high
 
-  -- so it is
+  -- the inputs are one run
   pub one-run : (sp : FirstSpan) → IsOneRun sp
   one-run sp =
       let all_is = all file s has few in
@@ -431,7 +432,7 @@ module _ (file : List ℕ) (s : SurveyFields) (has : CanBeRelaid file s)
   abbrev front : ℕ
   front = (join_of_parts first parts).front
 
-  -- no later than the last
+  -- the first piece ends no later than the last
   pub ends-later : ended_at file s has few next ≤ high
   ends-later = ends-rise file s has few next places parts files.1
 
@@ -463,8 +464,8 @@ module _ (file : List ℕ) (s : SurveyFields) (has : CanBeRelaid file s)
         there.some,
       )
 
-  -- the stream of the run is the lead-ins of the first piece and the
-  -- frames of the recording, but for what leaves the run at last
+  -- the stream of the run is the lead-ins of the first piece and the frames of the recording, but
+  -- for what leaves the run at the end
   pub run-stream : (sp : FirstSpan) → stream first parts inputs ≡ drop front (sp.leads ++ whole)
   run-stream sp =
       let one_stream : List StreamFrame = slice_range (st file s has few) low piece.0.last in
@@ -481,7 +482,7 @@ module _ (file : List ℕ) (s : SurveyFields) (has : CanBeRelaid file s)
       (range-append (st file s has few) low piece.0.last high (omega (arith, there.some))
       (omega (arith, first-ends, ends-later))))
 
-  -- the run is these frames too
+  -- the run itself is these frames too
   pub run-frames : (sp : FirstSpan)
       → run first parts inputs
       ≡ drop front (sp.spans.lead_ins ++ run_between file (own file s has) low high)
@@ -568,7 +569,7 @@ module _ (file : List ℕ) (s : SurveyFields) (has : CanBeRelaid file s)
                 );
           }
 
-  -- none was given, but a frame that looks like one leaves the run, which gets it again
+  -- no lead-in was given, but a frame that looks like one leaves the run, which gets it again
   joined-alike : (sp : FirstSpan) → sp.leads ≡ [] → 0 < front → IsJoined 0
   joined-alike sp none out =
       let led = run-lead out in
@@ -608,7 +609,7 @@ module _ (file : List ℕ) (s : SurveyFields) (has : CanBeRelaid file s)
     abbrev pub led-span : FirstSpan
     led-span = has-led-span file s has few place next piece.0 piece.1 c first inputs.0 piece.2 ways
 
-    -- and brings this
+    -- it brings its lead-in and the frames
     abbrev pub brings : BringsLed c first
         inputs.0 (run_between file (own file s has) low piece.0.last)
         (slice_range (st file s has few) low piece.0.last)
@@ -628,7 +629,7 @@ module _ (file : List ℕ) (s : SurveyFields) (has : CanBeRelaid file s)
         class-is
         ∙ (one-run led-span).run_is
 
-    -- where the lead-in stays, the frames after it want none
+    -- where the lead-in stays, the frames after it need none
     pub stays-fit : front ≡ 0 → fits_behind (window_of c.version) 0 (needs_of run_frames) ≡ true
     unfolding front_left_out_count
     stays-fit stays =
@@ -645,7 +646,7 @@ module _ (file : List ℕ) (s : SurveyFields) (has : CanBeRelaid file s)
     run-whole stays =
         run-is first parts inputs ∙ ap₂ (λ (n : ℕ) (fs : List RunFrame). drop n fs) stays all-frames
 
-    -- the run with its lead-in fits behind no bytes then
+    -- with its lead-in, the run then fits with no free bytes before it
     pub run-fits : front ≡ 0
         → fits_behind (window_of c.version) 0 (needs_of (run first parts inputs)) ≡ true
     run-fits stays =
@@ -678,7 +679,7 @@ module _ (file : List ℕ) (s : SurveyFields) (has : CanBeRelaid file s)
               );
         }
 
-    -- or leaves the run, which gets another
+    -- a lead-in was given and leaves the run, which gets another
     joined-again : 0 < front → IsJoined 1
     joined-again out =
         let led = run-lead out in

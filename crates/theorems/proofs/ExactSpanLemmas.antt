@@ -44,7 +44,7 @@ pub first-is : (class : ClassFields) (p q : ℕ) (span : Span) → span_of class
 unfolding span_of
 first-is class p q span is = sym (ap (λ (t : Span). t.first) is)
 
--- the frame after its last one
+-- the frame after the last frame of a span
 pub last-is : (class : ClassFields) (p q : ℕ) (span : Span) → span_of class p q ≡ span
     → span.last ≡ frames_before (samples_in class) q
 unfolding span_of
@@ -56,13 +56,13 @@ first-before One p = omega arith
 first-before Two p = omega arith
 first-before TwoFive p = omega arith
 
--- and earlier, if that isn't the first of all
+-- it begins earlier, if that isn't the first position of all
 pub first-early : (v : Version) (p : ℕ) → 0 < p → warm_up_frame (samples_of v) p * samples_of v < p
 first-early One p some = omega (arith, some)
 first-early Two p some = omega (arith, some)
 first-early TwoFive p some = omega (arith, some)
 
--- it ends no earlier than its last position
+-- a span ends no earlier than its last position
 pub last-behind : (v : Version) (q : ℕ) → q ≤ frames_before (samples_of v) q * samples_of v
 last-behind One q = omega arith
 last-behind Two q = omega arith
@@ -75,7 +75,7 @@ first-rises One p q later = omega (arith, later)
 first-rises Two p q later = omega (arith, later)
 first-rises TwoFive p q later = omega (arith, later)
 
--- and ends no earlier
+-- a later span ends no earlier
 pub last-rises : (v : Version) (p q : ℕ) → p ≤ q
     → frames_before (samples_of v) p ≤ frames_before (samples_of v) q
 last-rises One p q later = omega (arith, later)
@@ -86,7 +86,7 @@ last-rises TwoFive p q later = omega (arith, later)
 
 module _ (file : List ℕ) (s : SurveyFields) (has : CanBeRelaid file s)
     (few : length s.frames ≤ most_frames) where
-  -- as many frames of the run are between two numbers as there are from one to the other
+  -- the run between two numbers has as many frames as their difference
   pub run-many : (i j : ℕ) → j ≤ length (own file s has).frames
       → length (run_between file (own file s has) i j) ≡ j - i
   run-many i j within =
@@ -99,7 +99,7 @@ module _ (file : List ℕ) (s : SurveyFields) (has : CanBeRelaid file s)
       ∙ length-take-le (j - i) (drop i rows) (omega (arith, length-drop i rows, within))
 
   module _ (from to : ExactPlace) (span : Span) (found : IsFound file s has from to span) where
-    -- a head that says the span plays its samples where the recording has them
+    -- a head that describes the span plays its samples where the recording has them
     pub places-of : (many : ℕ) (fields : Info) → AreLeads span many
         → IsPieceHead s.class many span fields
         → KeepsPlaces s.class many span.first (sample file s has from) (sample file s has to)
@@ -129,7 +129,7 @@ module _ (file : List ℕ) (s : SurveyFields) (has : CanBeRelaid file s)
       abbrev many : ℕ
       many = leads file s has span
 
-      -- its frames are there
+      -- the frames of the span are there
       pub inside : IsSpanIn (own file s has) span
       inside = span_apart s span found.there
 
@@ -143,7 +143,7 @@ module _ (file : List ℕ) (s : SurveyFields) (has : CanBeRelaid file s)
           (piece-by file s has span made.row made.row_is)
           (pieces-play file s from to span has found.found)
 
-      -- the lead-ins are those that the span has to have
+      -- the lead-ins are those that the span must have
       pub leads-are : AreLeads span many
       leads-are = plays.leads
 
@@ -181,7 +181,7 @@ module _ (file : List ℕ) (s : SurveyFields) (has : CanBeRelaid file s)
           ((has-own file s has).placed span.first made.row made.row_is).known whole front frames
           made.back
 
-      -- so what is read of the head says the span
+      -- what is read of the head describes the span
       pub read-head : IsPieceHead s.class many span read
       read-head = record {
         frames = read-count;
@@ -226,7 +226,7 @@ module _ (file : List ℕ) (s : SurveyFields) (has : CanBeRelaid file s)
             ∙ length-append lead_ins run
             ∙ ap₂ (λ m n. m + n) same (run-many span.first span.last inside.within)
 
-        -- its head counts what is played by it
+        -- the head of the input counts what is played by it
         pub counted : (part_brought p).played
             ≡ Some (played_of (Some read) s.class (many + (span.last - span.first)))
         counted =
@@ -236,7 +236,7 @@ module _ (file : List ℕ) (s : SurveyFields) (has : CanBeRelaid file s)
             ∙ counted-is s.class many span read (many + (span.last - span.first)) found.there.some
             read-head
 
-        -- where the recording has it
+        -- the samples are played where the recording has them
         pub kept : KeepsPlaces s.class many span.first (sample file s has from)
             (sample file s has to)
             (played_of (Some read) s.class (many + (span.last - span.first))) (input_played file s)
@@ -272,7 +272,8 @@ module _ (file : List ℕ) (s : SurveyFields) (has : CanBeRelaid file s)
                   (last-behind s.class.version end);
             }
 
-      -- The input is the span, and its stream is as many lead-ins and then the frames of the span.
+      -- The input is the span, and its stream is this many lead-ins and then the frames of the
+      -- span.
       pub record HasSpan : Type 0 where
         pub spans : IsSpanOf s.class all start end (part_brought p)
         pub from_is : spans.from ≡ span.first
@@ -282,7 +283,7 @@ module _ (file : List ℕ) (s : SurveyFields) (has : CanBeRelaid file s)
         pub stream_is : whole_stream c p is ≡ leads ++ stream
         pub same : length leads ≡ length spans.lead_ins
 
-      -- without a lead-in
+      -- the input is the span, without a lead-in
       pub brought-own : IsLaidOwn file s has span found.there made.row made.row_is
           → BringsOwn c p is run stream
       brought-own ways =
@@ -303,7 +304,7 @@ module _ (file : List ℕ) (s : SurveyFields) (has : CanBeRelaid file s)
             same = refl;
           }
 
-      -- with one
+      -- the input is the span, after a lead-in
       pub brought-led : IsLaidLed file s has span found.there made.row made.row_is
           → BringsLed c p is run stream
       brought-led ways =
@@ -324,7 +325,7 @@ module _ (file : List ℕ) (s : SurveyFields) (has : CanBeRelaid file s)
             same = refl;
           }
 
-      -- either way
+      -- the input is the span, in both ways
       pub has-span : HasSpan
       has-span =
           elim (span-ways file s has span found.there made.row made.row_is) as (λ _. HasSpan) [

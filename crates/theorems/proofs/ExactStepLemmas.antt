@@ -32,7 +32,7 @@ module _ (file : List ℕ) (s : SurveyFields) (has : CanBeRelaid file s)
     (few : length s.frames ≤ most_frames) where
   -- ---- the pieces in two lists
 
-  -- those of the first list end at a place, and those of the second go on from it
+  -- the pieces of the first list end at a place, and the pieces of the second continue from it
   record AreCut (from : ExactPlace) (tos : List ExactPlace) (parts others : List FilePart) : Type 0
     where
       first : List ExactPlace
@@ -83,7 +83,7 @@ module _ (file : List ℕ) (s : SurveyFields) (has : CanBeRelaid file s)
 
   module _ (known : IsClass s.class) (most : ℕ) (e : survey_fields file most ≡ Ok s)
       (filled : HasNoEmptyFrame s.class (st file s has few)) where
-    -- what is cut from a place to another, without the blocks behind
+    -- what is cut from one place to another, without the blocks after the frames
     abbrev cut_between : ExactPlace → ExactPlace → List ℕ
     cut_between from to =
         bare_file (span_piece (head file s has)
@@ -156,14 +156,14 @@ module _ (file : List ℕ) (s : SurveyFields) (has : CanBeRelaid file s)
       abbrev all_span : Span
       all_span = whole_span file s has few known place next places first parts inputs files
 
-      -- so the join is what is cut from the first place to the last
+      -- the join is what is cut from the first place to the last
       all-joined : seamless_file (first ∷ parts) ≡ cut_between place (last_place next places)
       all-joined =
           cut-file file s has few known place next places first parts inputs files
           (is-same file s has few known place next places first parts inputs files first-none) most
           e
 
-      -- and is an exact piece
+      -- the join is an exact piece
       joined-piece : (bytes : List ℕ) → bytes ≡ seamless_file (first ∷ parts)
           → IsExactFile file s has all_span bytes
       joined-piece bytes is =
@@ -224,7 +224,7 @@ module _ (file : List ℕ) (s : SurveyFields) (has : CanBeRelaid file s)
         ∙ ap (cut_between place) cut.last
         ∙ sym (all-joined place next places first (parts ++ others) inputs files)
 
--- a join of exact pieces in two steps makes the same file as one of all at once
+-- a join of exact pieces in two steps makes the same file as a join of all at once
 pub exact-in-steps : ExactInSteps
 exact-in-steps points file s place next places laid first parts others read e inputs filled steps =
     let has = survey-had file most_frames s read in

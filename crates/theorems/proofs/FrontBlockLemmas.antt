@@ -1,4 +1,4 @@
--- A file of chosen frames has the same blocks in front as the file from which they are.
+-- A file of chosen frames has the same blocks before its frames as the file that they are from.
 use Rattle.std.proofs.Common.{ap, append-nil, append_assoc, ap₂, arith, Bool, cond, drop, false}
 use Rattle.std.proofs.Common.{filter, length, List, map, None, Ok, Option, option_map}
 use Rattle.std.proofs.Common.{option_to_list, refl, Some, subst, sym, take, true, ℕ, [], ◌++◌, ◌+◌}
@@ -80,7 +80,7 @@ surveyed-own file allowed s e =
     let parts = surveyed-parts file allowed s e in
     subst (λ (t : SurveyFields). AreOwn file t.blocks) parts.2 (all-own file parts.0)
 
--- those of them that go in front
+-- the blocks that go before the frames
 abbrev AreFront : List ℕ → List Piece → Type 0
 AreFront file [] = Unit {0}
 AreFront file (p ∷ ps) = IsOwn file p × (is_id3v2_kind p.block.kind ≡ true) × AreFront file ps
@@ -96,7 +96,7 @@ front-of file s (p ∷ ps) are = at (goes_in_front s p) refl (front-of file s ps
         (are.0, (and_parts (is_id3v2_kind p.block.kind) (nat_lt p.offset s.first) goes).0, more)
     at false stays more = more
 
--- ---- in front of another file
+-- ---- before the bytes of another file
 
 module _ (file : List ℕ) (t : SurveyFields) (bytes rest : List ℕ) where
   abbrev blocks : List Piece → List (List ℕ)
@@ -141,7 +141,7 @@ module _ (file : List ℕ) (t : SurveyFields) (bytes rest : List ℕ) where
       (bytes_are ∙ sym (append_assoc before own (concat (blocks ps) ++ rest)))
       (omega (arith, early, many, moved)))
 
--- blocks behind aren't in front
+-- blocks after the frames aren't front blocks
 one-behind : (t : SurveyFields) (at : ℕ) (o : Option TagBlock) (ps : List Piece) → t.first ≤ at
     → filter (goes_in_front t)
     (option_to_list (option_map (λ (b : TagBlock). record { offset = at; block = b }) o) ++ ps)
@@ -186,7 +186,7 @@ module _ (file : List ℕ) (s : SurveyFields) (allowed : ℕ) (e : survey_fields
   abbrev fields : SurveyFields
   fields = laid_fields front first info frames back
 
-  -- they are those of the file that is made
+  -- the front blocks of the written file are those of the file that it is made from
   pub front-stays : front_blocks made fields ≡ front
   unfolding laid_file laid_fields
   front-stays =

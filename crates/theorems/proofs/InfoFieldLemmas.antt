@@ -1,4 +1,4 @@
--- Info frames of the same fields, and what an extension keeps of the head that it is made of.
+-- Info frames of the same fields, and what an extension keeps of the head that it is made from.
 use Rattle.std.proofs.Common.{ap, ap₂, arith, Bool, cond, drop, false, length, List, None, Option}
 use Rattle.std.proofs.Common.{refl, replicate, Some, sym, take, true, ℕ, [], ◌%◌, ◌++◌, ◌-◌, ◌/◌}
 use Rattle.std.proofs.Common.{◌^◌, ◌∙◌, ◌∷◌, ◌≡◌}
@@ -31,7 +31,7 @@ frame-same g h a b headers same =
     ++ (l ++ replicate (area_of (class_of k) (info_slot_of (class_of k)) false - 156) 0)))
     headers same
 
--- what is written of a quality
+-- the bytes that are written for a quality
 abbrev pub quality_bytes : Option ℕ → List ℕ
 quality_bytes quality = big_bytes 4 (number_or_zero quality)
 
@@ -51,7 +51,7 @@ module _ (c : ClassFields) (frames : List Frame) (first second : Option ℕ)
       ++ (big_bytes 4 (number_or_zero info.bytes) ++ (table_or_zeros info.table ++ (q ++ e))))))
       quality same
 
-  -- sealed Info frames whose quality is written alike are the same
+  -- sealed Info frames whose qualities are written alike are the same
   pub sealed-same : (g h : HeaderFields) (extension : List ℕ)
       → info_header_of g ≡ info_header_of h
       → info_frame g (sealed_info g (info_for c frames first extension))
@@ -70,7 +70,7 @@ module _ (c : ClassFields) (frames : List Frame) (first second : Option ℕ)
       (sealed_info h (info_for c frames second extension)).extension
       (ap (λ n. take 34 one.extension ++ big_bytes 2 n) crc))
 
--- a quality that is read again is written alike
+-- a quality that was read back is written alike
 pub quality-again : (q : ℕ) → big_bytes 4 (q % 256 ^ 4) ≡ big_bytes 4 q
 quality-again q =
     let third : q % 256 ^ 4 / 256 ^ 3 % 256 ≡ q / 256 ^ 3 % 256 = omega arith in
@@ -93,7 +93,7 @@ kept-long : (head : Option Info) → IfSome head (λ (i : Info). length i.extens
 kept-long None long = refl
 kept-long (Some info) long = kept-by (has_encoder info.extension) info.extension long
 
--- music length and tag CRC are behind the first 28 bytes
+-- music length and tag CRC are after the first 28 bytes
 pub sealed-front : (first : HeaderFields) (info : Info) → length info.extension ≡ 36
     → take 28 (sealed_info first info).extension ≡ take 28 info.extension
 sealed-front first info long =
@@ -119,7 +119,8 @@ sealed-front first info long =
     (omega (arith, few))
     ∙ take-take 28 28 info.extension (omega arith)
 
--- the bytes of an extension that one made of it keeps, and the name of an encoder that counts
+-- this extension has the bytes that are kept from a head's extension (the first 21, and 24 to 27),
+-- and the name of an encoder that counts
 pub record Keeps (head : Option Info) (extension : List ℕ) : Type 0 where
   pub front : take 21 extension ≡ take 21 (kept_extension head)
   pub mid : take 4 (drop 24 extension) ≡ take 4 (drop 24 (kept_extension head))
@@ -138,7 +139,7 @@ module _ (head : Option Info) (long : IfSome head (λ (i : Info). length i.exten
       length-take-le 4 (drop 24 (kept_extension head))
       (omega (arith, length-drop 24 (kept_extension head), kept-long head long))
 
-  -- what is made of a head keeps its first 21 bytes
+  -- what is made from a head keeps its first 21 bytes
   pub made-front : take 21 made ≡ take 21 (kept_extension head)
   unfolding extension_of
   made-front =
@@ -147,7 +148,7 @@ module _ (head : Option Info) (long : IfSome head (λ (i : Info). length i.exten
       (omega (arith, front-long))
       ∙ take-take 21 21 (kept_extension head) (omega arith)
 
-  -- and the bytes 24 to 27
+  -- what is made from a head keeps its bytes 24 to 27
   pub made-mid : take 4 (drop 24 made) ≡ take 4 (drop 24 (kept_extension head))
   unfolding extension_of
   made-mid =
@@ -158,7 +159,7 @@ module _ (head : Option Info) (long : IfSome head (λ (i : Info). length i.exten
       (drop_at (take 21 (kept_extension head)) (three_bytes delay padding ++ rest) 21 front-long))
       ∙ take_at (take 4 (drop 24 (kept_extension head))) (replicate 8 0) 4 mid-long
 
-  -- so does whatever begins with the same 28 bytes
+  -- any extension that begins with the same 28 bytes keeps them
   pub keeps-by : (extension : List ℕ) → take 28 extension ≡ take 28 made
       → IsTrue (has_encoder extension) → Keeps head extension
   keeps-by extension same encoder = record {
@@ -169,7 +170,7 @@ module _ (head : Option Info) (long : IfSome head (λ (i : Info). length i.exten
     encoder = encoder;
   }
 
--- what is made of an extension that keeps those of a head is made of the head
+-- what is made from an extension that keeps the bytes of a head is made from the head
 pub made-again : (head : Option Info) (fields : Info) (delay padding : ℕ)
     → Keeps head fields.extension
     → extension_of (Some fields) delay padding ≡ extension_of head delay padding

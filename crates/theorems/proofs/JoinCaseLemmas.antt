@@ -62,7 +62,7 @@ module _ (first : FilePart) (parts : List FilePart)
       (least_plan (window_of class.version) own_choice (map (map need_of) (map part_rows all)))
   one_plan = (parts-plan class own_choice (map part_rows all) _ all_fit all_fit.kept).1 refl
 
-  -- the plan is that of all parts
+  -- the plan is the plan of all parts
   pub join-plan : IsPlan (window_of class.version) own_choice (map part_needs all)
       (joined_plan class all)
   join-plan = subst (λ (parts : List (List Need)). IsPlan (window_of class.version) own_choice parts
@@ -73,7 +73,7 @@ module _ (first : FilePart) (parts : List FilePart)
   unfolding joined_stream
   join-exact = planned-exact class own_choice all (joined_plan class all) are join-plan
 
--- the stream of a join is exactly the frames of its inputs, each behind at most one lead-in
+-- the stream of a join is exactly the frames of its inputs, each input after at most one lead-in
 pub joined-exact : JoinedStreamsAreExact
 joined-exact = join-exact
 
@@ -101,7 +101,7 @@ part-stream files name file allowed s there is =
     whole-stream file s ∙ sym (stream-is file allowed s is)
     ∙ sym (ap (λ (o : Option (List ℕ)). stream_of (unwrap_or o [])) there)
 
--- each is the frames of the input at its place
+-- each part is the frames of the input at its place
 pub record AreFramesOf (files : Contents) (c : ClassFields) (names : List (List ℕ))
     (parts : List FilePart) : Type 0 where
   pub are : AreParts c parts

@@ -130,7 +130,7 @@ pub record LedNeeds (window : ℕ) (needs : List Need) (at : ℕ) (fs : List Fra
   pub lead : lead_in_header window needs ≡ Some header
   pub blank : begins_blank (rows_from at fs) ≡ true
 
--- frames that are laid after their lead-in need what it and they do
+-- frames that are laid after their lead-in need what the lead-in and they do
 pub led-needs : (class : ClassFields) (window at : ℕ) (needs : List Need) (fs : List Frame)
     (placed : List Placed) → IsClass class → AreStreamEntries class fs → AreNeedsOf needs fs
     → AreLedInOwnSlots window needs placed → FitsFromReach window 0 needs placed
@@ -199,7 +199,7 @@ pub record BringsOwn (class : ClassFields) (p : FilePart) (is : IsInput class p)
   pub rows_need : map need_of p.survey.frames ≡ needs_of frames
   pub stream_is : whole_stream class p is ≡ own
 
--- these frames after a lead-in, which the input has in front
+-- these frames after a lead-in, which the input has at its front
 pub record BringsLed (class : ClassFields) (p : FilePart) (is : IsInput class p)
     (frames : List RunFrame) (own : List StreamFrame) : Type 0 where
   pub lead_in : RunFrame
@@ -233,7 +233,7 @@ module _ (laid : LaidPart) (file : List ℕ) (s : SurveyFields) (has : CanBeRela
   abbrev own : List StreamFrame
   own = part_stream part
 
-  -- its frames as those of a run
+  -- the chosen frames as frames of a run
   abbrev pub own_run : List RunFrame
   own_run = map (run_frame s.class) (zip (slice_range s.frames laid.from laid.to) own)
 
@@ -263,7 +263,7 @@ module _ (laid : LaidPart) (file : List ℕ) (s : SurveyFields) (has : CanBeRela
         length-map laid.placed (λ (p : Placed). p.slot),
       )
 
-  -- they can be laid, and are the frames of their stream with the lead-ins of the plan
+  -- the frames can be laid, and are the frames of their stream with the lead-ins of the plan
   pub laid-as : AreFramesOfStream s.class frames (stream_with_lead_ins laid.placed own)
   laid-as =
       let are = fitting-laid s.class part laid.placed part-is fitting in
@@ -290,7 +290,7 @@ module _ (laid : LaidPart) (file : List ℕ) (s : SurveyFields) (has : CanBeRela
 
   -- ---- as an input
 
-  -- the file, with any blocks behind its frames
+  -- the file, with any blocks after its frames
   module _ (row : Row) (row_is : slice_get s.frames laid.from ≡ Some row) (back : List (List ℕ))
       (behind : AreBlocks back) where
     abbrev pub made : List ℕ
@@ -331,7 +331,7 @@ module _ (laid : LaidPart) (file : List ℕ) (s : SurveyFields) (has : CanBeRela
           many made-laid (omega arith) in
           cc
 
-      -- the class of the input is that of the file
+      -- the class of the input is the class of the file
       pub class-same : c ≡ s.class
       unfolding laid_fields
       class-same =
@@ -352,7 +352,7 @@ module _ (laid : LaidPart) (file : List ℕ) (s : SurveyFields) (has : CanBeRela
           ∙ ap (λ (rows : List Row). record p.survey { frames = rows })
           (none-emptied p.survey.frames none-lost.kept)
 
-      -- the stream of the input is that of its frames
+      -- the stream of the input is the stream of its frames
       pub input-stream : whole_stream c p is ≡ stream_with_lead_ins laid.placed own
       input-stream =
           ap (λ (t : SurveyFields). stream_of_survey p.file t) apart-same
@@ -369,11 +369,11 @@ module _ (laid : LaidPart) (file : List ℕ) (s : SurveyFields) (has : CanBeRela
       unfolding laid_fields
       rows-are = ap (λ (t : SurveyFields). t.frames) (sym told)
 
-      -- its rows need what its frames do
+      -- the rows of the input need what its frames do
       pub input-rows : map need_of p.survey.frames ≡ map frame_need frames
       input-rows = ap (map need_of) rows-are ∙ rows-needs at frames
 
-      -- and so do the frames that it brings
+      -- the frames that the input brings need what its frames do
       pub input-needs : needs_of (part_brought p).frames ≡ map frame_need frames
       input-needs =
           brought-needs c p is ∙ ap (λ (t : SurveyFields). map need_of t.frames) apart-same
@@ -384,13 +384,13 @@ module _ (laid : LaidPart) (file : List ℕ) (s : SurveyFields) (has : CanBeRela
       input-sounds = brought-sounds c p is ∙ ap (map (sound_of c)) input-stream
           ∙ ap (λ d. map (sound_of d) (stream_with_lead_ins laid.placed own)) class-same
 
-      -- its head is the Info frame
+      -- the head of the input is the Info frame
       pub head-is : p.survey.head
           ≡ Some (head_at (length (concat (front_blocks file s))) row.header)
       unfolding laid_fields
       head-is = ap (λ (t : SurveyFields). t.head) (sym told)
 
-      -- its blocks in front are those of the file
+      -- the front blocks of the input are the front blocks of the file
       pub front-same : (many : ℕ) (t : SurveyFields) → survey_fields file many ≡ Ok t
           → front_blocks file t ≡ front_blocks file s
           → front_blocks p.file p.survey ≡ front_blocks file s
@@ -412,7 +412,7 @@ module _ (laid : LaidPart) (file : List ℕ) (s : SurveyFields) (has : CanBeRela
           let rows : List Row = slice_range s.frames laid.from laid.to in
           run-sounds s.class rows own (own-length ∙ length-map rows need_of)
 
-      -- in their own slots it brings them alone
+      -- in their own slots, the input brings the frames alone
       pub brings-own : AreInOwnSlots needs laid.placed → BringsOwn c p is own_run own
       brings-own in_own =
           let all : stream_with_lead_ins laid.placed own ≡ own =
@@ -433,7 +433,7 @@ module _ (laid : LaidPart) (file : List ℕ) (s : SurveyFields) (has : CanBeRela
             stream_is = input-stream ∙ all;
           }
 
-      -- after their lead-in it brings them after it
+      -- after their lead-in, the input brings the frames after it
       pub brings-led : AreLedInOwnSlots window needs laid.placed → BringsLed c p is own_run own
       unfolding has_lead_in
       brings-led led =

@@ -1,5 +1,5 @@
--- The plan of a part after a lead-in in any case, and that of a part that wants none: of the first
--- the lead-in has the least slot behind whose area the frames fit.
+-- The plan of a part after an unconditional lead-in, and the plan of a part that needs none: the
+-- lead-in has the least slot whose area the frames fit after.
 use Rattle.std.proofs.Common.{ap, ap₂, arith, Contains, false, inl, inr, List, map, None, Option}
 use Rattle.std.proofs.Common.{refl, Some, subst, sym, ℕ, [], ◌-◌, ◌∙◌, ◌∷◌, ◌≡◌, ◌≤◌}
 use Rattle.std.proofs.lemmas.List.{append-nil}
@@ -75,7 +75,8 @@ leads-begins window needs (lead_in ∷ lead_ins) placed alone plan fits =
     (subst (λ items. IsPlanFor window items placed)
     (append-nil (part_items own_choice needs lead_in)) plan) fits
 
--- in the plan of frames that fit behind no bytes main data begin as early as they may
+-- in the plan of frames that fit with no free bytes before them, main data begin as early as they
+-- may
 pub plan-begins : (window : ℕ) (needs : List Need) (placed : List Placed)
     → IsPlan window own_choice (needs ∷ []) placed → FitsBehind window 0 needs
     → OwnBegins window needs placed
@@ -104,13 +105,13 @@ own-same (need ∷ needs) (x ∷ xs) (y ∷ ys) first second begins =
     ∙ ap (λ n. record { lead_in = y.lead_in; slot = y.slot; begin = n }) begin)
     (own-same needs xs ys first.2 second.2 more)
 
--- ---- behind a lead-in in any case
+-- ---- after an unconditional lead-in
 
 -- what a lead-in before a frame with this header needs, in this slot
 abbrev pub lead_need : HeaderFields → SlotFields → Need
 lead_need h slot = record { header = record h { protected = false; slot = slot }; bytes = 0 }
 
--- frames fit behind the area of a lead-in exactly where they fit after the lead-in
+-- if a lead-in and frames fit with no free bytes before them, the frames fit after its area
 pub lead-fits : (window : ℕ) (h : HeaderFields) (slot : SlotFields) (needs : List Need)
     → FitsBehind window 0 (lead_need h slot ∷ needs)
     → FitsBehind window (area_of (class_of h) slot false) needs
@@ -119,7 +120,7 @@ lead-fits window h slot needs fits =
     let behind = fits-cons window 0 (lead_need h slot) needs (omega arith) fits in
     more-behind window (free_bytes_behind window 0 0 area) area needs (omega arith) behind.1
 
--- and the other way
+-- if frames fit after the area of a lead-in, it and the frames fit with no free bytes before them
 pub fits-lead : (window : ℕ) (h : HeaderFields) (slot : SlotFields) (needs : List Need)
     → FitsBehind window (area_of (class_of h) slot false) needs
     → FitsBehind window 0 (lead_need h slot ∷ needs)
@@ -217,8 +218,8 @@ module _ (window : ℕ) (first : Need) (needs : List Need) where
             ∙ ap (begins_of window 0 0) (led-laid p.slot);
       }
 
-  -- the plan of a part after a lead-in in any case: the lead-in
-  -- has the least slot behind whose area the frames fit
+  -- the plan of a part after an unconditional lead-in: the lead-in has the least slot whose area
+  -- the frames fit after
   pub led-as : (placed : List Placed) → IsLedPlan window own_choice all placed → IsLedAs placed
   unfolding AreItemSlots led_items
   led-as [] plan = absurd plan.slots

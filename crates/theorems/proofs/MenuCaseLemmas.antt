@@ -41,7 +41,7 @@ rates-menu mode class needs placed sound same some planned =
     ((least_menu_plan-is window class (menu_in mode class) needs same some
     (menu-ascends mode class sound) (menu-some mode class ok.0)).0 placed).1 is
 
--- ---- its stream
+-- ---- the stream of that plan
 
 menu-exact : (lead_in : Bool) (menu : List SlotFields) (needs : List Need) (fs : List StreamFrame)
     (placed : List Placed) → IsSized needs fs → AreItemSlots (menu_items lead_in menu needs) placed
@@ -53,7 +53,7 @@ menu-exact true menu [] fs placed sized for_items = absurd (omega (arith, sized.
 menu-exact true menu (first ∷ needs) fs placed sized for_items = led-exact (menu_choices menu)
     (first ∷ needs) (lead_in_item (class_of first.header) menu) refl fs placed sized for_items
 
--- that of a best plan is of the menu of all slots
+-- a best plan is a plan of the menu of all slots, and its stream is exactly the frames
 behind-exact : (lead_in : Bool) (needs : List Need) (fs : List StreamFrame) (placed : List Placed)
     → IsSized needs fs → AreItemSlots (items_with_lead_in lead_in any_choice needs) placed
     → IsExactly (fs ∷ []) (stream_with_lead_ins placed fs)
@@ -99,7 +99,7 @@ module _ (chosen : Chosen) (file : List ℕ) (s : SurveyFields) (is : survey_of 
   mode-exact (Constant rate) placed planned = rates-exact (Constant rate) placed planned
   mode-exact (Floor rate) placed planned = rates-exact (Floor rate) placed planned
 
--- the stream of a packing is exactly the frames, behind at most one lead-in
+-- the stream of a packing is exactly the frames, after at most one lead-in
 pub packed-exact : PackedStreamsAreExact
 packed-exact mode chosen file s placed is some within planned =
     subst (λ (l : List StreamFrame). IsExactly (l ∷ []) (stream_with_lead_ins placed l))

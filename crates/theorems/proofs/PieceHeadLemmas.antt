@@ -1,4 +1,5 @@
--- The head of a written file says the extension of its Info frame. One of zeros counts nothing.
+-- The head of a written file has the extension of its Info frame. An extension of zeros counts
+-- nothing.
 use Rattle.std.proofs.Common.{ap, append_assoc, arith, Bool, cond, drop, false, length, List, None}
 use Rattle.std.proofs.Common.{Option, refl, replicate, Some, sym, take, true, ℕ, [], ◌%◌, ◌++◌, ◌-◌}
 use Rattle.std.proofs.{Common.{◌<◌, ◌^◌, ◌∙◌, ◌≡◌, ◌≤◌}, lemmas.Bool.{and_right, le-leb}}
@@ -124,7 +125,7 @@ module _ (first : HeaderFields) (info : Info) (known : IsHeader first)
       ∙ ap (λ (l : List ℕ). big_bytes 4 15 ++ l) (append_assoc four behind zeros)))
       ∙ frames-by info.vbr (number_or_zero info.frames) (behind ++ zeros)
 
-  -- the number of frames of an Info frame is read again
+  -- the number of frames of an Info frame is read back
   frames-in : (n : ℕ) → info.frames ≡ Some n → n < 256 ^ 4 → (info_in fields).frames ≡ Some n
   unfolding info_in field_in field_place
   frames-in n is small =
@@ -135,7 +136,7 @@ module _ (first : HeaderFields) (info : Info) (known : IsHeader first)
       (frames-at ∙ ap (λ (o : Option ℕ). big_bytes 4 (number_or_zero o)) is)
       ∙ ap Some (big_number-reads_back 4 n [] small)
 
-  -- the quality, behind the table
+  -- the quality, after the table
   behind-by : (vbr : Bool) (m n : ℕ) (rest : List ℕ)
       → drop 16
       (vbr_text vbr ++ (big_bytes 4 15 ++ (big_bytes 4 m ++ (big_bytes 4 n ++ rest)))) ≡ rest
@@ -179,7 +180,7 @@ module _ (first : HeaderFields) (info : Info) (known : IsHeader first)
   quality-long : 120 ≤ length fields
   quality-long = omega (arith, length-append (info_bytes info) zeros, length-info info sizes)
 
-  -- the quality of an Info frame is read again, as a number of four bytes
+  -- the quality of an Info frame is read back, as a number of four bytes
   quality-in : (info_in fields).quality ≡ Some (number_or_zero info.quality % 256 ^ 4)
   unfolding info_in field_in field_place
   quality-in =
@@ -215,7 +216,7 @@ module _ (first : HeaderFields) (info : Info) (known : IsHeader first)
         head-there
         ∙ ap (λ (l : List ℕ). (info_in l).extension) fields-there ∙ extension-in
 
-    -- its number of frames too
+    -- the head of the file has the number of frames that it was laid with
     pub laid-count : (n : ℕ) → info.frames ≡ Some n → n < 256 ^ 4
         → (head_info file (Some (head_at (length (concat front)) first))).frames ≡ Some n
     unfolding head_info
@@ -224,7 +225,7 @@ module _ (first : HeaderFields) (info : Info) (known : IsHeader first)
         head-there
         ∙ ap (λ (l : List ℕ). (info_in l).frames) fields-there ∙ frames-in n is small
 
-    -- and its quality
+    -- the head of the file has the quality that it was laid with
     pub laid-quality
         : (head_info file (Some (head_at (length (concat front)) first))).quality
         ≡ Some (number_or_zero info.quality % 256 ^ 4)

@@ -1,5 +1,5 @@
 -- The file of chosen frames as an input of a seamless join: it brings these frames, after the
--- lead-in that they want.
+-- lead-in that they need.
 use Rattle.std.proofs.Common.{ap, Bool, drop, false, inl, length, List, map, None, Ok, Option, refl}
 use Rattle.std.proofs.Common.{replicate, Some, subst, sym, true, zip, ℕ, [], ◌++◌, ◌<◌, ◌∙◌, ◌∷◌}
 use Rattle.std.proofs.{Common.{◌≡◌, ◌≤◌}, lemmas.Bool.both_ways}
@@ -32,7 +32,7 @@ use Rattle.theorems.proofs.PieceHeadLemmas.{laid-extension, zero-counts}
 use Rattle.theorems.proofs.SeamlessInputLemmas.{IsInput, run-needs, stream-from, whole_stream}
 use Rattle.theorems.proofs.SeamlessRunLemmas.{has-leads, HasLeads}
 
--- a row of an input, and that of the first frame that was chosen: their headers are the same
+-- a row of an input, and the row of the first frame that was chosen: their headers are the same
 pub record FrontRow (s : SurveyFields) (p : FilePart) (from front : ℕ) : Type 0 where
   pub row : Row
   pub found : slice_get p.survey.frames front ≡ Some row
@@ -40,7 +40,7 @@ pub record FrontRow (s : SurveyFields) (p : FilePart) (from front : ℕ) : Type 
   pub own : slice_get s.frames from ≡ Some own_row
   pub header : row.header ≡ own_row.header
 
--- the file of chosen frames, with any blocks behind them
+-- the file of chosen frames, with any blocks after them
 pub record IsPieceFile (chosen : Chosen) (file : List ℕ) (s : SurveyFields) (bytes : List ℕ)
     : Type 0 where
   pub row : Row
@@ -51,7 +51,7 @@ pub record IsPieceFile (chosen : Chosen) (file : List ℕ) (s : SurveyFields) (b
       ≡ laid_file (front_blocks file s) row.header (info_laid (own_slots_part chosen s) file s)
       (frames_laid (own_slots_part chosen s) file s) back
 
--- a file that was laid is one
+-- a file that was laid is the file of a piece
 pub laid-piece : (chosen : Chosen) (file : List ℕ) (s : SurveyFields) → CanBeRelaid file s
     → chosen.from < length s.frames
     → IsPieceFile chosen file s (file_laid (own_slots_part chosen s) file s)
@@ -91,7 +91,7 @@ module _ (chosen : Chosen) (file : List ℕ) (s : SurveyFields) (has : CanBeRela
   abbrev own : List StreamFrame
   own = part_stream part
 
-  -- its frames as those of a run
+  -- the chosen frames as frames of a run
   abbrev pub own_frames : List RunFrame
   own_frames = map (run_frame s.class) (zip (slice_range s.frames chosen.from chosen.to) own)
 
@@ -110,7 +110,7 @@ module _ (chosen : Chosen) (file : List ℕ) (s : SurveyFields) (has : CanBeRela
   own-many : length own ≡ length needs
   own-many = (part-sized s.class part part-is).same
 
-  -- the lead-ins that the plan of the piece puts in front of its own frames
+  -- the lead-ins that the plan of the piece puts before its own frames
   pub own_leads : HasLeads window needs placed own
   own_leads = has-leads window needs placed own planned own-many
 
@@ -137,7 +137,7 @@ module _ (chosen : Chosen) (file : List ℕ) (s : SurveyFields) (has : CanBeRela
 
   -- ---- as an input
 
-  -- the file of the piece, with any blocks behind its frames
+  -- the file of the piece, with any blocks after its frames
   module _ (row : Row) (row_is : slice_get s.frames chosen.from ≡ Some row) (back : List (List ℕ))
       (behind : AreBlocks back) where
     abbrev pub made : List ℕ
@@ -145,13 +145,13 @@ module _ (chosen : Chosen) (file : List ℕ) (s : SurveyFields) (has : CanBeRela
 
     module _ (c : ClassFields) (p : FilePart) (is : IsInput c p)
         (same_file : p.file ≡ made) where
-      -- the class of the input is that of the file that the piece was cut from
+      -- the class of the input is the class of the file that the piece was cut from
       pub same-class : c ≡ s.class
       same-class =
           class-same laid file s has some within fitting long row row_is back behind c p is
           same_file
 
-      -- the stream of the input is the lead-ins, and then its own frames
+      -- the stream of the input is the lead-ins and then its own frames
       pub piece-stream : whole_stream c p is ≡ own_leads.leads ++ own
       piece-stream =
           input-stream laid file s has some within fitting long row row_is back behind c p is
@@ -184,13 +184,13 @@ module _ (chosen : Chosen) (file : List ℕ) (s : SurveyFields) (has : CanBeRela
           same_file
           led
 
-      -- without a lead-in
+      -- a piece without a lead-in has none as an input
       unled-is : fits_behind window 0 needs ≡ true → has_lead_in window (part_brought p) ≡ false
           → IsUnledPiece window own_frames (part_brought p)
       unled-is fits none =
           record { frames_are = (brought-own (in-own fits)).frames_are; none = none }
 
-      -- with one
+      -- a piece with a lead-in has it as an input
       led-is : fits_behind window 0 needs ≡ false → IsLedPiece window own_frames (part_brought p)
       led-is lacks =
           let brings = brought-led (in-led lacks) in
@@ -203,7 +203,7 @@ module _ (chosen : Chosen) (file : List ℕ) (s : SurveyFields) (has : CanBeRela
                 same-class brings.has;
           }
 
-      -- The piece, unless it has a lead-in in front that it wasn't given.
+      -- The input is the piece, unless it has a lead-in at its front that it wasn't given.
       pub piece-is : (fits_behind window 0 needs ≡ true → has_lead_in window (part_brought p)
           ≡ false) → IsPieceOf window own_frames (part_brought p)
       piece-is none = record {
@@ -224,7 +224,7 @@ module _ (chosen : Chosen) (file : List ℕ) (s : SurveyFields) (has : CanBeRela
           stream-from c p is 1 ∙ ap (drop 1) piece-stream
           ∙ ap (λ (l : List StreamFrame). drop 1 (l ++ own)) (own_leads.led lacks).3
 
-      -- what is left of its stream without the lead-in, if it was given one, is its own frames
+      -- what is left of its stream without the lead-in that it was given, if any, is its own frames
       pub left-own : part_stream
           (part_from (if fits_behind window 0 (needs_of own_frames) then 0 else 1) p) ≡ own
       left-own =
@@ -257,7 +257,7 @@ module _ (chosen : Chosen) (file : List ℕ) (s : SurveyFields) (has : CanBeRela
                     ap (λ (n : Need). n.header) same;
               }
 
-      -- behind the lead-in is the row of the first frame that was chosen
+      -- after the lead-in there is the row of the first frame that was chosen
       pub front-row : FrontRow s p chosen.from
           (if fits_behind window 0 (needs_of own_frames) then 0 else 1)
       front-row = by_fit (fits_behind window 0 (needs_of own_frames)) refl
@@ -271,7 +271,7 @@ module _ (chosen : Chosen) (file : List ℕ) (s : SurveyFields) (has : CanBeRela
               let brings = brought-led (in-led (fits-own false lacks)) in
               front-by 1 (ap (λ (l : List Need). slice_get l 1) brings.rows_need ∙ own-first)
 
-      -- its blocks in front are those of the file
+      -- the front blocks of the input are the front blocks of the file
       pub front-blocks-same : (many : ℕ) → survey_fields file many ≡ Ok s
           → front_blocks p.file p.survey ≡ front_blocks file s
       front-blocks-same many e =

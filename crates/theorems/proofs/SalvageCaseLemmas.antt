@@ -40,7 +40,7 @@ module _ (file : List ℕ) (d : DamagedFields) (read : damaged_of file ≡ Ok d)
   laid : IsDamagedLaidOut d
   laid = read-laid file d read
 
-  -- what is left is in the file as its survey says
+  -- what is left is in the file where its survey says
   pub left-had : CanBeRelaid file own
   left-had = damaged-had file d whole laid
 
@@ -64,7 +64,7 @@ module _ (file : List ℕ) (d : DamagedFields) (read : damaged_of file ≡ Ok d)
       (map need_of rows ∷ []) (own_slots_plan (all_chosen own) own)) (range-whole own.frames)
       (had-plan (all_chosen own) file own left-had left-some (omega arith) own_choice (inl refl))
 
--- the stream of a salvage is exactly what is left, behind at most one lead-in
+-- the stream of a salvage is exactly what is left, after at most one lead-in
 pub salvaged-exact : SalvagedStreamsAreExact
 salvaged-exact = left-exact
 
@@ -128,7 +128,7 @@ frames-left main head rows =
           );
     }
 
--- the frames that it has are those that are left, and those that aren't sound are empty
+-- the frames of the output are the frames that are left, and those that aren't sound are empty
 pub salvaged-left : SalvagedFramesAreLeft
 unfolding stream_of_survey
 salvaged-left file d read = subst (AreLeftOf d.survey.frames) (tells_streams file d read)

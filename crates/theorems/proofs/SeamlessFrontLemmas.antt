@@ -1,4 +1,4 @@
--- The lead-in that a run gets again is alike the one that left it.
+-- The lead-in that a run gets again is like the one that left it.
 use Rattle.std.proofs.Common.{ap, ap₂, arith, Bool, cond, Contains, drop, false, find, flat_map}
 use Rattle.std.proofs.Common.{length, List, map, None, Option, refl, Some, subst, suc, sym, take}
 use Rattle.std.proofs.Common.{true, zero, ℕ, [], ◌*◌, ◌++◌, ◌+◌, ◌<◌, ◌==◌, ◌∙◌, ◌∷◌, ◌≡◌}
@@ -131,7 +131,7 @@ one-header g h first second same =
     ∙ header_in-header_bits h second in
     cc
 
--- two frames, of which the first has the header of a lead-in before the second, but for its slot
+-- two frames, where the first has the header of a lead-in before the second, but for its slot
 record AreLed (rows : List Row) : Type 0 where
   first : Row
   second : Row
@@ -211,7 +211,7 @@ empty-sound c main head rows i r none =
     no_bits
     ∙ no-parts (granule_lengths r.header no_side))
 
--- a frame without main data, by its header
+-- a frame without main data, with this header
 abbrev silent_frame : HeaderFields → StreamFrame
 silent_frame h =
     record { header = h; side = no_side; payload = split_bits (granule_lengths h no_side) [] }
@@ -260,7 +260,8 @@ stream-two file s r q rows are =
 -- an input that begins with side information that is all 0
 module _ (c : ClassFields) (p : FilePart) (is : IsInput c p)
     (blank : begins_blank p.survey.frames ≡ true) where
-  -- its first frame, when the head is set apart, has side information with nothing in it
+  -- when the head is set apart, the first frame of the input has side information with nothing in
+  -- it
   pub blank-side : (r : Row) → slice_get (survey_without_head p.survey).frames 0 ≡ Some r
       → row_side r ≡ no_side
   blank-side r found =

@@ -62,7 +62,7 @@ input-is class place first allowed o p e same =
       some = some-frames is.file allowed is.survey is.surveyed;
     })
 
--- a list that was made with this part in front is this part and those behind it
+-- a list made with this part first is this part and the parts after it
 pub more-inputs : (part : FilePart) (r : Result (List FilePart) EditFault) (parts : List FilePart)
     → then_made r (λ later. Ok (part ∷ later)) ≡ Ok parts
     → (later : List FilePart) × (r ≡ Ok later) × (part ∷ later ≡ parts)
@@ -91,7 +91,7 @@ inputs-behind files class place allowed (name ∷ names) parts e =
           more.1,
     )
 
--- the parts that files are read as are inputs of the class of the first
+-- the parts that files are read as are inputs of the class of the first one
 pub inputs-are : (files : Contents) (names : List (List ℕ)) (first : FilePart)
     (parts : List FilePart) → join_parts files names ≡ Ok (first ∷ parts)
     → AreInputs first.survey.class (first ∷ parts)
@@ -117,7 +117,7 @@ inputs-are files (name ∷ names) first parts e =
 
 -- ---- what they bring
 
--- frames made of rows and a stream as long need what the rows do
+-- frames made from rows and a stream of the same length need what the rows do
 pub run-needs : (class : ClassFields) (rows : List Row) (stream : List StreamFrame)
     → length stream ≡ length rows
     → needs_of (map (run_frame class) (zip rows stream)) ≡ map need_of rows
@@ -126,7 +126,7 @@ run-needs class (r ∷ rows) [] same = absurd (omega (arith, same))
 run-needs class (r ∷ rows) (f ∷ stream) same =
     ap (λ l. need_of r ∷ l) (run-needs class rows stream (omega (arith, same)))
 
--- and they sound as the stream does
+-- frames made from rows and a stream of the same length sound as the stream does
 pub run-sounds : (class : ClassFields) (rows : List Row) (stream : List StreamFrame)
     → length stream ≡ length rows
     → sounds (map (run_frame class) (zip rows stream)) ≡ map (sound_of class) stream
@@ -170,7 +170,7 @@ module _ (class : ClassFields) (p : FilePart) (is : IsInput class p) where
       ap (λ (l : List StreamFrame). length l) (sym are.stream_is)
       ∙ length-map (all_frames p.file survey) stream_entry ∙ all-length p.file survey
 
-  -- its stream is as long as the rows of the survey
+  -- the stream is as long as the list of rows of the survey
   pub stream-many : length whole_stream ≡ length p.survey.frames
   stream-many = stream-length ∙ apart-length p.survey
 
@@ -181,7 +181,7 @@ module _ (class : ClassFields) (p : FilePart) (is : IsInput class p) where
   rows-whole = ap₂ (λ m n. slice_range survey.frames m n) is.from to-apart
       ∙ range-whole survey.frames
 
-  -- what is left of it but for so many frames at its front
+  -- what is left of an input without its first k frames is its stream without its first k frames
   pub stream-from : (k : ℕ) → part_stream (part_from k p) ≡ drop k whole_stream
   stream-from k =
       take_all (p.to - k) (drop k whole_stream)
@@ -208,14 +208,14 @@ module _ (class : ClassFields) (p : FilePart) (is : IsInput class p) where
       ap sounds frames-whole ∙ run-sounds p.survey.class survey.frames whole_stream stream-length
       ∙ ap (λ c. map (sound_of c) whole_stream) is.of_class
 
-  -- it brings as many frames as the survey has
+  -- the input brings as many frames as the survey has
   pub brought-many : length (part_brought p).frames ≡ length p.survey.frames
   brought-many =
       sym (length-map (part_brought p).frames (λ f. f.sound))
       ∙ ap (λ (l : List (List ℕ)). length l) brought-sounds
       ∙ length-map whole_stream (sound_of class) ∙ stream-many
 
-  -- they are of the class and fit behind no bytes
+  -- the frames that it brings are of the class and fit with no free bytes before them
   pub brought-fit : IsFit class (part_brought p)
   brought-fit =
       let fits = part-fits survey 0 (length survey.frames) has-apart.placed in
@@ -241,7 +241,7 @@ module _ (class : ClassFields) (p : FilePart) (is : IsInput class p) where
       (counted-end (samples_in p.survey.class) (length p.survey.frames) (counts_of (part_head p))
       played e)
 
--- so it is with the frames of all inputs
+-- all inputs bring frames that fit
 pub inputs-fit : (class : ClassFields) (parts : List FilePart) → AreInputs class parts
     → AreFit class (map part_brought parts)
 inputs-fit class [] are = tt

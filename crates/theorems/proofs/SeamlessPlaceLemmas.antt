@@ -67,8 +67,8 @@ sound-at frames i f is = slice_get-map (λ (x : RunFrame). x.sound) frames i
 
 -- ---- positions
 
--- position x of a file of n frames, and its place in another: as far from the end of `ends` frames
--- after `leads` others, of which `front` are taken away
+-- position x of a file of n frames, and its place in another file: as far from the end of `ends`
+-- frames after `leads` others, with `front` frames taken away
 record IsPlaced (v : Version) (x n front leads ends : ℕ) : Type 0 where
   place : ℕ
   frame : ℕ
@@ -166,7 +166,7 @@ module _ (first : FilePart) (parts : List FilePart)
         (ap (λ (l : List (List ℕ)). slice_get l i) (stream-sounds first parts are) ∙ there) in
         record { frame = own.frame; found = get-behind leads heard i ∙ own.found; is = own.is }
 
-    -- the first one, where it leaves the run
+    -- the first frame, where it leaves the run
     leaves-by : (g : RunFrame) → slice_get whole 0 ≡ Some g → 0 < front
         → HasSound c (leads ++ heard) 0 g.sound × (length leads ≡ 1)
     leaves-by g found out =
@@ -217,7 +217,7 @@ module _ (first : FilePart) (parts : List FilePart)
     abbrev more : List Brought
     more = others first parts are
 
-    -- the run after some inputs is the front of the whole
+    -- the run after some inputs is the front of the whole run
     whole-parts : (number : ℕ)
         → run_after begin (joints_of c begin more) number ++ added
         (drop number (joints_of c begin more)) ≡ whole
@@ -301,7 +301,7 @@ module _ (first : FilePart) (parts : List FilePart)
             (run_end first parts (number + 1))
         placed = place-of x late
 
-        -- its frame in the input
+        -- the number of its frame in the input
         abbrev i : ℕ
         i = x / samples_in c
 
@@ -313,7 +313,7 @@ module _ (first : FilePart) (parts : List FilePart)
         own_frame : (f : RunFrame) × (slice_get own i ≡ Some f)
         own_frame = get-there own i (omega (arith, within, many))
 
-        -- and in the run
+        -- the number of its frame in the run
         abbrev j : ℕ
         j = i + length new_run - length own
 
@@ -396,7 +396,7 @@ module _ (first : FilePart) (parts : List FilePart)
             samples = keeps;
           }
 
--- an input that follows comes behind the one before it
+-- an input that follows comes right after the one before it
 pub following : FollowingSamplesStay
 following files inputs first parts number before input joint out taken old new at seam =
     comes-behind first parts (inputs-are files inputs first parts taken) number out before input

@@ -29,7 +29,7 @@ use Rattle.theorems.proofs.SeamlessInputLemmas.{AreInputs, brought-fit, brought-
 use Rattle.theorems.proofs.SeamlessInputLemmas.{brought-sounds, inputs-fit, stream-from}
 use Rattle.theorems.proofs.SeamlessInputLemmas.{whole_stream}
 
--- ---- the plan of frames of a class that fit behind a whole window, each in its own slot
+-- ---- the plan of frames of a class that fit after a whole window, each in its own slot
 
 own-order : (class : ClassFields) → IsClass class → (needs : List Need)
     → AreNeedsOfClass class needs → All (ChoosesInOrder own_choice) needs
@@ -62,7 +62,7 @@ one-planned class needs known same fits =
 
 -- ---- its lead-ins
 
--- These are its lead-ins: none where the frames fit behind no bytes, and else one.
+-- The lead-ins of a plan: none where the frames fit with no free bytes before them, otherwise one.
 pub record HasLeads (window : ℕ) (needs : List Need) (placed : List Placed)
     (stream : List StreamFrame) : Type 0 where
   pub leads : List StreamFrame
@@ -73,7 +73,7 @@ pub record HasLeads (window : ℕ) (needs : List Need) (placed : List Placed)
       → (f : StreamFrame) × (fs : List StreamFrame) × (stream ≡ f ∷ fs)
       × (leads ≡ silent_lead_in f ∷ [])
 
--- frames in their own slots are all there, and nothing else
+-- in a plan of frames in their own slots, all frames are there, and nothing else
 pub own-frames : (needs : List Need) (stream : List StreamFrame) (placed : List Placed)
     → length stream ≡ length needs → AreInOwnSlots needs placed
     → stream_with_lead_ins placed stream ≡ stream
@@ -85,7 +85,7 @@ own-frames needs stream placed same own =
     ∙ ap (λ (l : List StreamFrame). stream ++ l) (no-frames on.0)
     ∙ append-nil stream
 
--- they have as many places
+-- a plan of frames in their own slots has a place for each
 pub own-many : (needs : List Need) (placed : List Placed) → AreInOwnSlots needs placed
     → length placed ≡ length needs
 own-many needs placed own = for_length (map (need_item own_choice) needs) placed own
@@ -177,24 +177,24 @@ module _ (first : FilePart) (parts : List FilePart)
     abbrev pub joined : SeamlessJoin
     joined = join_of_parts first parts
 
-    -- all frames of the run, with those that leave it at last
+    -- all frames of the run, with those that leave it at the end
     abbrev pub all : List RunFrame
     all = run_with brought (joints_of class brought others)
 
     abbrev pub run : List RunFrame
     run = run_of brought joined
 
-    -- its joints are those of the inputs behind the first
+    -- its joints are the joints of the inputs after the first
     pub joints-are : joined.joints ≡ joints_of class brought others
     unfolding seamless_join
     joints-are = refl
 
-    -- how many frames leave the run at last
+    -- how many frames leave the run at the end
     pub front-is : joined.front ≡ front_left_out_count class brought all
     unfolding seamless_join
     front-is = refl
 
-    -- the run is all of these frames but for those that leave it at last
+    -- the run is all of these frames but for those that leave it at the end
     pub run-is : run ≡ drop joined.front all
     run-is =
         ap (λ (joints : List JointFrames). drop joined.front (run_with brought joints)) joints-are
@@ -207,7 +207,8 @@ module _ (first : FilePart) (parts : List FilePart)
         (cond-few (has_lead_in window brought
         && not (fits_behind window 0 (needs_of (drop 1 all)))))
 
-    -- where a frame leaves it, the first input has a lead-in in front, and the others want one
+    -- where a frame leaves the run, the first input has a lead-in at its front, and the frames that
+    -- stay need one
     pub front-parts : 0 < joined.front
         → (has_lead_in window brought ≡ true) × (fits_behind window 0 (needs_of run) ≡ false)
     unfolding front_left_out_count
@@ -287,7 +288,7 @@ module _ (first : FilePart) (parts : List FilePart)
         ∙ length-map run (λ (f : RunFrame). f.sound)
         ∙ sym (length-map run (λ (f : RunFrame). f.need))
 
-    -- the lead-ins that the plan of the run puts in front of the stream
+    -- the lead-ins that the plan of the run puts before the stream
     pub run-leads : HasLeads window (needs_of run) (run_plan first parts) stream
     run-leads =
         has-leads window (needs_of run) (run_plan first parts) stream run-planned stream-length
@@ -297,7 +298,7 @@ module _ (first : FilePart) (parts : List FilePart)
     unfolding seamless_stream
     seamless-is = run-leads.is
 
-    -- the run has as many lead-ins as these
+    -- this is the number of lead-ins of the run
     pub leads-many : run_lead_ins first parts ≡ length run-leads.leads
     leads-many =
         ap (λ n. length (run_plan first parts) - n)

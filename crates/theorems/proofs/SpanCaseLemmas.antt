@@ -42,7 +42,7 @@ led-frames [] fs placed sized for_items = absurd (omega (arith, sized.some))
 led-frames (first ∷ needs) fs placed sized for_items = led-exact own_choice (first ∷ needs)
     (lead_in_item (class_of first.header) all_slots) refl fs placed sized for_items
 
--- the plan is that of the frames from one to before another
+-- the frames of a span as a choice
 abbrev frames_chosen : Span → Chosen
 frames_chosen span = record { from = span.first; to = span.last; quality = None; extension = [] }
 
@@ -97,14 +97,14 @@ module _ (from to : ExactPlace) (file : List ℕ) (s : SurveyFields) where
   span-is span e = (unless_ok (samples_fault (number from) (number to) (length_of_played played))
       (span_of s.class (played.start + number from) (played.start + number to)) span e).1
 
-  -- the frames of the job are those of the span
+  -- the frames of the job are the frames of the span
   pub frames-are : (span : Span) → file_span from to head s ≡ Ok span → span_frames from to file s
       ≡ slice_range (stream_of_survey file (survey_without_head s)) span.first span.last
   frames-are span e = ap
       (λ (p : Span). slice_range (stream_of_survey file (survey_without_head s)) p.first p.last)
       (span-is span e)
 
-  -- and are those that are needed by the file's survey
+  -- the frames of the span are the frames that are needed by the file's survey
   pub needed-is : survey_of file most_frames ≡ Ok s
       → frames_needed from to file ≡ span_frames from to file s
   needed-is is =

@@ -137,7 +137,7 @@ split_at-holds input prefix places files made e =
     (stream_laid laid is.file is.survey)) (sym (frames-are files input is.file is.there))
     (range-exact is.file is.survey is.surveyed from to laid e)))
 
--- so do those by a sheet
+-- the pieces at the positions of a sheet hold the frames between these
 pub split_by-holds : (input prefix sheet : List ℕ) → HoldsChosen (SplitBy false input prefix sheet)
     (split_command (sheet_cutting sheet) input prefix)
 split_by-holds input prefix sheet files made e =
@@ -172,7 +172,7 @@ split_exact-holds input prefix places files made e =
     (sym (bytes-are files input is.file is.there))
     (samples-exact is.file is.survey is.surveyed from to laid e)))
 
--- so do those by a sheet
+-- exact pieces at the places of a sheet hold the frames of their spans
 pub split_exact_by-holds : (input prefix sheet : List ℕ) → HoldsChosen
     (SplitBy true input prefix sheet) (split_command (sheet_exact_cutting sheet) input prefix)
 split_exact_by-holds input prefix sheet files made e =

@@ -1,4 +1,5 @@
--- The pieces of a split, joined in order, are the file that was cut, but for its blocks behind.
+-- The pieces of a split, joined in order, are the file that was cut, but for its blocks after the
+-- frames.
 use Rattle.std.proofs.Common.{ap, ap₂, arith, drop, flat_map, length, List, map, None, Ok, refl}
 use Rattle.std.proofs.Common.{replicate, Some, subst, suc, sym, take, zero, ℕ, [], ◌++◌, ◌-◌, ◌<◌}
 use Rattle.std.proofs.{Common.{◌∙◌, ◌∷◌, ◌≡◌, ◌≤◌}, lemmas.List.{drop-map, map-append, take-map}}
@@ -53,7 +54,8 @@ pub record AreRead (c : ClassFields) (fs : List Frame) (stream : List StreamFram
     pub entries : AreStreamEntries c fs
     pub is : map stream_entry fs ≡ stream
 
--- some and then others are read as one stream and then the other
+-- if two lists of frames are read as two streams, both together are read as one stream after the
+-- other
 pub read-append : (c : ClassFields) (fs gs : List Frame) (xs ys : List StreamFrame)
     → AreRead c fs xs → AreRead c gs ys → AreRead c (fs ++ gs) (xs ++ ys)
 read-append c fs gs xs ys first second = record {
@@ -62,7 +64,7 @@ read-append c fs gs xs ys first second = record {
 }
 
 module _ (c : ClassFields) where
-  -- all frames of an input but for some at its front are read as its stream without as many
+  -- all frames of an input without its first k are read as its stream without its first k
   pub part-read : (p : FilePart) (is : IsInput c p) (k : ℕ)
       → AreRead c (part_frames (part_from k p)) (part_stream (part_from k p))
   part-read p is k =
@@ -76,7 +78,7 @@ module _ (c : ClassFields) where
             ∙ ap (take (p.to - k)) (sym (drop-map stream_entry k all) ∙ ap (drop k) are.stream_is);
       }
 
-  -- so it is with the inputs behind the first
+  -- the frames of the inputs after the first are read as their streams without those left out
   pub parts-read : (joints : List JointFrames) (parts : List FilePart) → AreInputs c parts
       → AreRead c (flat_map part_frames (later_parts joints parts))
       (flat_map part_stream (later_parts joints parts))
@@ -180,7 +182,7 @@ module _ (file : List ℕ) (s : SurveyFields) (allowed : ℕ) (e : survey_fields
       made.row made.row_is made.back
       made.blocks s.class first own_inputs.0 made.file_is allowed e
 
-  -- the join of the pieces is the file of the whole without the blocks behind its frames
+  -- the join of the pieces is the file of the whole without the blocks after its frames
   pub seamless-file : seamless_file (first ∷ parts) ≡ bare_file whole file s
   unfolding seamless_file laid_file
   seamless-file =

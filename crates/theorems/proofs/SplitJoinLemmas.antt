@@ -45,7 +45,7 @@ use Rattle.theorems.specs.SeamlessLaws.{is_look_alike, last_place}
 
 -- ---- lists
 
--- a range and the one right behind it are one range
+-- a range and the one right after it are one range
 pub range-append : {X : Type 0} (xs : List X) (a b c : ℕ) → a ≤ b → b ≤ c
     → slice_range xs a b ++ slice_range xs b c ≡ slice_range xs a c
 range-append xs a b c first second =
@@ -59,7 +59,7 @@ range-append xs a b c first second =
 pub range-none : {X : Type 0} (xs : List X) (a : ℕ) → slice_range xs a a ≡ []
 range-none xs a = let none : a - a ≡ 0 = omega arith in ap (λ n. take n (drop a xs)) none
 
--- what is true when negated is false
+-- a value whose negation is true is false
 pub not-true : (b : Bool) → not b ≡ true → b ≡ false
 not-true true is = absurd cc
 not-true false is = refl
@@ -73,7 +73,7 @@ module _ (file : List ℕ) (s : SurveyFields) where
   abbrev pub number : Place → ℕ
   number place = frame_at s.class (length s.frames) place
 
-  -- these numbers rise, and are those of frames
+  -- these numbers rise, and are numbers of frames
   abbrev pub Rise : ℕ → List ℕ → Type 0
   Rise a [] = Unit {0}
   Rise a (b ∷ bs) = (a < b) × (b ≤ length s.frames) × Rise b bs
@@ -129,7 +129,7 @@ module _ (file : List ℕ) (s : SurveyFields) where
   cut-last a [] are = omega arith
   cut-last a (b ∷ bs) are = omega (arith, are.0, cut-last b bs are.2)
 
-  -- and it is no more than there are frames
+  -- the last of numbers that rise is at most the number of frames
   pub cut-within : (a : ℕ) (bs : List ℕ) → a ≤ length s.frames → Rise a bs
       → last_point a bs ≤ length s.frames
   cut-within a [] within are = within
@@ -178,7 +178,7 @@ module _ (file : List ℕ) (s : SurveyFields) where
         ap (λ (l : List StreamFrame). length l) (sym are.stream_is)
         ∙ length-map (all_frames file s) stream_entry ∙ all-length file s
 
-    -- as many frames of the stream as rows are between two numbers
+    -- between two numbers, there are as many frames of the stream as rows
     pub same-many : (a b : ℕ)
         → length (slice_range all_stream a b) ≡ length (slice_range s.frames a b)
     same-many a b =
@@ -193,13 +193,13 @@ module _ (file : List ℕ) (s : SurveyFields) where
     between-needs a b =
         run-needs s.class (slice_range s.frames a b) (slice_range all_stream a b) (same-many a b)
 
-    -- and sound as the stream does
+    -- the frames between two numbers sound as the stream does
     pub between-sounds : (a b : ℕ)
         → sounds (run_between a b) ≡ map (sound_of s.class) (slice_range all_stream a b)
     between-sounds a b =
         run-sounds s.class (slice_range s.frames a b) (slice_range all_stream a b) (same-many a b)
 
-    -- neighbouring ones are those between the first number and the last
+    -- the frames of two neighbouring ranges are the frames from the first number to the last
     pub between-append : (a b c : ℕ) → a ≤ b → b ≤ c
         → run_between a b ++ run_between b c ≡ run_between a c
     between-append a b c first second =
@@ -234,13 +234,13 @@ module _ (file : List ℕ) (s : SurveyFields) where
     known-run (r ∷ rows) [] known = tt
     known-run (r ∷ rows) (f ∷ stream) known = (known.0, known-run rows stream known.1)
 
-    -- their headers are the standard's
+    -- their headers are headers of the standard
     pub between-known : (a b : ℕ) → AreHeadersKnown (run_between a b)
     between-known a b =
         known-run (slice_range s.frames a b) (slice_range all_stream a b)
         (part-known s a b has.placed)
 
-    -- and they fit behind a whole window
+    -- they fit after a whole window
     pub between-fits : (a b : ℕ) → fits_behind window window (needs_of (run_between a b)) ≡ true
     between-fits a b =
         (fits-tested window window (needs_of (run_between a b))).1
@@ -280,7 +280,7 @@ module _ (file : List ℕ) (s : SurveyFields) where
     module _ (c : ClassFields) (a b : ℕ) (some : a < b) (within : b ≤ length s.frames)
         (p : FilePart)
         (is : IsInput c p) (made : IsPieceFile (chosen_between a b) file s p.file) where
-      -- the class of the input is that of the file
+      -- the class of the input is the class of the file
       pub piece-class : c ≡ s.class
       piece-class =
           same-class (chosen_between a b) file s has some within refl made.row made.row_is made.back
@@ -297,7 +297,8 @@ module _ (file : List ℕ) (s : SurveyFields) where
           (is.of_class ∙ piece-class)
           (one-alike (laid_between a b) p none (laid-many a b some within fits)))
 
-      -- without the lead-in that it was given, its stream is that of the file between the numbers
+      -- without the lead-in that it was given, its stream is the stream of the file between the
+      -- numbers
       pub piece-left : part_stream
           (part_from (if fits_behind window 0 (needs_of (run_between a b)) then 0 else 1) p)
           ≡ slice_range all_stream a b
@@ -356,7 +357,7 @@ module _ (file : List ℕ) (s : SurveyFields) where
       abbrev whole : LaidPart
       whole = laid_between a end
 
-      -- the class of the first input is that of the file
+      -- the class of the first input is the class of the file
       pub class-is : first.survey.class ≡ s.class
       class-is = piece-class first.survey.class a b are.0 are.1 first inputs.0 files.0
 
@@ -382,14 +383,14 @@ module _ (file : List ℕ) (s : SurveyFields) where
         run-is : run_of (part_brought first) (join_of_parts first parts) ≡ run_between a end
         run-is = one-run.run ∙ all-is
 
-        -- the plan of the run is that of the whole
+        -- the plan of the run is the plan of the whole
         pub plan-is : run_plan first parts ≡ whole.placed
         plan-is =
             ap₂ (λ (d : ClassFields) (needs : List Need).
             least_plan (window_of d.version) own_choice (needs ∷ [])) class-is
             (ap needs_of run-is ∙ between-needs a end)
 
-        -- the stream of the run is that of the file from the first number to the last
+        -- the stream of the run is the stream of the file from the first number to the last
         pub run-stream : flat_map part_stream (run_parts first parts) ≡ slice_range all_stream a end
         run-stream =
             ap₂ (λ (x y : List StreamFrame). x ++ y)
@@ -399,7 +400,7 @@ module _ (file : List ℕ) (s : SurveyFields) where
             inputs.1 files.1 one-run.seams)
             ∙ range-append all_stream a b end (omega (arith, are.0)) (cut-last b bs are.2)
 
-        -- the stream of the join is the one that the whole is laid with
+        -- the stream of the join is the stream that the whole is laid with
         pub seamless-stream : seamless_stream (first ∷ parts) ≡ stream_laid whole file s
         unfolding seamless_stream
         seamless-stream = ap₂ stream_with_lead_ins plan-is run-stream

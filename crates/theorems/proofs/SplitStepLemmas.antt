@@ -38,7 +38,7 @@ filter-few p (x ∷ xs) = at (p x) (filter-few p xs)
     at true few = omega (arith, few)
     at false few = omega (arith, few)
 
--- none of its frames is empty
+-- no frame of a stream without empty frames is empty
 pub none-empty : (c : ClassFields) (stream : List StreamFrame) (i : ℕ) (f : StreamFrame)
     → full_frames c stream ≡ stream → slice_get stream i ≡ Some f → is_empty_frame c f ≡ true → ⊥
 none-empty c [] i f full found empty = absurd cc
@@ -158,7 +158,7 @@ inputs-front c [] ys are = tt
 inputs-front c (x ∷ xs) ys are = (are.0, inputs-front c xs ys are.1)
 
 module _ (file : List ℕ) (s : SurveyFields) where
-  -- those of the first list end with a number, and those of the second go on from it
+  -- the pieces of the first list end with a number, and the pieces of the second continue from it
   record AreCut (a : ℕ) (bs : List ℕ) (parts others : List FilePart) : Type 0 where
     first : List ℕ
     second : List ℕ
@@ -225,7 +225,7 @@ module _ (file : List ℕ) (s : SurveyFields) (allowed : ℕ) (e : survey_fields
       seamless-file file s allowed e has known a b bs first parts are inputs files
       (none-alike file s has known filled a (b ∷ bs) (first ∷ parts) are own files)
 
-  -- so the file that is joined at first is a piece too
+  -- the file that is joined first is a piece too
   joined-piece : (a last : ℕ) (bytes : List ℕ) → a < length s.frames
       → bytes ≡ bare_file (laid_between file s has a last) file s
       → IsPieceFile (chosen_between a last) file s bytes

@@ -1,5 +1,5 @@
--- The frames that a job chooses, for each file that it writes:
--- the headline's words, without plans, slots or bytes.
+-- The frames that a job chooses, for each file that it writes: the headline's words, without plans,
+-- slots or bytes.
 use Rattle.std.specs.Prelude.{Err, false, flat_map, length, List, map, Ok, Result, slice_range}
 use Rattle.std.specs.Prelude.{true, unwrap_or, ℕ, [], ◌++◌, ◌+◌, ◌∷◌, ◌≡◌}
 use Rattle.commands.specs.declared.fault.EditFault.{EditFault}
@@ -28,17 +28,17 @@ use Rattle.theorems.specs.Exact.{IsExactly}
 
 -- which frames a stream has
 pub data Frames : Type 0 where
-  -- these and no other
+  -- these frames and no others
   Alone : List StreamFrame → Frames
-  -- those of these parts, each part after at most one lead-in, and no other
+  -- the frames of these parts, each part after at most one lead-in, and no others
   InParts : List (List StreamFrame) → Frames
 
--- a stream consists of them
+-- a stream consists of these frames
 abbrev pub ConsistsOf : Frames → List StreamFrame → Type 0
 ConsistsOf (Alone frames) stream = stream ≡ frames
 ConsistsOf (InParts parts) stream = IsExactly parts stream
 
--- each of these streams consists of the frames at its place
+-- each stream consists of the frames at its place in the list
 abbrev pub AllConsistOf : List Frames → List (List StreamFrame) → Type 0
 AllConsistOf [] [] = Unit {0}
 AllConsistOf (frames ∷ more) (stream ∷ streams) =
@@ -47,7 +47,7 @@ AllConsistOf _ _ = ⊥
 
 -- ---- frames of the inputs
 
--- the bytes of a name; none where it isn't there
+-- the bytes of the file with this name; none where there is no such file
 abbrev pub file_bytes_of : Contents → List ℕ → List ℕ
 file_bytes_of files name = unwrap_or (files name) []
 
@@ -61,13 +61,13 @@ position_number [] place = 0
 position_number (first ∷ frames) place =
     frame_at (class_of first.header) (length (first ∷ frames)) place
 
--- those from one position to before another
+-- the frames from one position to before another
 abbrev pub frames_between : List StreamFrame → Place → Place → List StreamFrame
 frames_between frames from to =
     slice_range frames (position_number frames from) (position_number frames to)
 
--- those that a decoder needs for the samples from one place to before another, of
--- those that are played: as they are in the stream of the file whose head is set apart
+-- the frames that a decoder needs for the samples from one place to before another, counted among
+-- those that are played, as they are in the stream of the file whose head is set apart
 abbrev pub span_frames : ExactPlace → ExactPlace → List ℕ → SurveyFields → List StreamFrame
 span_frames from to file s =
     let played = played_of (fields_of_head file s.head) s.class (length s.frames) in
@@ -76,53 +76,53 @@ span_frames from to file s =
     (played.start + sample_at s.class samples to) in
     slice_range (stream_of_survey file (survey_without_head s)) span.first span.last
 
--- those of a file with this survey; none where it has a fault
+-- the frames needed in a file with this survey; none where it has a fault
 abbrev pub surveyed_span_frames : ExactPlace → ExactPlace → List ℕ → Result SurveyFields SurveyFault
     → List StreamFrame
 surveyed_span_frames from to file (Ok s) = span_frames from to file s
 surveyed_span_frames from to file (Err fault) = []
 
--- those of a file
+-- the frames needed in a file
 abbrev pub frames_needed : ExactPlace → ExactPlace → List ℕ → List StreamFrame
 frames_needed from to file = surveyed_span_frames from to file (unbounded_survey file)
 
--- of places those that are between one and the next, and so on
+-- the frames of each piece, from the first place to the next, and so on
 abbrev pub piece_frames_from : {P : Type 0} → (P → P → List StreamFrame) → P → List P → List Frames
 piece_frames_from between from [] = []
 piece_frames_from between from (to ∷ places) =
     InParts (between from to ∷ []) ∷ piece_frames_from between to places
 
--- those of each piece, in order
+-- the frames of each piece between these places, in order
 abbrev pub piece_frames : {P : Type 0} → (P → P → List StreamFrame) → List P → List Frames
 piece_frames between [] = []
 piece_frames between (from ∷ places) = piece_frames_from between from places
 
--- those that are needed from one place among the samples of a file to before another
+-- the frames needed for the samples of a file from one place to before another
 abbrev pub frames_needed_between : List ℕ → ExactPlace → ExactPlace → List StreamFrame
 frames_needed_between file from to = frames_needed from to file
 
--- Those of inputs that are joined without seams: of each input all frames but for those that are
+-- The frames of inputs that are joined without seams: of each input all frames but those that are
 -- left out at its front, as they are in the stream of the file whose head is set apart. How many
--- are left out depends on where the others have room (`seamless_join` of `seam_plan`).
+-- are left out depends on where the other inputs have room (`seamless_join` of `seam_plan`).
 abbrev pub joined_run_frames : Result (List FilePart) EditFault → List StreamFrame
 joined_run_frames (Ok (first ∷ parts)) = flat_map part_stream (run_parts first parts)
 joined_run_frames _ = []
 
--- the positions that a cue sheet says: where its tracks start, and the end
+-- the positions that a cue sheet gives: where its tracks start, and the end
 abbrev pub cue_positions : Result (List Place) CueFault → List Place
 cue_positions (Ok starts) = starts ++ End ∷ []
 cue_positions (Err fault) = []
 
--- the positions that the bytes of a cue sheet say
+-- the positions that the bytes of a cue sheet give
 abbrev pub positions_in : List ℕ → List Place
 positions_in sheet = cue_positions (cue_of sheet)
 
 -- ---- the frames of each output of a job, in the order of writing
 
--- A change of gains keeps all frames where they are, and moves their gains. The other commands lay
--- the chosen frames anew: those between two positions, those that are needed for some samples,
--- those of each piece, all frames of one input or of several, those of several that aren't left
--- out, or what is left of a damaged file, of which each frame that isn't sound is empty.
+-- A change of gains keeps all frames where they are, and moves their gains. The other commands
+-- repack the chosen frames: those between two positions, those needed for some samples, those of
+-- each piece, all frames of one input or of several, those of several that aren't left out, or what
+-- is left of a damaged file, where each frame that isn't sound is empty.
 abbrev pub chosen_of : Request → Contents → List Frames
 chosen_of (Gain shift tags input output) files =
     Alone (map (moved_stream_frame (steps_of shift)) (named_frames files input)) ∷ []

@@ -16,15 +16,15 @@ IsCutFault (LostSync at) = Unit {0}
 IsCutFault (Truncated at) = Unit {0}
 IsCutFault _ = ⊥
 
--- what a survey says of a prefix of a file: one of these faults,
--- or none, and then its stream is the first frames of the file's
+-- what a survey finds in a prefix of a file: one of these faults, or none, and then the prefix's
+-- stream is the first frames of the file's stream
 abbrev pub IsCutAnswer : List ℕ → List ℕ → Result SurveyFields SurveyFault → Type 0
 IsCutAnswer file front (Ok s) =
     IsWellFormed front × IsStreamPrefix (stream_of front) (stream_of file)
 IsCutAnswer file front (Err fault) = IsCutFault fault
 
--- For every file without fault and without junk, and every number of bytes up to its length: the
--- prefix of so many bytes has no fault, or its first fault is that there is no frame, a frame or
+-- For every file without fault and without junk, and every count of bytes up to its length: the
+-- prefix of `count` bytes has no fault, or its first fault is that there is no frame, a frame or
 -- block that isn't whole, or lost synchronisation. As many frames are allowed as the file has.
 abbrev pub PrefixFault : Type 0
 PrefixFault =

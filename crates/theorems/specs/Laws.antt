@@ -1,4 +1,4 @@
--- What holds of the streams and plans of the commands that lay main data anew.
+-- What holds of the streams and plans of the commands that repack main data.
 use Rattle.std.specs.Prelude.{Bool, false, flat_map, length, List, map, Ok, slice_get, slice_range}
 use Rattle.std.specs.Prelude.{Some, true, ℕ, [], ◌<◌, ◌∷◌, ◌≡◌, ◌≤◌}
 use Rattle.commands.specs.{Command.{Command, Made, Output}, SingleOutput.most_frames}
@@ -30,8 +30,8 @@ use Rattle.sync_survey.specs.{MainData.{granule_lengths, no_slot, split_bits, St
 use Rattle.sync_survey.specs.Survey.{survey_of}
 use Rattle.theorems.specs.{Chosen.{AllConsistOf, chosen_of}, Exact.IsExactly}
 
--- Parts of well-formed files in the slots of their plan: the
--- stream is exactly the frames of each part, as in a join.
+-- Parts of well-formed files in the slots of their plan: the stream is exactly the frames of each
+-- part, in the order of the parts, each part after at most one lead-in.
 abbrev pub PlannedStreamsAreExact : Type 0
 PlannedStreamsAreExact =
     (class : ClassFields) (choices : HeaderFields → List SlotFields) (parts : List FilePart)
@@ -81,8 +81,9 @@ JoinedPlansAreFirst =
     → IsPlan (window_of first.survey.class.version) own_choice (map part_needs (first ∷ parts))
     (joined_plan first.survey.class (first ∷ parts))
 
--- The plan of a join without seams is that of one part: the first of all lists of the slots of the
--- run's frames, which are their own, but for first frames of inputs that joined in greater ones.
+-- The plan of a join without seams is the plan of one part: the first of all lists of the slots of
+-- the run's frames, which are their own slots, except for first frames of inputs that joined in
+-- greater ones.
 abbrev pub SeamlessPlansAreFirst : Type 0
 SeamlessPlansAreFirst =
     (files : Contents) (inputs : List (List ℕ)) (first : FilePart) (parts : List FilePart)
@@ -90,22 +91,22 @@ SeamlessPlansAreFirst =
     → IsPlan (window_of first.survey.class.version) own_choice
     (needs_of (run_of (part_brought first) (join_of_parts first parts)) ∷ []) (run_plan first parts)
 
--- The output of a salvage holds exactly what is left of the damaged file:
--- the frames of all runs, each sound one as it is, and each other one empty.
+-- The output of a salvage holds exactly what is left of the damaged file: the frames of all runs,
+-- each sound frame as it is, and each other frame empty.
 abbrev pub SalvagedStreamsAreExact : Type 0
 SalvagedStreamsAreExact = (file : List ℕ) (d : DamagedFields) → damaged_of file ≡ Ok d
     → IsExactly (salvaged_stream file ∷ []) (left_stream file d)
 
--- Its plan is the first of all lists of the frames' own slots, as that of
--- a cut of all frames, of which those that aren't sound have no main data.
+-- Its plan is the first of all lists of the frames' own slots, like the plan of a cut of all
+-- frames, where the frames that aren't sound have no main data.
 abbrev pub SalvagedPlansAreFirst : Type 0
 SalvagedPlansAreFirst =
     (file : List ℕ) (d : DamagedFields) → damaged_of file ≡ Ok d → IsPlan
     (window_of d.survey.class.version) own_choice (map need_of (emptied_survey d.survey).frames
     ∷ []) (own_slots_plan (all_chosen (emptied_survey d.survey)) (emptied_survey d.survey))
 
--- Of a frame that is read this is left: its header, and its side
--- information, or no side information and no main data if it isn't sound.
+-- What is left of a frame that is read: its header, and its side information, or no side
+-- information and no main data if it isn't sound.
 pub record IsLeftOf (r : Row) (frame : StreamFrame) : Type 0 where
   pub header : frame.header ≡ record r.header { slot = no_slot }
   pub sound : r.lost ≡ false → frame.side ≡ record r.side { main_data_begin = 0 }
@@ -118,7 +119,7 @@ pub record AreLeftOf (rows : List Row) (frames : List StreamFrame) : Type 0 wher
   pub each : (i : ℕ) (r : Row) → slice_get rows i ≡ Some r
       → (frame : StreamFrame) × (slice_get frames i ≡ Some frame) × IsLeftOf r frame
 
--- each frame that is read is left, also one that isn't sound
+-- each frame that is read is left, even one that isn't sound
 abbrev pub SalvagedFramesAreLeft : Type 0
 SalvagedFramesAreLeft = (file : List ℕ) (d : DamagedFields) → damaged_of file ≡ Ok d
     → AreLeftOf d.survey.frames (salvaged_stream file)
@@ -128,7 +129,7 @@ abbrev pub HoldsChosen : Request → Command → Type 0
 HoldsChosen asked command = (files : Contents) (made : Made) → command.makes files ≡ Ok made
     → AllConsistOf (chosen_of asked files) (command.streams files)
 
--- so it is of each command
+-- what each command writes holds the frames that its job chooses
 pub record StreamsAreChosen : Type 0 where
   pub gain : (shift : Shift) (tags : Bool) (input output : List ℕ)
       → HoldsChosen (Gain shift tags input output) (gain_command shift tags input output)
@@ -162,12 +163,12 @@ abbrev pub AllLoseNoFrame : List Output → Type 0
 AllLoseNoFrame [] = Unit {0}
 AllLoseNoFrame (output ∷ outputs) = LosesNoFrame output.bytes × AllLoseNoFrame outputs
 
--- so is each file that a command writes, where it isn't refused
+-- a command writes only such files, where it isn't refused
 abbrev pub WritesAllFrames : Command → Type 0
 WritesAllFrames command =
     (files : Contents) (made : Made) → command.makes files ≡ Ok made → AllLoseNoFrame made.outputs
 
--- so it is of each command that lays main data anew
+-- each command that repacks main data writes only such files
 pub record WrittenFramesStay : Type 0 where
   pub cut : (from to : Place) (least : Bool) (input output : List ℕ)
       → WritesAllFrames (cut_command from to least input output)

@@ -31,8 +31,8 @@ use Rattle.sync_survey.specs.{MainData.StreamFrame, Row.Row, Survey.survey_of}
 
 -- ---- positions
 
--- how many frames the run has where those of an input end in it, the one with this number, counted
--- from 0
+-- how many frames the run has up to where the frames of one input end in it: the input with this
+-- number, counted from 0
 abbrev pub run_end : FilePart → List FilePart → ℕ → ℕ
 run_end first parts number =
     length (run_after (part_brought first) (join_of_parts first parts).joints number)
@@ -45,8 +45,8 @@ IsSamePosition first parts number input x y =
     y + (length input.survey.frames + (join_of_parts first parts).front) * samples
     ≡ x + (run_lead_ins first parts + run_end first parts number) * samples
 
--- Frame j of a stream is alike frame i of another: both are the same but for their gains. (What bit
--- rate and padding they have is no part of a stream.)
+-- Frame j of a stream is like frame i of another: both are the same but for their gains. (Bit rate
+-- and padding are no part of a stream.)
 pub record IsFrameAlike (class : ClassFields) (own : List StreamFrame) (i : ℕ)
     (all : List StreamFrame)
     (j : ℕ) : Type 0 where
@@ -56,7 +56,7 @@ pub record IsFrameAlike (class : ClassFields) (own : List StreamFrame) (i : ℕ)
   pub there : slice_get all j ≡ Some frame
   pub alike : sound_of class frame ≡ sound_of class own_frame
 
--- Position x of an input is in the joined file, at its offset in a frame that is alike its own.
+-- Position x of an input is in the joined file, at its offset in a frame like its own.
 pub record IsPositionKept (first : FilePart) (parts : List FilePart) (number : ℕ) (input : FilePart)
     (x : ℕ)
     : Type 0 where
@@ -71,7 +71,7 @@ pub record IsPositionKept (first : FilePart) (parts : List FilePart) (number : �
 -- ---- an input that follows the one before it
 
 -- Its first played position is where the played positions of the other end, so its samples come
--- right behind those of the other; and each of them is kept.
+-- right after the samples of the other; and each of its samples is kept.
 pub record ComesBehind (first : FilePart) (parts : List FilePart) (number : ℕ)
     (before input : FilePart)
     : Type 0 where
@@ -85,7 +85,7 @@ pub record ComesBehind (first : FilePart) (parts : List FilePart) (number : ℕ)
   pub samples : (x : ℕ) → played.start ≤ x → x < played.end
       → IsPositionKept first parts (number + 1) input x
 
--- so it is with each of the inputs of a join that follows
+-- this holds for each input of a join that follows the one before it
 abbrev pub FollowingSamplesStay : Type 0
 FollowingSamplesStay =
     (files : Contents) (inputs : List (List ℕ)) (first : FilePart) (parts : List FilePart)
@@ -98,7 +98,7 @@ FollowingSamplesStay =
 
 -- ---- the pieces of a split, in order
 
--- the last of a place and those after it
+-- the last place of a list that begins with this place
 abbrev pub last_place : {P : Type 0} → P → List P → P
 last_place place [] = place
 last_place place (next ∷ places) = last_place next places
@@ -112,8 +112,8 @@ pub record ArePieceInputs (laid : List LaidPart) (file : List ℕ) (s : SurveyFi
   pub are : map files inputs ≡ map (λ (l : LaidPart). Some (file_laid l file s)) laid
   pub taken : join_parts files inputs ≡ Ok (first ∷ parts)
 
--- The first frame of a piece is a look-alike where it was given no lead-in and has one in front all
--- the same: it is a frame of the recording.
+-- The first frame of a piece is a look-alike if the piece was given no lead-in but has one at its
+-- front all the same: it is a frame of the recording.
 abbrev pub is_look_alike : LaidPart → FilePart → Bool
 is_look_alike laid part =
     piece_lead_ins laid == 0
@@ -124,14 +124,14 @@ abbrev pub has_no_look_alike : List LaidPart → List FilePart → Bool
 has_no_look_alike laid parts =
     list_all (λ (p : LaidPart × FilePart). not (is_look_alike p.0 p.1)) (zip laid parts)
 
--- the file of chosen frames without the blocks behind them
+-- the file of chosen frames without the blocks after them
 abbrev pub bare_row_file : Option Row → LaidPart → List ℕ → SurveyFields → List ℕ
 bare_row_file None laid file s = []
 bare_row_file (Some first) laid file s =
     laid_file (front_blocks file s) first.header (info_laid laid file s)
     (frames_laid laid file s) []
 
--- the same, with the row of the first chosen frame
+-- the file of chosen frames without the blocks after them, found by the number of the first one
 abbrev pub bare_file : LaidPart → List ℕ → SurveyFields → List ℕ
 bare_file laid file s = bare_row_file (slice_get s.frames laid.from) laid file s
 
@@ -143,9 +143,9 @@ is_empty_frame class f = list_all (λ bit. bit == 0) (side_bits class f.side)
 abbrev pub full_frames : ClassFields → List StreamFrame → List StreamFrame
 full_frames class stream = filter (λ f. not (is_empty_frame class f)) stream
 
--- What is cut from the first place to the last is this. The join of the pieces is the file of it
--- without the blocks behind the frames, and has its stream, where no frame is a look-alike. In any
--- case their frames are the same but for empty ones.
+-- This part is what is cut from the first place to the last. The join of the pieces is its file
+-- without the blocks after the frames, and has its stream, where no first frame is a look-alike. In
+-- any case their frames are the same but for empty ones.
 pub record JoinsTheFrames (from to : Place) (laid : List LaidPart) (file : List ℕ)
     (s : SurveyFields)
     (first : FilePart) (parts : List FilePart) : Type 0 where
@@ -157,7 +157,7 @@ pub record JoinsTheFrames (from to : Place) (laid : List LaidPart) (file : List 
   pub full : full_frames s.class (seamless_stream (first ∷ parts))
       ≡ full_frames s.class (slice_range (stream_of file) whole.from whole.to)
 
--- so it is with the pieces of any split, where they are the inputs of a join, in order
+-- this holds for the pieces of any split, where they are the inputs of a join, in order
 abbrev pub SplitThenSeamlessJoin : Type 0
 SplitThenSeamlessJoin =
     (points : Points) (file : List ℕ) (s : SurveyFields) (place next : Place) (places : List Place)
@@ -169,8 +169,8 @@ SplitThenSeamlessJoin =
 
 -- ---- in two steps
 
--- The file that some inputs are joined to, and the other inputs, are inputs of a join that isn't
--- refused.
+-- The file made by joining some inputs, followed by the other inputs, is a list of inputs of a join
+-- that isn't refused.
 pub record IsJoinedInSteps (first : FilePart) (parts others : List FilePart) : Type 0 where
   pub files : Contents
   pub names : List (List ℕ)
@@ -199,84 +199,84 @@ StepsJoinTheSame =
 -- ---- the pieces of an exact split, in order
 
 -- What `cut --exact` needs from the first place to the last is the frames of this span. Each piece
--- but the first follows the one before it. The stream of the join is at most one empty frame, and
+-- but the first follows the one before it. The stream of the join is at most one empty frame and
 -- then the recording's frames of the span: as they are in the stream of the file whose head is set
 -- apart, each once.
 pub record HasTheSpan (from to : ExactPlace) (file : List ℕ) (s : SurveyFields) (first : FilePart)
     (parts : List FilePart) : Type 0 where
   -- the span of the samples from the first place to before the last
   pub span : Span
-  -- it is the one that `cut --exact` finds
+  -- it is the span that `cut --exact` finds
   pub found : file_span from to (fields_of_head file s.head) s ≡ Ok span
   -- each later piece follows the one before it
   pub follow : list_all (λ (j : JointFrames). is_following_seam j.seam)
       (join_of_parts first parts).joints ≡ true
-  -- what is before the frames of the span
+  -- the frames before the frames of the span
   pub leads : List StreamFrame
-  -- no more than one frame
+  -- no more than one
   pub one : length leads ≤ 1
   -- which is empty
   pub empty : list_all (is_empty_frame s.class) leads ≡ true
-  -- the stream is this and then these frames
+  -- the stream is these and then the frames of the span
   pub stream : seamless_stream (first ∷ parts)
       ≡ leads ++ slice_range (stream_of_survey file (survey_without_head s)) span.first span.last
 
 -- Numbers are written. By the Info frame the join plays the samples from the first place to before
--- the last, and no other: it says as many frames as there are and the delay and the padding of the
--- span, both in range; and sample k of the join is at the offset in its frame at which sample a + k
--- of the recording, where the first place is sample a, is in the same frame.
+-- the last, and no others: it has the number of frames and the delay and the padding of the span,
+-- both in range; and sample k of the join is at the offset in its frame at which sample a + k of
+-- the recording, where the first place is sample a, is in the same frame.
 pub record PlaysTheSpan (from to : ExactPlace) (file : List ℕ) (s : SurveyFields) (first : FilePart)
     (parts : List FilePart) (leads : ℕ) (span : Span) : Type 0 where
-  -- the row of the first frame of the run, by whose header the Info frame is made
+  -- the row of the first frame of the run, from whose header the Info frame is made
   pub row : Row
-  -- it is in the first input, behind what leaves the run
+  -- it is in the first input, after what leaves the run
   pub row_is : slice_get first.survey.frames (join_of_parts first parts).front ≡ Some row
   -- the delay
   pub delay : ℕ
-  -- it and the padding are written
+  -- the delay and the padding are written
   pub delay_is : delay_of_run first parts ≡ Some delay
   -- both are in range
   pub delay_most : delay ≤ 2830
   pub padding_least : 529 ≤ seamless_padding first parts
   pub padding_most : seamless_padding first parts ≤ 1680
-  -- what the Info frame says
+  -- what the Info frame contains
   pub head : IsPieceHead s.class leads span (seamless_info (Some delay) row first parts)
   -- what is played by it
   pub plays : KeepsPlaces s.class leads span.first (sample_named file s from)
       (sample_named file s to)
       (played_of (Some (seamless_info (Some delay) row first parts)) s.class
       (leads + (span.last - span.first))) (input_played file s)
-  -- and by the head of the file as it is read
+  -- what is played by the head of the file as it is read
   pub reads : (allowed : ℕ) (j : SurveyFields)
       → survey_of (seamless_file (first ∷ parts)) allowed ≡ Ok j
       → KeepsPlaces s.class leads span.first (sample_named file s from) (sample_named file s to)
       (input_played (seamless_file (first ∷ parts)) j) (input_played file s)
 
 -- Where the first piece doesn't begin with a look-alike, the join is the file that `cut --exact`
--- writes from the first place to the last, without the blocks behind the frames.
+-- writes from the first place to the last, without the blocks after the frames.
 pub record IsTheCut (from to : ExactPlace) (laid : List LaidPart) (file : List ℕ) (s : SurveyFields)
     (first : FilePart) (parts : List FilePart) : Type 0 where
   -- what `cut --exact` lays
   pub whole : LaidPart
   -- it isn't refused
   pub is : exact_part from to file s ≡ Ok whole
-  -- the join is the file of it
+  -- the join is its file
   pub same : has_no_look_alike laid (first ∷ []) ≡ true
       → seamless_file (first ∷ parts) ≡ bare_file whole file (survey_without_head s)
 
--- The join of exact pieces has the frames that are needed of the
--- recording, each once, plays exactly the recording's samples from the
--- first place to the last, and is what is cut from the one to the other.
+-- The join of exact pieces has the frames of the recording that are needed, each once, plays
+-- exactly the recording's samples from the first place to the last, and is what is cut from the one
+-- to the other.
 pub record JoinsTheSamples (from to : ExactPlace) (laid : List LaidPart) (file : List ℕ)
     (s : SurveyFields) (first : FilePart) (parts : List FilePart) : Type 0 where
   -- the frames of the span, each once
   pub frames : HasTheSpan from to file s first parts
   -- its samples, each once
   pub samples : PlaysTheSpan from to file s first parts (length frames.leads) frames.span
-  -- the file of the cut
+  -- it is the file of the cut
   pub cut : IsTheCut from to laid file s first parts
 
--- so it is with the pieces of any exact split, where they are the inputs of a join, in order
+-- this holds for the pieces of any exact split, where they are the inputs of a join, in order
 abbrev pub ExactSplitThenSeamlessJoin : Type 0
 ExactSplitThenSeamlessJoin =
     (points : ExactPoints) (file : List ℕ) (s : SurveyFields) (place next : ExactPlace)

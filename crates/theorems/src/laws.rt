@@ -2,8 +2,8 @@
 ghost use Rattle.theorems.specs.Laws.{PlannedStreamsAreExact, ChosenStreamsAreExact, ChosenPlansAreFirst, PackedStreamsAreExact, JoinedStreamsAreExact, JoinedPlansAreFirst, SeamlessPlansAreFirst, SalvagedStreamsAreExact, SalvagedPlansAreFirst, SalvagedFramesAreLeft, StreamsAreChosen, WrittenFramesStay};
 
 /// The stream of parts of well-formed files, laid in the slots of their plan, is exactly the frames of each part, in order,
-/// each part after at most one lead-in: a frame without main data, with the header of the part's first frame, but
-/// without a check word. The inputs of a join are such parts.
+/// each part after at most one lead-in: a frame without main data, with the header of the part's first frame, but without a
+/// check word. The inputs of a join are such parts.
 pub fn planned_streams_are_exact()
     ensures { PlannedStreamsAreExact }
 {}
@@ -14,9 +14,9 @@ pub fn chosen_streams_are_exact()
     ensures { ChosenStreamsAreExact }
 {}
 
-/// The plan by which these outputs are written, without mention of how it is found: of all lists of slots, out of those that
-/// each frame may have, into which the main data can be laid (main_data_begin, ISO/IEC 11172-3 and 13818-3, 2.4.2.7), it is
-/// the first in the order of areas, frame by frame; with a lead-in only where no list has room without one.
+/// The plan by which these outputs are written, no matter how it is found: of all lists of slots that the frames may have,
+/// and into which the main data can be laid (main_data_begin, ISO/IEC 11172-3 and 13818-3, 2.4.2.7), it is the first in the
+/// order of areas, frame by frame; with a lead-in only where no list has room without one.
 pub fn chosen_plans_are_first()
     ensures { ChosenPlansAreFirst }
 {}
@@ -26,49 +26,52 @@ pub fn packed_streams_are_exact()
     ensures { PackedStreamsAreExact }
 {}
 
-/// The output of a join holds exactly the frames of each input, in order, those of each input after at most one lead-in.
+/// The output of a join holds exactly the frames of each input, in order, the frames of each input after at most one
+/// lead-in.
 pub fn joined_streams_are_exact()
     ensures { JoinedStreamsAreExact }
 {}
 
-/// The plan of a join is the first of all lists too, each frame in its own slot: so it says which inputs have a lead-in, and
-/// where main data begin.
+/// The plan of a join is the first of all lists too, each frame in its own slot: it determines which inputs have a lead-in,
+/// and where main data begin.
 pub fn joined_plans_are_first()
     ensures { JoinedPlansAreFirst }
 {}
 
-/// The plan of a join without seams is the first of all lists too, as that of one part: each frame of the run in its own slot,
-/// but for first frames of inputs that joined in greater ones.
+/// The plan of a join without seams is the first of all lists too, as the plan of one part: each frame of the run in its own
+/// slot, except for first frames of inputs that joined in greater ones.
 pub fn seamless_plans_are_first()
     ensures { SeamlessPlansAreFirst }
 {}
 
 /// The output of a salvage holds exactly what is left of the damaged file, after at most one lead-in: the frames of all runs
-/// between gaps, in order, each sound one as it is, and each other one as an empty frame.
+/// between gaps, in order, each sound frame as it is, and each other frame as an empty one.
 pub fn salvaged_streams_are_exact()
     ensures { SalvagedStreamsAreExact }
 {}
 
-/// The plan of a salvage is the first of all lists too, each frame in its own slot, as that of a cut of all frames.
+/// The plan of a salvage is the first of all lists too, each frame in its own slot, like the plan of a cut of all
+/// frames.
 pub fn salvaged_plans_are_first()
     ensures { SalvagedPlansAreFirst }
 {}
 
-/// As many frames are left of a damaged file as are read of it: each sound one with its header and its side information except
-/// `main_data_begin`, and each other one with side information that is all 0, and without main data.
+/// As many frames are left of a damaged file as are read from it: each sound frame with its header and its side information
+/// except `main_data_begin`, and each other frame with side information that is all 0, and without main data.
 pub fn salvaged_frames_are_left()
     ensures { SalvagedFramesAreLeft }
 {}
 
-/// What each command writes, where it isn't refused, holds exactly the frames that its job chooses, without mention of plans: a
-/// change of gains all frames of the input, with their gains moved, and no lead-in; every other command the frames of each part,
-/// in order, each part after at most one lead-in. So all commands keep their frames, whatever plans they are laid by.
+/// What each command writes, where it isn't refused, holds exactly the frames that its job chooses, no matter which plan it is
+/// laid by: for a change of gains all frames of the input, with their gains moved, and no lead-in; for every other command the
+/// frames of each part, in order, each part after at most one lead-in.
 pub fn streams_are_chosen()
     ensures { StreamsAreChosen }
 {}
 
-/// No frame of a file that a command writes that lays main data anew is lost, nor is any where the head of the file is set
-/// apart: no main data begin in the Info frame. So if such a file is cut to a sample, all its frames have their main data.
+/// No frame is lost in a file written by a command that repacks main data, nor is any when the head of the file is set
+/// apart: no main data begin in the Info frame. If such a file is cut to a sample, all its frames therefore have their
+/// main data.
 pub fn written_frames_stay()
     ensures { WrittenFramesStay }
 {}

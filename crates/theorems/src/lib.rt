@@ -1,5 +1,5 @@
 //! Laws of written files, whose streams are exactly the chosen frames: each part of an output is at most one silent lead-in and then
-//! the chosen frames, as they are in the streams of the inputs; and of files that were cut short. Nothing here runs.
+//! the chosen frames, as they are in the streams of the inputs; and laws of files that were cut short. Nothing here runs.
 #![tactic(auto)]
 
 mod cut_laws;
