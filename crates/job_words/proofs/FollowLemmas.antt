@@ -18,7 +18,7 @@ pub map-replicate : {X Y : Type 0} (f : X → Y) (n : ℕ) (x : X)
 map-replicate f zero x = refl
 map-replicate {Y = Y} f (suc n) x = ap (λ (list : List Y). f x ∷ list) (map-replicate f n x)
 
--- as many values as words follow the kinds
+-- there are as many values as words that follow the kinds
 pub length-values_of : (kinds : List Kind) (words : List (List ℕ))
     → length (values_of kinds words) ≡ common_prefix_len fits_kind kinds words
 length-values_of [] words = refl
@@ -39,7 +39,7 @@ module _ {K W : Type 0} (kind_of : K → Kind) (word_of : W → List ℕ) (kinds
     (words : List W) (so_far : List Said) (i : ℕ)
     (before : so_far ++ values_of (drop i (map kind_of kinds)) (drop i (map word_of words))
     ≡ values_of (map kind_of kinds) (map word_of words)) where
-  -- the word at i says what its kind says of it
+  -- the word at i says what its kind reads from it
   pub goes_on : (c : K) (d : W) (word : List ℕ) (o : Option Said) → i < length kinds
       → i < length words → word ≡ word_of (get_or words i d)
       → word_value (kind_of (get_or kinds i c)) word ≡ o
@@ -59,7 +59,7 @@ module _ {K W : Type 0} (kind_of : K → Kind) (word_of : W → List ℕ) (kinds
         says,
       ) at before
 
-  -- past the last word all was read
+  -- past the last word, all was read
   pub ends : length words ≤ i → so_far ≡ values_of (map kind_of kinds) (map word_of words)
   ends end =
       let none : values_of (drop i (map kind_of kinds)) (drop i (map word_of words)) ≡ [] =

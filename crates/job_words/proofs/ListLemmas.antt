@@ -54,7 +54,7 @@ pub contains_map : {X Y : Type 0} (f : X → Y) (xs : List X) (x : X) → Contai
 contains_map f xs x member =
     (member.0, rw length-map member.1, get_or-map f xs member.0 x (f x) member.1 ∙ ap f member.2)
 
--- so it is where lists are made
+-- what is made of a member, as one of a list, is among all that is made
 pub contains_flat_map : {X Y : Type 0} (f : X → List Y) (xs : List X) (x : X) (y : Y)
     → Contains xs x → Contains (f x) y → Contains (flat_map f xs) y
 contains_flat_map f [] x y member inner = absurd (omega (arith, member.1))
@@ -63,7 +63,7 @@ contains_flat_map f (z ∷ zs) x y (zero, within, at) inner =
 contains_flat_map f (z ∷ zs) x y (suc k, within, at) inner = Contains-append_right (f z)
     (flat_map f zs) y (contains_flat_map f zs x y (k, omega (arith, within), at) inner)
 
--- what holds of all that is made of each member holds of all that is made
+-- what holds of everything made of each member holds of everything made
 pub all_flat_map : {X Y : Type 0} (P : Y → Type 0) (f : X → List Y) (xs : List X)
     → ((x : X) → Contains xs x → All P (f x)) → All P (flat_map f xs)
 all_flat_map P f [] each = All-nil P
@@ -83,7 +83,7 @@ module _ {X : Type 0} (f : X → ℕ) where
     All-cons (λ y. f y ≤ fold max (max a (f x)) (map f xs)) x xs (omega (arith, rest.0)) rest.1,
   )
 
-  -- the greatest is the first number or that of a member
+  -- the greatest is the first number or the number of a member
   pub reached : (a : ℕ) (xs : List X)
       → (fold max a (map f xs) ≡ a) ⊎ ((x : X) × Contains xs x × (f x ≡ fold max a (map f xs)))
   reached a [] = inl refl
@@ -96,7 +96,7 @@ module _ {X : Type 0} (f : X → ℕ) where
         | inr at ↦ inr (at.0, Contains-append_right (x ∷ []) xs at.0 at.1, at.2)
       ]
 
-  -- the number of a member than which none is greater is the greatest
+  -- if no other member's number is greater, a member's number is the greatest
   pub greatest_is : (xs : List X) (x : X) → Contains xs x → All (λ y. f y ≤ f x) xs
       → fold max 0 (map f xs) ≡ f x
   greatest_is xs x member all =
@@ -107,7 +107,7 @@ module _ {X : Type 0} (f : X → ℕ) where
         | inr at ↦ omega (arith, at.2, least, All-contains (λ y. f y ≤ f x) xs at.0 all at.1)
       ]
 
--- the greatest of two lists is the greater of theirs
+-- the greatest number of two joined lists is the greater of their greatest numbers
 pub greatest_append : (a : ℕ) (xs ys : List ℕ)
     → fold max a (xs ++ ys) ≡ max (fold max a xs) (fold max 0 ys)
 greatest_append a xs ys = fold-append max a xs ys ∙ from_there (fold max a xs) ys
@@ -119,7 +119,7 @@ greatest_append a xs ys = fold-append max a xs ys ∙ from_there (fold max a xs)
 -- ---- lists that agree, one for one
 
 module _ {X Y : Type 0} (e : X → Y → Bool) where
-  -- they do exactly where they agree as far as both reach
+  -- lists agree exactly where they agree as far as both reach
   pub whole : (xs : List X) (ys : List Y) → (pointwise e xs ys ≡ true)
       ↔ ((common_prefix_len e xs ys ≡ length xs) × (common_prefix_len e xs ys ≡ length ys))
   whole [] [] = ((λ all. (refl, refl)), (λ both. refl))
@@ -137,7 +137,7 @@ module _ {X Y : Type 0} (e : X → Y → Bool) where
         | false ↦ ((λ all. absurd cc), (λ both. absurd (omega (arith, both.0))))
       ]
 
-  -- the first members agree as far as all do, within their number
+  -- the first members agree as far as all do, up to their number
   pub common_prefix_len-take : (n : ℕ) (xs : List X) (ys : List Y)
       → common_prefix_len e (take n xs) (take n ys) ≡ min n (common_prefix_len e xs ys)
   common_prefix_len-take zero xs ys = omega arith
@@ -160,7 +160,7 @@ module _ {X Y : Type 0} (e : X → Y → Bool) where
       (both.0, zipped xs ys both.1)
 
 module _ {X Y : Type 0} (R : X → Y → Type 0) where
-  -- and so do their ends
+  -- the ends of lists that are related pair by pair are too
   pub zip_drop : (n : ℕ) (xs : List X) (ys : List Y) → AllZip R xs ys
       → AllZip R (drop n xs) (drop n ys)
   zip_drop zero xs ys all = all
@@ -169,7 +169,7 @@ module _ {X Y : Type 0} (R : X → Y → Type 0) where
   zip_drop (suc n) (x ∷ xs) [] all = absurd all
   zip_drop (suc n) (x ∷ xs) (y ∷ ys) all = zip_drop n xs ys all.1
 
-  -- what is paired with one thing repeated is related to it
+  -- what is paired with one repeated thing is related to it
   pub zip_replicate : (n : ℕ) (x : X) (ys : List Y) → AllZip R (replicate n x) ys → All (R x) ys
   zip_replicate zero x [] all = All-nil (R x)
   zip_replicate zero x (y ∷ ys) all = absurd all

@@ -1,4 +1,5 @@
--- Of all orders of a form's flags, the words go furthest with the flags that they begin with.
+-- The order of a form's flags: of all orders, the words go furthest with the flags that they begin
+-- with.
 use Rattle.std.proofs.Common.{ap, append_assoc, arith, cond, drop, false, length, length-append}
 use Rattle.std.proofs.Common.{List, map, None, not, refl, Some, subst, suc, sym, true, zero, ℕ, []}
 use Rattle.std.proofs.{Common.{◌&&◌, ◌++◌, ◌+◌, ◌-◌, ◌∷◌, ◌≡◌, ◌≤◌}, lemmas.Bool.both_ways}
@@ -22,8 +23,8 @@ abbrev pub IsNowhere : List Kind → List (List ℕ) → Type 0
 IsNowhere kinds words =
     (common_prefix_len fits_kind kinds words ≡ 0) × (pointwise fits_kind kinds words ≡ false)
 
--- the words go no further with these kinds than with the
--- best, and have all of them only under this condition
+-- the words go no further with these kinds than with the best, and have all of these only under
+-- this condition
 abbrev pub IsNoBetter : Type 0 → List Kind → List Kind → List (List ℕ) → Type 0
 IsNoBetter Only best kinds words =
     (common_prefix_len fits_kind kinds words ≤ common_prefix_len fits_kind best words)
@@ -35,7 +36,7 @@ pub nowhere : (Only : Type 0) (best kinds : List Kind) (words : List (List ℕ))
 nowhere Only best kinds words none =
     (omega (arith, none.0), λ all. absurd (both_ways (pointwise fits_kind kinds words) none.1 all))
 
--- behind the same first kinds what is no better is no better
+-- kinds that are no better are no better after the same first kinds
 pub after_same : (Only : Type 0) (front best kinds : List Kind) (words : List (List ℕ))
     → IsNoBetter Only best kinds (drop (length front) words)
     → IsNoBetter Only (front ++ best) (front ++ kinds) words
@@ -51,14 +52,14 @@ after_same Only (kind ∷ front) best kinds (word ∷ words) h =
       | false ↦ (omega arith, λ all. absurd cc)
     ]
 
--- and with kinds that are equal to these
+-- kinds that are equal to kinds that are no better are no better
 pub of_equal : (Only : Type 0) (best best' kinds kinds' : List Kind) (words : List (List ℕ)) → best'
     ≡ best → kinds' ≡ kinds → IsNoBetter Only best kinds words → IsNoBetter Only best' kinds' words
 of_equal Only best best' kinds kinds' words same_best same h = rw (same_best, same) h
 
 -- ---- the first words of flags
 
--- no two flags have the same
+-- no two flags have the same first word
 same_flag : (a b : Flag) → bytes_eq (first_word a) (first_word b) ≡ true → a ≡ b
 same_flag Tagless Tagless same = refl
 same_flag Wrapping Wrapping same = refl
@@ -83,14 +84,14 @@ abbrev orders_with : ℕ → List Flag → Flag → List (List Flag)
 orders_with n flags flag =
     map (λ (rest : List Flag). flag ∷ rest) (orders_up_to n (without_flag flag flags))
 
--- at most n of the flags, each at most once
+-- a list of at most n of the flags, each at most once
 abbrev pub IsOrder : ℕ → List Flag → List Flag → Type 0
 IsOrder zero flags given = given ≡ []
 IsOrder (suc n) flags [] = Unit {0}
 IsOrder (suc n) flags (flag ∷ given) =
     Contains flags flag × IsOrder n (without_flag flag flags) given
 
--- all orders of at most so many flags are orders
+-- all lists of at most n flags are orders
 pub orders_are : (n : ℕ) (flags : List Flag) → All (IsOrder n flags) (orders_up_to n flags)
 orders_are zero flags = All-cons (IsOrder zero flags) [] [] refl (All-nil (IsOrder zero flags))
 orders_are (suc n) flags =
@@ -123,7 +124,7 @@ given_is_order (suc n) flags (word ∷ words) =
     ] refl
 
 -- ---- no order is better than the flags that the words begin with;
--- `behind` has the kinds of the words after flags, by how many these are
+-- `behind` has the kinds of the words after flags, by how many words there are
 
 module _ (behind : ℕ → List Kind) where
   abbrev pub kinds_by : List Flag → List (List ℕ) → List Kind
@@ -174,7 +175,7 @@ module _ (behind : ℕ → List Kind) where
       (after_same (flag ∷ rest ≡ flag ∷ best) (flag_kinds flag) _ _ words
       (inner.0, λ all. ap (λ (given : List Flag). flag ∷ given) (inner.1 all)))
 
-  -- no other order is better than that in which the flags are given
+  -- no other order is better than the one in which the flags are given
   pub no_better : (n : ℕ) (flags : List Flag) (words : List (List ℕ)) → All IsClear flags
       → (given : List Flag) → IsOrder n flags given
       → IsNoBetterOrder words (leading_flags_up_to n flags words) given

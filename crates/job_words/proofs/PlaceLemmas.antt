@@ -31,7 +31,7 @@ module _ (words : List (List ℕ)) where
         | inr at ↦ at
       ]
 
-  -- the words that follow a shape have its first kinds, and no longer prefix has
+  -- the words have as many first kinds of a shape as they follow it
   begins : (shape : Shape) → IsShapePrefix (fitting_count words shape) shape words
   begins shape =
       let kinds = shape_kinds words shape in
@@ -59,12 +59,12 @@ module _ (words : List (List ℕ)) where
         b.enough_kinds,
       )
 
-  -- what holds of the answer
+  -- what holds of a reading of the words
   abbrev pub IsAnswer : Result Request ℕ → Type 0
   IsAnswer (Ok asked) = IsReadingOf words asked × IsSoundRequest asked
   IsAnswer (Err place) = IsBadWord words place
 
-  -- the answer is that of the definition
+  -- it holds of the reading that the definition gives
   pub job_is : IsAnswer (job_of words)
   unfolding job_of
   job_is =
@@ -97,7 +97,7 @@ module _ (words : List (List ℕ)) where
             }
       ] refl
 
-  -- so it is of the answer of the code
+  -- it holds of what the code returns
   pub code_is : (r : Result Job ℕ) → IsAnswer (request_result r)
       → IfOk r (λ job. IsReadingOf words (job_request job)) × IfErr r (IsBadWord words)
       × IfOk r (λ job. IsSoundRequest (job_request job))

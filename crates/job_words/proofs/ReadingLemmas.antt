@@ -1,4 +1,4 @@
--- The forms one after another: the shape that the words have of one, and how far they follow it.
+-- The forms in order: the shape that the words have of one, and how far they follow it.
 use Rattle.std.proofs.Common.{ap, append-nil, arith, Bool, cond, drop, Err, false, get_or, leb}
 use Rattle.std.proofs.Common.{length, length-append, List, map, max, min, None, Ok, refl, replicate}
 use Rattle.std.proofs.Common.{Result, Some, subst, suc, sym, take, true, zero, ℕ, [], ◌&&◌, ◌++◌}
@@ -73,7 +73,7 @@ no_better_with form clear (word ∷ words) given is =
     (after_same Only (Fixed form.command ∷ []) (kinds_by (form_kinds form) best words) (kinds_by
     (form_kinds form) given words) (word ∷ words) (h.0, λ all. ap (shape_with form) (h.1 all)))
 
--- so the words are read by the best
+-- the words are read by the best shape
 reading_of : (form : Form) → has_clear_flags form ≡ true → (words : List (List ℕ)) (b : Bool)
     → have_kinds (shape_kinds words (best_of form words)) words ≡ b
     → table_reading (shapes_of form) words
@@ -99,8 +99,8 @@ reading_of form clear words b is =
     ∙ ap (λ b. cond b (Some best) None) is)
     ∙ ap (shape_reading (cond b (Some best) None) words) far-is
 
--- what the code finds of a form: the flags, the kinds and how many
--- of them are before those after the flags, and what the words say
+-- what the code finds of a form: the flags, the kinds, how many of the kinds come before those
+-- after the flags, and what the words say
 pub record Found (form : Form) (words : List (List ℕ)) (given : List Flag) (front : ℕ)
     (kinds : List Kind) (values : List Said) : Type 0 where
   pub given-is : given ≡ leading_flags form.flags (drop 1 words)
@@ -161,7 +161,7 @@ module _ (form : Form) (readable : IsReadable form) (words : List (List ℕ)) (g
       ap Err longest ∙ sym (reading_of form readable.clear words false
       (subst (λ kinds. have_kinds kinds words ≡ false) kinds-are not_all))
 
--- ---- one form after another
+-- ---- the forms in order
 
 -- the first reading that takes the words, or the further of the two places
 abbrev first_of : Result Request ℕ → Result Request ℕ → Result Request ℕ
@@ -190,10 +190,10 @@ reading-append xs ys words =
           (shape_reading o words n)) [ Some shape ↦ refl | None ↦ ap Err (omega arith) ]
     ]
 
--- by the forms up to the one at i, where those before it don't take the words
+-- the reading by the forms up to the one at i, where the forms before it don't take the words
 module _ (table : List Form) (words : List (List ℕ)) (i : ℕ) (d : Form) (place : ℕ)
     (lt : i < length table) (before : table_reading (shapes (take i table)) words ≡ Err place) where
-  -- one form more is asked after those before it
+  -- one more form is tried after those before it
   pub reading_more : (here : Result Request ℕ)
       → here ≡ table_reading (shapes_of (get_or table i d)) words
       → table_reading (shapes (take (i + 1) table)) words ≡ first_of (Err place) here

@@ -184,7 +184,7 @@ AreSound form = (count : ℕ) (given : List Flag) (values : List Said) (words : 
     → AllZip IsRight (form_kinds form count) values → AllZip Fits (form_kinds form count) words
     → IsSoundRequest (form_request form.asks given values words)
 
--- of a form whose last kind isn't repeated
+-- a form whose last kind isn't repeated is sound if its values are
 once : (form : Form) → form.more ≡ 0
     → ((given : List Flag) (values : List Said) (words : List (List ℕ))
     → ((k : ℕ) → IsRight (get_or form.kinds k (Fixed [])) (said_at values k))
@@ -273,7 +273,7 @@ forms_are_sound =
     (also (once fade_form refl (λ given values words at. (at 0, at 1, at 2)))
     (also (once salvage_form refl (λ given values words at. (at 0, at 1))) tt))))))))))))))))))))))
 
--- what words ask for that have all kinds of a shape is in range
+-- what words with all kinds of a shape ask for is in range
 pub shape_is_sound : (shape : Shape) (words : List (List ℕ)) → Contains forms shape.form
     → have_kinds (shape_kinds words shape) words ≡ true → IsSoundRequest (shape_request shape words)
 shape_is_sound shape words member all =

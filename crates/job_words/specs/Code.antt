@@ -1,4 +1,4 @@
--- The values of the code, as those of the definitions.
+-- The values of the code, as values of the definitions.
 use Rattle.std.specs.Prelude.{Err, map, Ok, Result, string_bytes, ℕ}
 use Rattle.job_words.specs.Forms.{Form}
 use Rattle.job_words.specs.Kinds.{Channel, ChannelSaid, Count, CountSaid, Exact, ExactSaid, Fixed}
@@ -12,7 +12,7 @@ use Rattle.job_words.specs.declared.jobs.Job.TheVariants as job
 use Rattle.job_words.specs.declared.kinds.Value.TheVariants as value
 use Rattle.job_words.specs.declared.kinds.WordKind.TheVariants as code
 
--- a kind of the code
+-- the kind that a kind of the code is
 abbrev pub word_kind : WordKind → Kind
 word_kind (code.Fixed text) = Fixed text.now
 word_kind code.Name = Name
@@ -36,7 +36,7 @@ value_said (value.Rate rate) = RateSaid rate
 value_said (value.Seed seed) = SeedSaid seed
 value_said (value.Count count) = CountSaid count
 
--- a form of the code
+-- the form that a form of the code is
 abbrev pub form_given : CodeForm → Form
 form_given form = record {
   command = form.command.now;

@@ -19,11 +19,11 @@ flag_words Back = codes "--back" ∷ []
 -- frames that only a piece needs are left out
 flag_words Seamless = codes "--seamless" ∷ []
 
--- the kinds of these words: each is one that is fixed
+-- the kinds of these words, each of which is fixed
 abbrev pub flag_kinds : Flag → List Kind
 flag_kinds flag = map Fixed (flag_words flag)
 
--- the kinds of the words of flags, one after another
+-- the kinds of the words of flags, in order
 abbrev pub given_kinds : List Flag → List Kind
 given_kinds given = flat_map flag_kinds given
 
@@ -31,7 +31,7 @@ given_kinds given = flat_map flag_kinds given
 abbrev pub first_word : Flag → List ℕ
 first_word flag = slice_index_or (flag_words flag) 0 []
 
--- the word is the first of the flag's; no two flags have the same
+-- the word is the first word of the flag; no two flags have the same first word
 abbrev pub begins_flag : List ℕ → Flag → Bool
 begins_flag word flag = bytes_eq word (first_word flag)
 
@@ -39,7 +39,7 @@ begins_flag word flag = bytes_eq word (first_word flag)
 abbrev pub is_given : List Flag → Flag → Bool
 is_given given flag = list_any (begins_flag (first_word flag)) given
 
--- those that aren't this flag
+-- the flags other than this one
 abbrev pub without_flag : Flag → List Flag → List Flag
 without_flag flag flags = filter (λ other. not (begins_flag (first_word flag) other)) flags
 
@@ -54,7 +54,7 @@ orders_up_to (suc n) flags =
 abbrev pub orders : List Flag → List (List Flag)
 orders flags = orders_up_to (length flags) flags
 
--- ---- those that words begin with
+-- ---- the flags that words begin with
 
 -- the flag whose first word is the first of these
 abbrev pub next_flag : List Flag → List (List ℕ) → Option Flag

@@ -19,8 +19,8 @@ use Rattle.requests.specs.declared.mode.PackMode.TheVariants.{Least as LeastMode
 use Rattle.requests.specs.declared.shift.Channels.{Channels, TheVariants.Both}
 use Rattle.job_words.specs.declared.forms.FormKind.TheVariants as asks
 
--- the command's word, the flags that may be after it, the kinds of the words after
--- those, how many further words of the last kind there may be, and what is asked for
+-- the command's word, the flags that may follow it, the kinds of the words after the flags, how
+-- many further words of the last kind there may be, and what is asked for
 pub record Form : Type 0 where
   pub command : List ℕ
   pub flags : List Flag
@@ -228,7 +228,7 @@ salvage_form = record {
   asks = asks.Salvage;
 }
 
--- all of them
+-- all forms
 abbrev pub forms : List Form
 forms =
     help_form ∷ short_help_form ∷ version_form ∷ list_form ∷ info_form ∷ gain_form ∷ channel_form
@@ -260,13 +260,13 @@ shapes table = flat_map shapes_of table
 abbrev pub last_kind : List Kind → Kind
 last_kind kinds = slice_index_or kinds (length kinds - 1) Name
 
--- the kinds of `count` words after the flags: the last is
--- repeated for the words that are left, as often as it may be
+-- the kinds of `count` words after the flags: the last is repeated for the words that are left, as
+-- often as it may be
 abbrev pub form_kinds : Form → ℕ → List Kind
 form_kinds form count =
     form.kinds ++ replicate (min form.more (count - length form.kinds)) (last_kind form.kinds)
 
--- the command's word and those of the flags
+-- the kinds of the command's word and of the flags' words
 abbrev pub front_kinds : List ℕ → List Flag → List Kind
 front_kinds command given = Fixed command ∷ given_kinds given
 
@@ -302,8 +302,8 @@ abbrev pub sheet_request : Bool → List Said → ℕ → Request
 sheet_request exact values place =
     SplitBy exact (name_at values place) (name_at values (place + 1)) (name_at values (place + 3))
 
--- what is asked for by the flags that are given, by what
--- the words after them say, and by these words themselves
+-- what is asked for by the flags that are given, by what the words after them say, and by these
+-- words themselves
 abbrev pub form_request : FormKind → List Flag → List Said → List (List ℕ) → Request
 form_request asks.Help given values words = Help
 form_request asks.Version given values words = Version
@@ -348,8 +348,8 @@ shape_request shape words =
 
 -- ---- what holds of each form
 
--- the most words after the flags that may be read for
--- what is asked: 100 places, and those before them
+-- the most words after the flags that may be read for what is asked: 100 places, and the words
+-- before them
 abbrev pub most_values : FormKind → ℕ
 most_values asks.SplitExact = 103
 most_values _ = 102

@@ -89,47 +89,47 @@ word_value Count word = option_map CountSaid (count_in word)
 abbrev pub fits_kind : Kind → List ℕ → Bool
 fits_kind kind word = is_some (word_value kind word)
 
--- the name that a value says; empty where it says another thing
+-- the name that a value says; empty where it says something else
 abbrev pub name_said : Said → List ℕ
 name_said (NameSaid name) = name
 name_said _ = []
 
--- the steps that a value says, else 0
+-- the steps that a value says, otherwise 0
 abbrev pub steps_said : Said → ℤ
 steps_said (StepsSaid steps) = steps
 steps_said _ = pos 0
 
--- the channel that a value says, else both
+-- the channel that a value says, otherwise both
 abbrev pub channel_said : Said → Channels
 channel_said (ChannelSaid channel) = channel
 channel_said _ = Both
 
--- the position that a value says, else the end
+-- the position that a value says, otherwise the end
 abbrev pub place_said : Said → StreamPlace
 place_said (PlaceSaid place) = place
 place_said _ = End
 
--- the place among the samples that a value says, else the end
+-- the place among the samples that a value says, otherwise the end
 abbrev pub exact_said : Said → ExactPlace
 exact_said (ExactSaid place) = place
 exact_said _ = OfPosition End
 
--- the bit rate that a value says, else 0
+-- the bit rate that a value says, otherwise 0
 abbrev pub rate_said : Said → ℕ
 rate_said (RateSaid rate) = rate
 rate_said _ = 0
 
--- the seed that a value says, else 0
+-- the seed that a value says, otherwise 0
 abbrev pub seed_said : Said → ℕ
 seed_said (SeedSaid seed) = seed
 seed_said _ = 0
 
--- the number of frames that a value says, else 1
+-- the number of frames that a value says, otherwise 1
 abbrev pub count_said : Said → ℕ
 count_said (CountSaid count) = count
 count_said _ = 1
 
--- one value before those that follow it, where there is one
+-- one value before the values that follow it, where there is one
 abbrev pub said_first : Option Said → List Said → List Said
 said_first None rest = []
 said_first (Some value) rest = value ∷ rest
@@ -143,6 +143,6 @@ values_of kinds words = []
 abbrev pub said_at : List Said → ℕ → Said
 said_at values place = slice_index_or values place Itself
 
--- the name that it says
+-- the name at a place of the list, counted from 0
 abbrev pub name_at : List Said → ℕ → List ℕ
 name_at values place = name_said (said_at values place)

@@ -46,7 +46,7 @@ table_reading table words = shape_reading (shape_in table words) words (longest_
 unfoldable pub job_of : List (List ℕ) → Result Request ℕ
 job_of words = table_reading (shapes forms) words
 
--- ---- the same as relations
+-- ---- the reading as relations
 
 -- the first n words have the first n kinds of the shape
 pub record IsShapePrefix (n : ℕ) (shape : Shape) (words : List (List ℕ)) : Type 0 where
@@ -54,16 +54,16 @@ pub record IsShapePrefix (n : ℕ) (shape : Shape) (words : List (List ℕ)) : T
   pub enough_kinds : n ≤ length (shape_kinds words shape)
   pub fit : IsTrue (have_kinds (take n (shape_kinds words shape)) (take n words))
 
--- the words have the kinds of a form with flags of it, each
--- at most once and in any order, and ask for what it says
+-- the words have the kinds of a form with some of its flags, each at most once and in any order,
+-- and ask for what it says
 pub record IsReadingOf (words : List (List ℕ)) (asked : Request) : Type 0 where
   pub shape : Shape
   pub listed : Contains (shapes forms) shape
   pub kinds : IsTrue (have_kinds (shape_kinds words shape) words)
   pub read : asked ≡ shape_request shape words
 
--- The words have the kinds of no form. Those before this place, counted from
--- 1, have the first kinds of some form, and no longer prefix of the words has.
+-- The words have the kinds of no form. The words before this place, counted from 1, have the first
+-- kinds of some form, and no longer prefix of the words has.
 pub record IsBadWord (words : List (List ℕ)) (place : ℕ) : Type 0 where
   pub none : (shape : Shape) → Contains (shapes forms) shape
       → ¬ IsTrue (have_kinds (shape_kinds words shape) words)
@@ -107,12 +107,12 @@ pub record AreExactPlaces (places : List ExactPlace) : Type 0 where
 abbrev pub IsSeed : ℕ → Type 0
 IsSeed seed = seed < 2147483648
 
--- a number of its frames that can be asked for
+-- a number of frames of such a stream that can be asked for
 pub record IsCount (count : ℕ) : Type 0 where
   pub some : 1 ≤ count
   pub few : count ≤ 20000
 
--- what is asked for is sound: names, steps, positions and numbers are such as can be asked for
+-- what is asked for is sound: its names, steps, positions and numbers can be asked for
 abbrev pub IsSoundRequest : Request → Type 0
 IsSoundRequest Help = Unit {0}
 IsSoundRequest Version = Unit {0}

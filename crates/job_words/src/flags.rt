@@ -20,7 +20,7 @@ pub(crate) enum Flag {
 }
 
 impl Default for Flag {
-    /// The first.
+    /// The first flag.
     fn default() -> Self {
         Flag::Tagless
     }
@@ -48,7 +48,7 @@ impl Flag {
         }
     }
 
-    // Whether the word is the first of the flag's.
+    // Whether the word is the first word of the flag.
     fn begins(self, word: &str) -> bool
         ensures { result ≡ begins_flag word.now self }
     {
@@ -68,7 +68,7 @@ pub(crate) fn is_given(given: &[Flag], flag: Flag) -> bool
     false
 }
 
-// Those that aren't this flag.
+// The flags other than this one.
 fn without_flag(flags: &[Flag], flag: Flag) -> Flags
     requires { length flags.now ≤ 4 }
     ensures { result.items ≡ without_flag flag flags.now }

@@ -49,7 +49,8 @@ pub(crate) struct Form {
     pub(crate) asks: FormKind,
 }
 
-/// What a form asks for, the command's word, flags, the kinds of the other words, and how many more of the last there may be.
+/// What a form asks for, the command's word, flags, the kinds of the other words, and how many more words of the last kind
+/// there may be.
 macro_rules! form {
     ($asks:ident: $command:literal [$($flag:ident)*] [$($kind:ident $(($word:literal))?)*] $more:literal) => {
         Form {
@@ -62,8 +63,8 @@ macro_rules! form {
     };
 }
 
-/// The forms. C is a channel, N a number of steps, B a bit rate, SEED and COUNT are numbers, P1 to P100, FROM and TO positions, after
-/// `--exact` places among the samples; all others are names.
+/// The forms. C is a channel, N a number of steps, B a bit rate, SEED and COUNT are numbers; P1 to P100, FROM and TO are positions,
+/// or after `--exact` places among the samples; all others are names.
 pub(crate) static FORMS: [Form; 22] = [
     // `--help`
     form!(Help: "--help" [] [] 0),
@@ -111,7 +112,8 @@ pub(crate) static FORMS: [Form; 22] = [
     form!(Salvage: "salvage" [] [Name Name] 0),
 ];
 
-/// The most kinds that a form has for its words: the command's, four flags of two words, five kinds, and the last 98 times more.
+/// The most kinds that a form has for its words: the command's, four flags of two words each, five kinds, and the last kind 98
+/// times more.
 pub(crate) const MOST_KINDS: usize = 112;
 
 /// The kinds of a form's words.
@@ -187,7 +189,7 @@ fn pack<'a>(mode: PackMode, values: &[Value<'a>], place: usize) -> Job<'a>
     }
 }
 
-// A split by a cue sheet: the values from this place on, counted from 0, are its input and its prefix, a fixed word and the sheet.
+// A split by a cue sheet: the values from this place on, counted from 0, are its input, its prefix, a fixed word and the sheet.
 fn split_by<'a>(exact: bool, values: &[Value<'a>], place: usize) -> Job<'a>
     requires { place ≤ 2 }
     ensures { job_request result ≡ sheet_request exact (map value_said values.now) place }
@@ -324,7 +326,7 @@ fn append_flag(kinds: &mut Kinds, flag: Flag)
     }
 }
 
-// The command's word, and those of the flags.
+// The kinds of the command's word and of the flags' words.
 fn front_kinds(command: &'static str, given: &[Flag]) -> Kinds
     requires { length given.now ≤ 4 }
     ensures items { map word_kind result.items ≡ front_kinds command.now given.now }

@@ -17,7 +17,7 @@ pub enum Job<'a> {
         /// The name of the file to read.
         input: &'a str,
     },
-    /// Say in a few lines what the file `input` is, and by which steps its gains can move.
+    /// Say in a few lines what the file `input` is, and by how many steps its gains can move.
     Info {
         /// The name of the file to read.
         input: &'a str,
@@ -55,7 +55,7 @@ pub enum Job<'a> {
         output: &'a str,
     },
     /// Write the frames that a decoder needs for the samples of the file `input` from one place up to, but not including, another to
-    /// `output`, by which players play exactly these samples.
+    /// `output`, which players play as exactly these samples.
     CutExact {
         /// The name of the file to read.
         input: &'a str,
@@ -68,14 +68,14 @@ pub enum Job<'a> {
     },
     /// Write all frames of the file `input` to `output`, with the bit rates and padding that the mode asks for.
     Pack {
-        /// How the bit rates are chosen. A bit rate in it is as the word says it, 0 to 999 kbit/s.
+        /// How the bit rates are chosen. A bit rate in it is what the word says, 0 to 999 kbit/s.
         mode: PackMode,
         /// The name of the file to read.
         input: &'a str,
         /// The name of the file to write.
         output: &'a str,
     },
-    /// Write the frames of the file `input` between each two neighbouring positions to a file of their own.
+    /// Write the frames of the file `input` between each two neighbouring positions to their own file.
     SplitAt {
         /// The name of the file to read.
         input: &'a str,
@@ -84,8 +84,8 @@ pub enum Job<'a> {
         /// The positions, 2 to 100.
         places: ArrayVec<Place, 100>,
     },
-    /// Write the frames that a decoder needs for the samples of the file `input` between each two neighbouring places to a file of
-    /// their own, by which players play exactly these samples.
+    /// Write the frames that a decoder needs for the samples of the file `input` between each two neighbouring places to their own
+    /// file, which players play as exactly these samples.
     SplitExact {
         /// The name of the file to read.
         input: &'a str,
@@ -94,7 +94,7 @@ pub enum Job<'a> {
         /// The places, 2 to 100.
         places: ArrayVec<ExactPlace, 100>,
     },
-    /// Write each track of the file `input` to a file of its own, as a cue sheet has them.
+    /// Write each track of the file `input` to its own file, by the starts in a cue sheet.
     SplitBy {
         /// Whether tracks are cut at samples, and not at frames.
         exact: bool,
@@ -105,9 +105,10 @@ pub enum Job<'a> {
         /// The name of the cue sheet.
         sheet: &'a str,
     },
-    /// Write the frames of all inputs, one after another, to the file `output`.
+    /// Write the frames of all inputs, joined in order, to the file `output`.
     Join {
-        /// Whether the frames that only a piece needs are left out, and a line says so of each input after the first.
+        /// Whether the frames that only a piece needs are left out, and a line says so for each input after the
+        /// first.
         seamless: bool,
         /// The name of the file to write.
         output: &'a str,
@@ -123,7 +124,8 @@ pub enum Job<'a> {
     },
     /// Write the file `input` to `output`, each frame louder or quieter by the steps that a sheet gives for its number.
     Fade {
-        /// Whether by as many steps the other way, which undoes a fade by the same sheet.
+        /// Whether it moves them by as many steps the other way, which undoes a fade by the same
+        /// sheet.
         back: bool,
         /// The name of the file to read.
         input: &'a str,

@@ -7,7 +7,8 @@ ghost use Rattle.job_words.specs.Code.{form_given, job_request, request_result};
 use crate::forms::{FORMS, Form};
 use crate::jobs::Job;
 
-// What the words ask for by the first of these forms that they have, or the place, counted from 1, of the first word that none takes.
+// What the words ask for by the first of these forms that they have, or the place, counted from 1, of the first word that no form
+// takes.
 fn read_by<'a>(forms: &[Form], words: &'a [String]) -> Result<Job<'a>, u32>
     requires { All IsReadable (map form_given forms.now) }
     ensures { request_result result ≡ table_reading (shapes (map form_given forms.now))
@@ -23,7 +24,7 @@ fn read_by<'a>(forms: &[Form], words: &'a [String]) -> Result<Job<'a>, u32>
     Err(place as u32)
 }
 
-/// What the words ask for. It takes no memory.
+/// What the words ask for. It allocates no memory.
 ///
 /// The forms are `list IN`; `info IN`; `gain [-s s] [-w] -g N IN OUT` and `gain [-s s] [-w] -l C N IN OUT`, with the two
 /// options in either order; `gain -u IN OUT`; `cut [--least] IN FROM TO OUT`; `cut --exact IN FROM TO OUT`; `pack IN OUT`,
@@ -41,7 +42,7 @@ fn read_by<'a>(forms: &[Form], words: &'a [String]) -> Result<Job<'a>, u32>
 pub fn job(words: &[String]) -> Result<Job<'_>, u32>
     ensures exact { request_result result ≡ job_of (map string_bytes words.now) }
 
-    // The same as relations: the form that the words have, and the longest prefix of the words that follows a form.
+    // As relations: the form that the words have, and the longest prefix of the words that follows a form.
     ensures read { IfOk result (λ job. IsReadingOf (map string_bytes words.now) (job_request job)) }
     ensures bad { IfErr result (IsBadWord (map string_bytes words.now)) }
 

@@ -1,4 +1,4 @@
--- Gains that can move: what refuses a change of gains, and what doesn't.
+-- Gains that can move: when a change of gains is refused, and when it isn't.
 use Rattle.std.proofs.Common.{ap, arith, Bool, cond, Err, false, inl, inr, length, List, None, not}
 use Rattle.std.proofs.Common.{Ok, Option, pos, refl, Result, rules, Some, subst, suc, sym, true}
 use Rattle.std.proofs.Common.{zero, ℕ, ℤ, ◌+ℤ◌, [], ◌&&◌, ◌<◌, ◌==◌, ◌∙◌, ◌∷◌, ◌≡◌, ◌≢◌, ◌≤◌, ◌⊎◌}
@@ -164,7 +164,7 @@ moves-row steps row moves = at row.lost (λ wraps. moves wraps)
 
 -- ---- all frames
 
--- the steps of the number of a frame are those at its offset
+-- the steps at the number of a frame are the steps at its offset
 abbrev pub Agree : (ℕ → Steps) → (ℕ → Steps) → List Row → Type 0
 Agree at_offset at_number rows = HoldsOfEach rows (λ i row. at_offset row.offset ≡ at_number i)
 
@@ -178,7 +178,7 @@ free-moves f g (q ∷ rows) agree none =
     (subst (λ (x : Steps). CanMove x q) (agree 0 q refl) (row-moves (f q.offset) q parts.0))
     (free-moves f (λ n. g (suc n)) rows (λ n r here. agree (suc n) r here) parts.1)
 
--- and if they can, none leaves it
+-- if the gains of each frame can move, no gain leaves its range
 pub moves-free : (f g : ℕ → Steps) (rows : List Row) → Agree f g rows
     → HoldsOfEach rows (λ i row. CanMove (g i) row) → range_fault f rows ≡ None
 moves-free f g [] agree moves = first-nil (row_range_fault f)
@@ -262,7 +262,7 @@ found-ok at Missing undo e = absurd cc
 found-ok at (Bad place) undo e = absurd cc
 found-ok at (Found found) undo e = cc
 
--- where a number isn't refused, it is at most what it may be
+-- a number that isn't refused is at most what it may be
 most : (n m : ℕ) (x : Refusal) → cond (nat_lt m n) (Some x) None ≡ None → n ≤ m
 most n m x e = ltb-false m n (not_there (nat_lt m n) x e)
 

@@ -19,13 +19,13 @@ use Rattle.sync_survey.specs.{MainData.rows_of, Survey.survey_of, Walk.head_of}
 
 -- ---- lists
 
--- what holds of the first and of each behind it holds of each
+-- what holds of the first element and of each after it holds of each
 pub each-cons : {A : Type 0} (P : ℕ → A → Type 0) (x : A) (xs : List A) → P 0 x
     → HoldsOfEach xs (λ i y. P (suc i) y) → HoldsOfEach (x ∷ xs) P
 each-cons P x xs first rest zero y is = let same : x ≡ y = cc in subst (P 0) same first
 each-cons P x xs first rest (suc i) y is = rest i y is
 
--- what holds of the first two and of each two behind them holds of each two
+-- what holds of the first two elements and of each two neighbours after them holds of each two
 pub next-cons : {A : Type 0} (P : A → A → Type 0) (x y : A) (more : List A) → P x y
     → HoldsOfEachNext (y ∷ more) P → HoldsOfEachNext (x ∷ y ∷ more) P
 next-cons P x y more first rest zero p q is next =
@@ -71,7 +71,7 @@ apart_no-clash outputs (name ∷ names) place apart =
 
 -- ---- surveys
 
--- a file that is no longer than allowed and has no fault where `allowed` frames are allowed
+-- a file that is no longer than allowed, and has no fault where `allowed` frames are allowed
 pub record IsWhole (file : List ℕ) (allowed : ℕ) (s : SurveyFields) : Type 0 where
   pub long : length file ≤ longest_file
   pub well_formed : unbounded_survey file ≡ Ok s
@@ -95,7 +95,7 @@ survey-whole file allowed s e =
       few = omega (arith, few, size);
     }
 
--- and such a file has a survey
+-- a whole file has a survey
 pub whole-survey : (file : List ℕ) (allowed : ℕ) (s : SurveyFields) → IsWhole file allowed s
     → survey_of file allowed ≡ Ok s
 whole-survey file allowed s whole =
@@ -119,7 +119,7 @@ whole-survey file allowed s whole =
 
 -- ---- one input
 
--- the name's file is an input without fault, and what was chosen is legal for it
+-- the file with this name is an input without fault, and what was chosen is legal for it
 pub record IsOne (Choice : FileInput → Type 0) (files : Contents) (name : List ℕ)
     (most : ℕ) : Type 0 where
   pub input : FileInput
@@ -127,7 +127,7 @@ pub record IsOne (Choice : FileInput → Type 0) (files : Contents) (name : List
   pub few : length input.survey.frames ≤ most
   pub choice : Choice input
 
--- one input that is right is the one of the command
+-- one legal input is the input of the command
 pub one-of : (Choice : FileInput → Type 0) (files : Contents) (name : List ℕ) (most : ℕ)
     (inputs : List FileInput) → AreInputs files (name ∷ []) inputs → input_frames inputs ≤ most
     → HoldsOfOne Choice inputs → IsOne Choice files name most
@@ -136,13 +136,13 @@ one-of Choice files name most (input ∷ []) are few choice =
     record { input = input; is = are.0; few = omega (arith, few); choice = choice }
 one-of Choice files name most (input ∷ next ∷ inputs) are few choice = absurd choice
 
--- a right input has its survey
+-- a legal input has its survey
 pub one-survey : (Choice : FileInput → Type 0) (files : Contents) (name : List ℕ) (most : ℕ)
     (one : IsOne Choice files name most) → survey_of one.input.bytes most ≡ Ok one.input.survey
 one-survey Choice files name most one = whole-survey one.input.bytes most one.input.survey
     (record { long = one.is.long; well_formed = one.is.well_formed; few = one.few })
 
--- a surveyed file under its name is an input
+-- a surveyed file with this name is an input
 pub survey-input : (files : Contents) (name file : List ℕ) (allowed : ℕ) (s : SurveyFields)
     → files name ≡ Some file → survey_of file allowed ≡ Ok s
     → IsInput files name (record { bytes = file; survey = s })

@@ -1,4 +1,4 @@
--- The inputs of a join, one after the other.
+-- The inputs of a join, in order.
 use Rattle.std.proofs.Common.{ap, arith, cond, Err, length, List, None, Ok, Option, refl, Result}
 use Rattle.std.proofs.Common.{Some, subst, suc, sym, zero, ℕ, [], ◌+◌, ◌-◌, ◌∙◌, ◌∷◌, ◌≡◌, ◌≤◌}
 use Rattle.std.specs.Prelude.{slice_get, unwrap_or}
@@ -17,7 +17,7 @@ use Rattle.sync_survey.specs.{Faults.SurveyFields, Survey.survey_of}
 
 -- ---- classes
 
--- each is of the class of the first
+-- each input is of the class of the first
 abbrev Follow : Option ClassFields → List FileInput → Type 0
 Follow first [] = Unit {0}
 Follow first (input ∷ inputs) =
@@ -73,7 +73,7 @@ is-part place first allowed o file s there surveyed follows =
 
 -- ---- all inputs
 
--- the inputs, of the class of those before them, with no more frames than are left
+-- the inputs, of the class of those before them, with no more frames than are still allowed
 pub record IsJoin (files : Contents) (first : Option ClassFields) (allowed : ℕ)
     (names : List (List ℕ)) : Type 0 where
   pub inputs : List FileInput
@@ -149,7 +149,7 @@ parts-joined files names parts e =
     let is = parts-join files 0 None most_frames names parts e in
     record { inputs = is.inputs; are = is.are; few = is.few; one = one-class is.inputs is.follow }
 
--- and the parts of such inputs aren't refused
+-- the parts of such inputs aren't refused
 pub joined-parts : (files : Contents) (names : List (List ℕ)) (inputs : List FileInput)
     → AreInputs files names inputs → input_frames inputs ≤ most_frames → AreInputsOfOneClass inputs
     → (parts : List FilePart) × (join_parts files names ≡ Ok parts)

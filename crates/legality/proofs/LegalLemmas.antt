@@ -70,12 +70,12 @@ pub help-legal : (files : Contents) → IsLegalFor Help files
 help-legal files =
     record { names = no-names []; inputs = []; are = tt; few = omega arith; choices = tt }
 
--- so is the version
+-- the version is always legal
 pub version-legal : (files : Contents) → IsLegalFor Version files
 version-legal files =
     record { names = no-names []; inputs = []; are = tt; few = omega arith; choices = tt }
 
--- and a drill
+-- a drill is always legal
 pub drill-legal : (seed count : ℕ) (files : Contents) → IsLegalFor (Drill seed count) files
 drill-legal seed count files =
     record { names = no-names []; inputs = []; are = tt; few = omega arith; choices = tt }
@@ -103,7 +103,7 @@ one-read files name (input ∷ []) are few =
     record { input = input; is = are.0; few = omega (arith, few); choice = tt }
 one-read files name (input ∷ next ∷ inputs) are few = absurd are.1
 
--- the text is sent exactly of an input without fault
+-- the text is sent exactly if the one input has no fault
 module _ (text : List ℕ → SurveyFields → List ℕ) (files : Contents) (input : List ℕ) where
   text-one : (o : Option (List ℕ)) (made : Made) → files input ≡ o → input_text text o ≡ Ok made
       → IsOne NoChoice files input most_frames
@@ -165,14 +165,14 @@ info-law files input =
 
 -- ---- a file of one input
 
--- what is made of a file, and the choice by which it is
+-- what is made of a file, and the choice for which it is made
 module _ (make : Making) (Choice : FileInput → Type 0)
     (legal : (file : List ℕ) (s : SurveyFields) (bytes : List ℕ) → survey_of file most_frames ≡ Ok s
     → make file s ≡ Ok bytes → Choice (record { bytes = file; survey = s }))
     (makes : (file : List ℕ) (s : SurveyFields) → survey_of file most_frames ≡ Ok s
     → Choice (record { bytes = file; survey = s }) → (bytes : List ℕ) × (make file s ≡ Ok bytes))
     (files : Contents) (input : List ℕ) where
-  -- a file of which something is made is a legal choice
+  -- the choice is legal for a file that something is made of
   pub made-one : (bytes : List ℕ) → input_result make (files input) ≡ Ok bytes
       → IsOne Choice files input most_frames
   made-one bytes e =
@@ -184,7 +184,7 @@ module _ (make : Making) (Choice : FileInput → Type 0)
         choice = legal made.file made.survey made.bytes made.surveyed made.made;
       }
 
-  -- and of a legal choice something is made
+  -- something is made of a file if the choice is legal for it
   pub one-made : IsOne Choice files input most_frames
       → (bytes : List ℕ) × (input_result make (files input) ≡ Ok bytes)
   one-made one =
@@ -194,8 +194,8 @@ module _ (make : Making) (Choice : FileInput → Type 0)
         of-made make files input one.input.bytes one.input.survey one.is.there surveyed ∙ made.1,
       )
 
--- the command is done exactly with one input of which the
--- choice is legal, where no output is one of its inputs
+-- the command succeeds exactly with one input that the choice is legal for, where no output is one
+-- of its inputs
 module _ (files : Contents) (input : List ℕ) (others : List (List ℕ)) (output : List ℕ) (most : ℕ)
     (Choice : FileInput → Type 0) (task : Task) (names : task.inputs ≡ input ∷ others)
     (makes : IsOne Choice files input most → (bytes : List ℕ) × (task.makes files ≡ Ok bytes))
@@ -482,7 +482,7 @@ module _ (files : Contents) (input : List ℕ) where
             ∙ made.1,
       )
 
-  -- the task of a mode
+  -- with one input that the mode is legal for, the task of the mode makes a file
   one-packed : (mode : PackMode) → IsOne (LegalIn mode) files input (allowed_frames mode)
       → (bytes : List ℕ) × ((pack_task mode input).makes files ≡ Ok bytes)
   one-packed Best one = parts-best one
@@ -709,7 +709,7 @@ join-law files output inputs = (
       legal-of false files output inputs one.0 parts.0 parts.1),
 )
 
--- without seams nothing more is refused
+-- a join without seams refuses nothing more
 seamless-law : (files : Contents) (output : List ℕ) (inputs : List (List ℕ))
     → IsLegalFor (Join true output inputs) files
     ↔ AcceptsFiles (seamless_command output inputs) files
@@ -728,7 +728,7 @@ seamless-law files output inputs =
           legal-of true files output inputs one.0 parts.0 parts.1),
     )
 
--- ---- all of them
+-- ---- all commands
 
 -- each command is legal exactly if it isn't refused
 pub legal-is-accepted : LegalIsAccepted

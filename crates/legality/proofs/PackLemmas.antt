@@ -62,7 +62,7 @@ kept-some p x is (y ∷ ys) (suc k) within same =
     at true some = omega arith
     at false some = some
 
--- a bit rate that isn't refused is one of the class
+-- a bit rate that isn't refused is a bit rate of the class
 pub no-rate_none : (rate : ℕ) (class : ClassFields) → rate_refusal rate class ≡ None
     → IsRate rate class
 no-rate_none rate class none = at (is_rate rate class) refl none
@@ -78,7 +78,7 @@ no-rate_none rate class none = at (is_rate rate class) refl none
     at true is e = found is
     at false is e = absurd cc
 
--- and a bit rate of the class isn't refused
+-- a bit rate of the class isn't refused
 pub rate-none : (rate : ℕ) (class : ClassFields) → IsRate rate class
     → rate_refusal rate class ≡ None
 rate-none rate class is =
@@ -221,7 +221,7 @@ module _ (file : List ℕ) (s : SurveyFields) (is : survey_of file most_frames �
       let parts = rates-parts (Constant rate) bytes made in
       (no-rate_none rate s.class parts.0, plan-room (Constant rate) parts.0 parts.1 parts.2)
 
-  -- and with these it isn't refused
+  -- with such a bit rate and room, the packing isn't refused
   pub legal-constant : (rate : ℕ) → IsRate rate s.class × HasRateRoom rate s
       → (bytes : List ℕ) × (laying_making all_choice (rates_plan (Constant rate)) file s ≡ Ok bytes)
   legal-constant rate legal =
@@ -232,7 +232,7 @@ module _ (file : List ℕ) (s : SurveyFields) (is : survey_of file most_frames �
       → laying_making all_choice (rates_plan (Floor rate)) file s ≡ Ok bytes → IsRate rate s.class
   floor-legal rate bytes made = no-rate_none rate s.class (rates-parts (Floor rate) bytes made).0
 
-  -- and with one it isn't refused
+  -- with such a bit rate, the packing isn't refused
   pub legal-floor : (rate : ℕ) → IsRate rate s.class
       → (bytes : List ℕ) × (laying_making all_choice (rates_plan (Floor rate)) file s ≡ Ok bytes)
   legal-floor rate legal =
@@ -242,7 +242,7 @@ module _ (file : List ℕ) (s : SurveyFields) (is : survey_of file most_frames �
 
   -- ---- no room in slots of one bit rate
 
-  -- the first frame without room refuses it
+  -- a packing without room in slots of one bit rate is refused with the first frame that has none
   pub unfit-made : (rate i : ℕ) → no_rate (Constant rate) s.class ≡ None → IsFirstUnfit rate s i
       → laying_making all_choice (rates_plan (Constant rate)) file s ≡ Err (Refused (Unfit i))
   unfit-made rate i none unfit =
@@ -276,7 +276,7 @@ module _ (file : List ℕ) (s : SurveyFields) (is : survey_of file most_frames �
       )
       at false is e = absurd cc
 
-  -- and only that frame does so
+  -- a packing is refused with that frame only
   pub made-unfit : (rate i : ℕ)
       → laying_making all_choice (rates_plan (Constant rate)) file s ≡ Err (Refused (Unfit i))
       → IsRate rate s.class × IsFirstUnfit rate s i

@@ -1,5 +1,5 @@
--- Samples between two places: a span of frames is found
--- exactly where there is one, and all of them are played.
+-- Samples between two places: a span of frames is found exactly where there is one, and all of its
+-- samples are played.
 use Rattle.std.proofs.Common.{ap, ap₂, Bool, cond, length, List, None, Ok, Option, refl, Some, ℕ}
 use Rattle.std.proofs.{Common.{◌&&◌, ◌+◌, ◌<◌, ◌≡◌, ◌≤◌}, lemmas.Bool.{le-leb, lt-ltb}}
 use Rattle.std.specs.Prelude.{nat_le, nat_lt}
@@ -41,7 +41,7 @@ module _ (from to : ExactPlace) (file : List ℕ) (s : SurveyFields) where
       (nat_lt (number from) (number to) && nat_le (number to) (length_of_played played)) refl
       (unless_ok fault the_span span e).0
 
-  -- and a range of samples isn't refused
+  -- a range of samples isn't refused
   pub range-span : IsSampleRange from to (record { bytes = file; survey = s })
       → (span : Span) × (file_span from to head s ≡ Ok span)
   unfolding file_span

@@ -57,7 +57,7 @@ cut-range from to file s chosen e =
     chosen-within None (replicate 36 0) (frame_at s.class (length s.frames) from)
     (frame_at s.class (length s.frames) to) (length s.frames) chosen e
 
--- and a range of the file isn't refused
+-- a range of the file isn't refused
 pub range-cut : (from to : Place) (file : List ℕ) (s : SurveyFields) → IsRange s from to
     → (chosen : Chosen) × (cut_choice from to file s ≡ Ok chosen)
 unfolding cut_choice
@@ -72,7 +72,7 @@ first-parts : (first : LaidPart) (r : Result (List LaidPart) EditFault) (all : L
 first-parts first (Ok more) all e = (more, refl)
 first-parts first (Err fault) all e = absurd cc
 
--- it is right to lay what is from one place of a file to another exactly where it is laid
+-- one place of a file may follow another exactly where the part between them is laid
 pub record IsRightOf {P : Type 0} (cut : Cutting P)
     (Right : FileInput → P → P → Type 0) : Type 0 where
   pub laid-right : (from to : P) (file : List ℕ) (s : SurveyFields) (laid : LaidPart)
@@ -114,7 +114,7 @@ module _ {P : Type 0} (cut : Cutting P) (Right : FileInput → P → P → Type 
   laid-pieces [] all e = λ i p q is next. absurd cc
   laid-pieces (place ∷ places) all e = laid-next place places all e
 
-  -- and if each does, all pieces are laid
+  -- if each place follows the one before it, all pieces are laid
   pub pieces-laid : (places : List P) → HoldsOfEachNext places Follows
       → (all : List LaidPart) × (piece_parts cut file s places ≡ Ok all)
   pieces-laid [] each = ([], refl)
@@ -146,7 +146,7 @@ range-frames from to file s is =
           chosen.1,
     )
 
--- pieces between positions follow each other exactly if they are ranges of the file
+-- positions may follow each other exactly where there is a range of frames between them
 pub frames-right : (more : List (List ℕ)) (places : Contents → Result (List Place) EditFault)
     (refuses : Refusal → Bool) → IsRightOf (frame_cutting more places refuses) FramesFollow
 frames-right more places refuses = record { laid-right = frames-range; right-laid = range-frames }
@@ -174,7 +174,7 @@ range-samples from to file s is =
           (λ span. Ok (span_piece head span file (survey_without_head s)))) span.1,
     )
 
--- so do exact pieces
+-- places may follow each other exactly where there is a range of samples between them
 pub samples-right : (more : List (List ℕ)) (places : Contents → Result (List ExactPlace) EditFault)
     (refuses : Refusal → Bool) → IsRightOf (sample_cutting more places refuses) SamplesFollow
 samples-right more places refuses =
@@ -209,7 +209,7 @@ module _ {P : Type 0} (cut : Cutting P) (Right : FileInput → P → P → Type 
   IsLegalSplit =
       AreNamesApart (input ∷ cut.more) (piece_names prefix) × IsOne Choice files input most_frames
 
-  -- it is done exactly where the choice is legal, and no piece has the name of an input
+  -- a split succeeds exactly where the choice is legal, and no piece has the name of an input
   pub split-law : (Legal : Type 0) → (Legal → IsLegalSplit) → (IsLegalSplit → Legal)
       → Legal ↔ AcceptsFiles (split_command cut input prefix) files
   split-law Legal parts whole = (

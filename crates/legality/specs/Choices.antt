@@ -32,7 +32,7 @@ use Rattle.tag_blocks.specs.declared.undo.{Undo.Undo, UndoItem.TheVariants.{Foun
 
 -- ---- gains (global_gain of ISO/IEC 11172-3 and 13818-3, 2.4.2.7)
 
--- a gain moved by these steps is one again, from 0 to 255
+-- a gain moved by these steps is a gain again, from 0 to 255
 abbrev pub StaysGain : ℤ → ℕ → Type 0
 StaysGain steps gain = (moved : ℕ) × (moved ≤ 255) × (pos gain +ℤ steps ≡ pos moved)
 
@@ -41,8 +41,8 @@ abbrev pub channel_steps : Steps → ℕ → ℤ
 channel_steps steps zero = steps.left
 channel_steps steps (suc channel) = steps.right
 
--- The gains of a frame can move by these steps: they wrap, or the frame is lost and left alone,
--- or the gain of each granule and channel that has main data is from 0 to 255 afterwards too.
+-- The gains of a frame can move by these steps: they wrap, or the frame is lost and left alone, or
+-- the gain of each granule and channel that has main data is still from 0 to 255 afterwards.
 abbrev pub CanMove : Steps → Row → Type 0
 CanMove steps row =
     steps.wrap ≡ false → row.lost ≡ false → (granule channel : ℕ) → granule < 2 → channel < 2
@@ -55,8 +55,8 @@ CanAllMove steps s = HoldsOfEach s.frames (λ i row. CanMove (steps i) row)
 
 -- ---- gain
 
--- one channel can change alone: there are two, and
--- those of no frame are coded jointly (mode 1, 2.4.2.3)
+-- one channel can change alone: there are two channels, and no frame codes them jointly (mode 1,
+-- 2.4.2.3)
 pub record AreSeparate (s : SurveyFields) : Type 0 where
   pub two : s.class.channels ≢ 1
   pub each : HoldsOfEach s.frames (λ i row. row.header.mode ≢ 1)
@@ -67,10 +67,9 @@ CanChange Both s = Unit {0}
 CanChange Left s = AreSeparate s
 CanChange Right s = AreSeparate s
 
--- The change can be noted: the tag of the file is read (`file_tag`, whose
--- law says that it is its bytes), its undo item has a value of the form or
--- isn't there, the numbers of the new item are from -999 to 999, the new tag
--- has at most 1,048,576 bytes, and the file with it at most 1,073,741,824.
+-- The change can be noted: the tag of the file is read (`file_tag`; a law says that it is the tag's
+-- bytes), its undo item has a value of the form or is absent, the numbers of the new item are from
+-- -999 to 999, the new tag has at most 1,048,576 bytes, and the file with it at most 1,073,741,824.
 pub record CanBeNoted (shift : Shift) (input : FileInput) : Type 0 where
   pub tag : TagFields
   pub read : file_tag input.bytes input.survey ≡ Ok tag
@@ -127,7 +126,7 @@ IsRange s from to =
     (frame_at s.class (length s.frames) from < frame_at s.class (length s.frames) to)
     × (frame_at s.class (length s.frames) to ≤ length s.frames)
 
--- so it is between each position and the next
+-- between each position and the next there is a frame, and none is after the end
 abbrev pub ArePieceRanges : SurveyFields → List Place → Type 0
 ArePieceRanges s places = HoldsOfEachNext places (IsRange s)
 
@@ -143,8 +142,8 @@ pub record IsLegalSheet (sheet : List ℕ) (files : Contents) (input : FileInput
 
 -- ---- cut --exact
 
--- how many samples players play of a file: those of all frames
--- but for the encoder delay and the padding that its head says
+-- how many samples of a file players play: the samples of all frames but for the encoder delay and
+-- the padding that its head gives
 abbrev pub samples_played : FileInput → ℕ
 samples_played input = length_of_played (played_of (fields_of_head input.bytes input.survey.head)
     input.survey.class (length input.survey.frames))
@@ -160,11 +159,11 @@ IsSampleRange from to input = (sample_number input from < sample_number input to
 
 -- ---- split --exact
 
--- between each place and the next there are such samples
+-- between each place and the next there is a sample, and none is after the last that is played
 abbrev pub AreSamplePieces : FileInput → List ExactPlace → Type 0
 AreSamplePieces input places = HoldsOfEachNext places (λ from to. IsSampleRange from to input)
 
--- the same of the starts of a cue sheet, and the end
+-- the sheet is a legal cue sheet, and the same holds of its starts and the end
 pub record IsLegalExactSheet (sheet : List ℕ) (files : Contents) (input : FileInput) : Type 0 where
   pub bytes : List ℕ
   pub there : files sheet ≡ Some bytes
@@ -185,15 +184,15 @@ abbrev pub HasRateRoom : ℕ → SurveyFields → Type 0
 HasRateRoom rate s = (lead_in : Bool) × CanBeLaidFromMenu (window_of s.class.version) lead_in
     (menu_in (Constant rate) s.class) (map need_of s.frames)
 
--- No such list has room, and this is the first frame,
--- counted from 0, up to which none has even after a lead-in.
+-- No such list has room, and this is the first frame, counted from 0, up to which none has, even
+-- after a lead-in.
 abbrev pub IsFirstUnfit : ℕ → SurveyFields → ℕ → Type 0
 IsFirstUnfit rate s i =
     IsFirstUnfitFrame (window_of s.class.version) (menu_in (Constant rate) s.class)
     (map need_of s.frames) i
 
--- with the least slots, with the fewest bytes, and with
--- all slots from a bit rate on there is always room
+-- with the least slots, with the fewest bytes, and with all slots from a bit rate on there is
+-- always room
 abbrev pub IsLegalPack : PackMode → SurveyFields → Type 0
 IsLegalPack Least s = Unit {0}
 IsLegalPack Best s = Unit {0}
@@ -209,9 +208,9 @@ AreInputsOfOneClass inputs = (i j : ℕ) (p q : FileInput) → slice_get inputs 
 
 -- ---- salvage
 
--- The input needn't be well-formed: it is there, has at most 1,073,741,824 bytes,
--- and a usable frame where its front ends or, anchored, behind, and from that first
--- frame on 1 to 2,900,000 frames are found, not counting a Xing or Info frame.
+-- The input needn't be well-formed: it is there, has at most 1,073,741,824 bytes, and a usable
+-- frame where its front ends or, anchored, after that, and from that first frame on 1 to 2,900,000
+-- frames are found, not counting a Xing or Info frame.
 pub record IsLegalSalvage (input : List ℕ) (files : Contents) : Type 0 where
   pub bytes : List ℕ
   pub there : files input ≡ Some bytes

@@ -28,25 +28,25 @@ pub record FileInput : Type 0 where
   pub bytes : List ℕ
   pub survey : SurveyFields
 
--- the name's file is there, has at most 1,073,741,824 bytes, and is well-formed
+-- the file with this name is there, has at most 1,073,741,824 bytes, and is well-formed
 pub record IsInput (files : Contents) (name : List ℕ) (input : FileInput) : Type 0 where
   pub there : files name ≡ Some input.bytes
   pub long : length input.bytes ≤ longest_file
   pub well_formed : unbounded_survey input.bytes ≡ Ok input.survey
 
--- so is each of these
+-- each of these names has such a file
 abbrev pub AreInputs : Contents → List (List ℕ) → List FileInput → Type 0
 AreInputs files [] [] = Unit {0}
 AreInputs files (name ∷ names) (input ∷ inputs) =
     IsInput files name input × AreInputs files names inputs
 AreInputs files _ _ = ⊥
 
--- how many frames they have together
+-- how many frames the inputs have together
 abbrev pub input_frames : List FileInput → ℕ
 input_frames [] = 0
 input_frames (input ∷ inputs) = length input.survey.frames + input_frames inputs
 
--- there is one, and this holds of it
+-- there is one input, and this holds of it
 abbrev pub HoldsOfOne : (FileInput → Type 0) → List FileInput → Type 0
 HoldsOfOne P (input ∷ []) = P input
 HoldsOfOne P _ = ⊥

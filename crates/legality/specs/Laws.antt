@@ -23,7 +23,7 @@ use Rattle.split_edits.specs.Split.{split_exact_by_command}
 abbrev pub AcceptsFiles : Command → Contents → Type 0
 AcceptsFiles command files = (made : Made) × (command.makes files ≡ Ok made)
 
--- for each command and all files, whatever was chosen, it is legal exactly where it isn't refused
+-- for each command and all files, whatever was chosen: it is legal exactly where it isn't refused
 pub record LegalIsAccepted : Type 0 where
   pub list : (files : Contents) (input : List ℕ)
       → IsLegalFor (ListFile input) files ↔ AcceptsFiles (list_command input) files

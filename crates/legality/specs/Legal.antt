@@ -16,7 +16,7 @@ use Rattle.requests.specs.Names.{piece_names}
 
 -- ---- the files
 
--- those that are read as streams
+-- the files that are read as streams
 abbrev pub sources_of : Request → List (List ℕ)
 sources_of Help = []
 sources_of Version = []
@@ -35,14 +35,14 @@ sources_of (Drill seed count) = []
 sources_of (Fade back input output sheet) = input ∷ []
 sources_of (Salvage input output) = []
 
--- and those that are read as sheets, or as a damaged file
+-- the files that are read as sheets, or as a damaged file
 abbrev pub others_of : Request → List (List ℕ)
 others_of (SplitBy exact input prefix sheet) = sheet ∷ []
 others_of (Fade back input output sheet) = sheet ∷ []
 others_of (Salvage input output) = input ∷ []
 others_of _ = []
 
--- those that may be written
+-- the files that may be written
 abbrev pub outputs_of : Request → List (List ℕ)
 outputs_of Help = []
 outputs_of Version = []
@@ -97,7 +97,7 @@ AreLegalChoices (Fade back input output sheet) files inputs =
     HoldsOfOne (IsLegalFade sheet back files) inputs
 AreLegalChoices (Salvage input output) files inputs = IsLegalSalvage input files
 
--- ---- all of it
+-- ---- all conditions together
 
 -- No input is an output; each input that is read as a stream is there, no longer than allowed,
 -- and well-formed, and together they have no more frames than allowed; and the choices are legal.

@@ -2,8 +2,8 @@
 ghost use Rattle.legality.specs.Laws.{LegalIsAccepted, UnfitIsRefused};
 
 /// A command that was asked for makes its outputs exactly where it is legal: no input is an output, each input that is read as a
-/// stream is there, no longer than allowed and well-formed, and the choices are legal, with a sheet or a damaged file that they
-/// name.
+/// stream is there, no longer than allowed and well-formed, and the choices are legal, together with the sheet or damaged file
+/// that they name.
 pub fn legal_is_accepted()
     ensures { LegalIsAccepted }
 {}

@@ -28,7 +28,7 @@ has-fewest (Drill seed count) old new done = tt
 has-fewest (Fade back input output sheet) old new done = tt
 has-fewest (Salvage input output) old new done = tt
 
--- a packing into the fewest bytes that ends well wrote the fewest
+-- a packing into the fewest bytes that ends with status 0 wrote the fewest
 pub fewest-bytes : (words : List (List ℕ)) (asked : Request) (is : job_of words ≡ Ok asked)
     (old new : Seen) (out_old out_new err_old err_new : Heard) (status : ℕ)
     (all : CommandAnswers (command_of asked) (world old out_old err_old)

@@ -1,4 +1,4 @@
--- What a run is follows from the answer of its command, or from that of a bad word.
+-- What a run is follows from how its command ends, or from a bad word.
 use Rattle.std.proofs.Common.{ap, arith, Err, List, lit≤, Ok, refl, subst, sym, ℕ, [], ◌≡◌}
 use Rattle.std.specs.Prelude.{IfSome, IsErr, ◌↔◌}
 use Rattle.commands.specs.Command.{HoldsStreams}
@@ -13,7 +13,7 @@ use Rattle.mp3_cli.specs.Run.{world}
 use Rattle.outside.{proofs.FilesLemmas.touches_none, specs.Counts.NoneFell}
 use Rattle.outside.specs.{Files.{IfTold, OnlyTouches, sent_and_more}, Seen.{Heard, Seen}}
 
--- a run is what the answer of its command says
+-- a run with the words of a command ends as the command does
 pub command_ran : (words : List (List ℕ)) (asked : Request) → job_of words ≡ Ok asked
     → IsSoundRequest asked → (old new : World) (status : ℕ)
     → CommandAnswers (command_of asked) old new status
@@ -49,7 +49,7 @@ command_ran words asked is sound old new status all streams fell =
       counts = fell;
     }
 
--- a run with a bad word is what the answer to that word says
+-- a run with a bad word ends as a bad word does
 pub word_refused : (words : List (List ℕ)) (place : ℕ) → job_of words ≡ Err place
     → (old new : World) → AnswersBadWord place old new 2
     → NoneFell old.folder.counts new.folder.counts → ProgramRun words old new 2

@@ -1,4 +1,4 @@
--- What `run` promises, from the answer of a command.
+-- What `run` promises, from how a command ends.
 use Rattle.std.proofs.Common.{ap, arith, Err, false, inl, inr, List, None, Ok, Option, refl, Result}
 use Rattle.std.proofs.Common.{Some, subst, sym, true, ℕ, [], ◌↔◌, ◌∙◌, ◌∷◌, ◌≡◌, ◌≢◌, ◌≤◌, ◌⊎◌}
 use Rattle.std.proofs.{Math.Seq.take-nil, lemmas.Option.same_Some}
@@ -47,9 +47,9 @@ input_sent : (kind : InputKind) → by_kind (record {
 input_sent IsAbsent e = absurd cc
 input_sent _ e = absurd cc
 
--- it is the only fault with which something was sent
+-- the only fault after which standard output may have got something
 module _ (command : Command) (files : Files) (old new : Heard) where
-  -- if that is the fault, a failed write was counted
+  -- if there is this fault, a failed write was counted
   pub sent_rose : (fault : EditFault) → why_of fault ≡ Unsent
       → SaysText command files old new (Some fault) → Rose old.faults new.faults
   sent_rose (Input place fault) is says = absurd (input_sent (kind_of fault) is)
@@ -64,7 +64,7 @@ module _ (command : Command) (files : Files) (old new : Heard) where
 
 -- ---- no line
 
--- where nothing was sent no line was
+-- where nothing was sent, no line was sent
 pub sent_no_line : (sent : Sent) (faults : ℕ) → GotLine sent sent faults faults []
 sent_no_line sent faults = record {
   later = omega arith;
@@ -80,12 +80,12 @@ got_nothing old new line = at line.got
     at (inr part) =
         part.sent ∙ ap (sent_and_more old.sent) (take-nil part.count) ∙ sent_nothing old.sent
 
--- ---- of one answer
+-- ---- of one command
 
 module _ (command : Command) (old new : Seen) (out_old out_new err_old err_new : Heard) (status : ℕ)
     (all : CommandAnswers command (world old out_old err_old)
     (world new out_new err_new) status) where
-  -- what follows where it was done, and where there is a fault of this kind
+  -- what follows if the command succeeded, and what follows if it ended with a fault of this kind
   by_case : {P : Type 0} → (status ≡ 0 → all.fault ≡ None → P)
       → ((fault : EditFault) (why : Why) → all.fault ≡ Some fault → status ≡ cause_status why
       → why_of fault ≡ why → by_why (left_cases command old new fault) why → P) → P
@@ -96,7 +96,7 @@ module _ (command : Command) (old new : Seen) (out_old out_new err_old err_new :
       at None e is left = done is e
       at (Some fault) e is left = failed fault (why_of fault) e is refl left
 
-  -- no name but those of its outputs was touched
+  -- no name but the names of its outputs was touched
   pub touched : OnlyTouches command.outputs old.files new.files
   touched = by_case (λ is e. (all.ends.done e).touches) (λ fault why e is w left. left_touched
       command old new fault (subst (by_why (left_cases command old new fault)) (sym w) left))
@@ -105,7 +105,7 @@ module _ (command : Command) (old new : Seen) (out_old out_new err_old err_new :
   done_at zero_is = by_case (λ is e. e)
       (λ fault why e is w left. absurd (omega (arith, is, zero_is, (by_status why).0)))
 
-  -- status 0 says that the command was done
+  -- with status 0 the command was done
   pub is_done : status ≡ 0 → IsCommandDone command old new
   is_done zero_is = all.ends.done (done_at zero_is)
 
@@ -113,7 +113,7 @@ module _ (command : Command) (old new : Seen) (out_old out_new err_old err_new :
       → GetsLine err_old err_new (command_fault_line command o)
   line_here o e = subst (λ o. GetsLine err_old err_new (command_fault_line command o)) e all.line
 
-  -- and that standard error got nothing
+  -- with status 0 standard error got nothing
   pub quiet : status ≡ 0 → err_new.sent ≡ err_old.sent
   quiet zero_is = got_nothing err_old err_new (line_here None (done_at zero_is))
 
@@ -133,12 +133,12 @@ module _ (command : Command) (old new : Seen) (out_old out_new err_old err_new :
   at_most = by_case (λ is e. omega (arith, is))
       (λ fault why e is w left. omega (arith, is, (by_status why).1))
 
-  -- no command answers with status 2
+  -- no command ends with status 2
   pub not_two : status ≢ 2
   not_two two = by_case (λ is e. absurd (omega (arith, is, two)))
       (λ fault why e is w left. (by_status why).2 (sym is ∙ two))
 
-  -- what is refused, and want of memory, leave all as it was
+  -- a refusal and running out of memory leave all as it was
   stays_by : (fault : EditFault) (why : Why) → status ≡ cause_status why → status ≢ 3
       → by_why (left_cases command old new fault) why → new ≡ old
   stays_by fault Rejected is other left = left.stays
@@ -170,7 +170,7 @@ module _ (command : Command) (old new : Seen) (out_old out_new err_old err_new :
       at None e = tt
       at (Some text) e = (says_here None (done_at zero_is)).text text (inl e)
 
-  -- ---- over files that are told
+  -- ---- over a folder whose contents are known
   module _ (f : Contents) (told : old.files ≡ Told f) where
     gives : (r : Result Made EditFault) → HasAnswer command old.files r → command.makes f ≡ r
     gives r h = subst (λ files. HasAnswer command files r) told h
@@ -203,7 +203,7 @@ module _ (command : Command) (old new : Seen) (out_old out_new err_old err_new :
     failed_here fault Rejected e is low w left = refused_here fault e is w left
     failed_here fault _ e is low w left = absurd (omega (arith, is, low))
 
-    -- up to status 2 the outcome is that of the definition
+    -- up to status 2 the outcome is what the definition says
     pub as_defined : status ≤ 2 → IsOutcome (command_outcome command f) (world old out_old err_old)
         (world new out_new err_new) status
     as_defined low =
@@ -219,8 +219,8 @@ module _ (command : Command) (old new : Seen) (out_old out_new err_old err_new :
         }))
         (λ fault why e is w left. failed_here fault why e is low w left)
 
-    -- where no call of the folder and no write to standard output failed,
-    -- and memory was found, it is done exactly where it isn't refused
+    -- where no call of the folder and no write to standard output failed, and memory didn't run
+    -- out, the command succeeds exactly where it isn't refused
     not_made : (made : Made) (fault : EditFault) → command.makes f ≡ Ok made
         → command.makes f ≡ Err fault → ⊥
     not_made made fault ok err = cc
@@ -246,7 +246,7 @@ module _ (command : Command) (old new : Seen) (out_old out_new err_old err_new :
     not_failed made fault _ ok reads writes sends found e w is left =
         not_made made fault ok (gives (Err fault) left.defined)
 
-    -- where it is done the files are those before with all that it makes
+    -- where the command succeeded, the files are those from before and all that it makes
     pub files_where_done : status ≡ 0 → (made : Made) × (command.makes f ≡ Ok made)
         × (new.files ≡ Told (written_files made.outputs f))
     files_where_done zero_is = made_here (done_at zero_is)
@@ -255,7 +255,8 @@ module _ (command : Command) (old new : Seen) (out_old out_new err_old err_new :
     pub made_where_done : status ≡ 0 → (made : Made) × (command.makes f ≡ Ok made)
     made_where_done zero_is = let made = files_where_done zero_is in (made.0, made.1)
 
-    -- where no call failed and memory sufficed, a command that makes something ends with status 0
+    -- where no call failed and memory didn't run out, a command that makes something ends with
+    -- status 0
     pub done_where_made : (Rose old.counts.read_faults.times new.counts.read_faults.times → ⊥)
         → (Rose old.counts.write_faults.times new.counts.write_faults.times → ⊥)
         → (Rose out_old.faults out_new.faults → ⊥) → status ≢ 4
@@ -265,7 +266,7 @@ module _ (command : Command) (old new : Seen) (out_old out_new err_old err_new :
 
 -- ---- of words
 
--- where the files are told
+-- what follows where the folder's contents are known
 pub if_told : (files : Files) {P : Contents → Type 0} → ((f : Contents) → files ≡ Told f → P f)
     → IfTold files P
 if_told (Untold names) each = tt
@@ -276,7 +277,7 @@ outcome-words : (words : List (List ℕ)) (f : Contents) (r : Result Request ℕ
 unfolding outcome
 outcome-words words f r is = ap (job_outcome f) is
 
--- a bad word is the outcome that the definition gives
+-- for a bad word, the outcome is what the definition says
 pub bad_word_defined : (words : List (List ℕ)) (old : Seen) (place : ℕ)
     (out err_old err_new : Heard) → job_of words ≡ Err place
     → GetsLine err_old err_new (bad_word_line place) → IfTold old.files
@@ -296,7 +297,7 @@ module _ (words : List (List ℕ)) (asked : Request) (is : job_of words ≡ Ok a
     (out_old out_new err_old err_new : Heard) (status : ℕ)
     (all : CommandAnswers (command_of asked) (world old out_old err_old)
     (world new out_new err_new) status) where
-  -- up to status 2 the outcome is that of the definition
+  -- up to status 2 the outcome is what the definition says
   pub is_defined : status ≤ 2 → IfTold old.files (λ f. IsOutcome (outcome words f)
       (world old out_old err_old) (world new out_new err_new) status)
   is_defined low =
@@ -305,7 +306,8 @@ module _ (words : List (List ℕ)) (asked : Request) (is : job_of words ≡ Ok a
       (sym (outcome-words words f (Ok asked) is))
       (as_defined (command_of asked) old new out_old out_new err_old err_new status all f told low))
 
-  -- where no call failed and memory sufficed, status 0 comes exactly if words and files are legal
+  -- where no call failed and memory didn't run out, status 0 comes exactly if words and files are
+  -- legal
   pub is_accepted : (f : Contents) → old.files ≡ Told f
       → (Rose old.counts.read_faults.times new.counts.read_faults.times → ⊥)
       → (Rose old.counts.write_faults.times new.counts.write_faults.times → ⊥)
@@ -330,7 +332,7 @@ module _ (command : Command) (no_text : IsSilent command) (files : Files) (out :
   text_is text (inl always) = same_Some text [] (sym always ∙ no_text.always)
   text_is text (inr told) = sym told.4 ∙ no_text.silent told.0 told.1 told.3
 
-  -- such a command sends nothing, also with any fault that it has
+  -- such a command sends nothing, whatever fault it ends with
   says_nothing : {T : Type 0} (r : Result T EditFault) → IfErr r (HasNumbers command)
       → SaysText command files out out (answer_fault r)
   says_nothing (Ok x) numbers = record {
@@ -366,7 +368,7 @@ told_ends command (Err fault) old new out_old out_new done left says numbers nam
           λ place clash. ap answer_fault ((names place).1 clash);
     }
 
--- and how one without a text does
+-- how a command without a text ends, from what it promises
 pub silent_ends : {T : Type 0} (command : Command) → IsSilent command → (r : Result T EditFault)
     (old new : Seen) (out : Heard) → OnOk r (IsCommandDone command old new)
     → IfErr r (IsCommandFault command old new) → IfErr r (HasNumbers command)
@@ -377,7 +379,7 @@ silent_ends command no_text r old new out done left numbers names = told_ends co
 
 -- ---- a command that sends a text of one file
 
--- what every call of such a command says; no name is that of an output, since there is none
+-- what each call of such a command promises; no name is an output's, since there are no outputs
 pub text_ends : (text : List ℕ → SurveyFields → List ℕ) (input : List ℕ)
     (r : Result (Unit {0}) EditFault) (old new : Seen) (out_old out_new : Heard)
     → IsTextRun (text_command text input) old new out_old out_new r
@@ -406,14 +408,14 @@ pub one_made : (output : List ℕ) (r : Result (List ℕ) EditFault) (made : Mad
 one_made output (Ok bytes) made is = (bytes, cc)
 one_made output (Err fault) made is = absurd cc
 
--- what every call of a command that makes files says
+-- what each call of a command that makes files promises
 pub run_ends : (command : Command) → IsSilent command
     → (r : Result (Unit {0}) EditFault) (old new : Seen) (out : Heard) → IsRunOf command old new r
     → CommandEnds command old new out out (answer_fault r)
 run_ends command no_text r old new out run =
     silent_ends command no_text r old new out run.done run.left run.numbers run.names
 
--- so it says nothing
+-- a command that makes one file sends nothing
 pub one_silent : (task : Task) (output : List ℕ) → IsSilent (one_command task output)
 one_silent task output = record {
   always = refl;
@@ -423,7 +425,7 @@ one_silent task output = record {
 
 -- ---- a command that splits a file
 
--- neither does a split
+-- a split sends nothing
 pub split_silent : {P : Type 0} (cut : Cutting P) (prefix input : List ℕ)
     → IsSilent (split_command cut input prefix)
 split_silent cut prefix input = record {
@@ -432,7 +434,7 @@ split_silent cut prefix input = record {
       sym (ap (λ (made : Made). made.text) (split-parts cut f prefix input made is).1.1);
 }
 
--- ---- a text that is said
+-- ---- a command that only sends a text
 
 module _ (text : List ℕ) (some : Some text ≢ Some []) (now : Seen) where
   text_made : IfTold now.files (λ f. (made : Made) × ((fixed_text_command text).makes f ≡ Ok made)
@@ -474,7 +476,7 @@ pub sent_alone : {T : Type 0} (r : Result T EditFault) → IfErr r (λ fault. fa
 sent_alone (Ok x) is = tt
 sent_alone (Err fault) is = subst IsDrillFault (sym is) tt
 
--- with status 0 it was done
+-- with status 0 the command was done
 pub done_where_zero : {T P : Type 0} (r : Result T EditFault) → fault_status (answer_fault r) ≡ 0
     → OnOk r P → P
 done_where_zero (Ok x) zero_is p = p

@@ -44,14 +44,14 @@ abbrev HasNone : List ℕ → List Output → Type 0
 HasNone name [] = Unit {0}
 HasNone name (output ∷ outputs) = (name ≢ output.name) × HasNone name outputs
 
--- they have the first of these names, and no two have one name
+-- the outputs have the first of these names, and no two have the same name
 abbrev pub AreNamed : List (List ℕ) → List Output → Type 0
 AreNamed names [] = Unit {0}
 AreNamed [] (output ∷ outputs) = ⊥
 AreNamed (name ∷ names) (output ∷ outputs) =
     (output.name ≡ name) × HasNone output.name outputs × AreNamed names outputs
 
--- a file that isn't one of them is as it was
+-- a file that isn't one of the outputs is as it was
 written-other : (outputs : List Output) (files : Contents) (name : List ℕ) → HasNone name outputs
     → written_files outputs files name ≡ files name
 written-other [] files name none = refl
@@ -268,7 +268,7 @@ there (Salvage input output) f made sound e holds =
     output).makes f) made (one-named (salvage_task input) output f) e)
     (streams-chosen.salvage input output f made e)
 
--- after a run that ends well each output is there, with the frames that were chosen
+-- after a run that ends with status 0, each output is there, with the frames that were chosen
 pub written-streams : (words : List (List ℕ)) (asked : Request) (is : job_of words ≡ Ok asked)
     (sound : IsSoundRequest asked) (old new : Seen) (out_old out_new err_old err_new : Heard)
     (status : ℕ)

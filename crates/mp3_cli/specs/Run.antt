@@ -47,7 +47,7 @@ command_of (Drill seed count) = drill_command seed count
 command_of (Fade back input output sheet) = fade_command sheet back input output
 command_of (Salvage input output) = salvage_command input output
 
--- ---- the answer of a command over every folder, also one that doesn't tell its files
+-- ---- how a command ends over every folder, even one whose contents aren't known
 
 -- the status of a command with this fault, 0 where it was done
 abbrev pub fault_status : Option EditFault → ℕ
@@ -78,7 +78,8 @@ abbrev pub world : Seen → Heard → Heard → World
 world folder out err = record { folder = folder; out = out; err = err }
 
 -- How a command ended, with this fault or none: it was done, and its text was sent, or the fault
--- has its cause, its numbers and what it leaves. Equal names are found whatever else is at fault.
+-- has its cause, its numbers and what it leaves. Equal names are found no matter what else is at
+-- fault.
 pub record CommandEnds (command : Command) (old new : Seen) (out_old out_new : Heard)
     (fault : Option EditFault) : Type 0 where
   pub says : SaysText command old.files out_old out_new fault
@@ -87,8 +88,8 @@ pub record CommandEnds (command : Command) (old new : Seen) (out_old out_new : H
   pub numbers : IfSome fault (HasNumbers command)
   pub names : (place : ℕ) → clash_of command ≡ Some place → fault ≡ Some (EqualNames place)
 
--- The command ended, with a fault or none, and that has its status and
--- its line, which was sent whole, or a prefix of it where a write failed.
+-- The command ended, with a fault or none; the program's status is what this fault gives, and its
+-- line was sent whole, or a prefix of it where a write failed.
 pub record CommandAnswers (command : Command) (old new : World) (status : ℕ) : Type 0 where
   pub fault : Option EditFault
   pub ends : CommandEnds command old.folder new.folder old.out new.out fault
@@ -102,32 +103,32 @@ pub record AnswersBadWord (place : ℕ) (old new : World) (status : ℕ) : Type 
   pub silent : new.out ≡ old.out
   pub stays : new.folder ≡ old.folder
 
--- the words were answered: as a command, or as a bad word
+-- the program did what the words ask for, as a command or as a bad word
 abbrev pub AnswersWords : World → World → ℕ → Result Request ℕ → Type 0
 AnswersWords old new status (Ok asked) = CommandAnswers (command_of asked) old new status
 AnswersWords old new status (Err place) = AnswersBadWord place old new status
 
--- the names of the files that the words ask to write; those of a split are the 99 that it may write
+-- the names of the files that the words ask to write; for a split, the 99 that it may write
 abbrev pub outputs_asked : Result Request ℕ → List (List ℕ)
 outputs_asked (Ok asked) = (command_of asked).outputs
 outputs_asked (Err place) = []
 
--- the text that the words ask for whatever the files are, where there is one
+-- the text that the words ask for no matter what the files are, where there is one
 abbrev pub always_of : Result Request ℕ → Option (List ℕ)
 always_of (Ok asked) = (command_of asked).always
 always_of (Err place) = None
 
--- ---- the result, where the files are told
+-- ---- the result, where the folder's contents are known
 
--- what the program answers, what it writes to standard
--- output and to standard error, and the files afterwards
+-- the status that the program ends with, what it writes to standard output and to standard error,
+-- and the files afterwards
 pub record Outcome : Type 0 where
   pub status : ℕ
   pub text : List ℕ
   pub line : List ℕ
   pub files : Contents
 
--- the outcome of what a command makes, or of its refusal
+-- the outcome of a command, from what it makes or its refusal
 abbrev pub made_outcome : Command → Contents → Result Made EditFault → Outcome
 made_outcome command files (Ok made) =
     record { status = 0; text = made.text; line = []; files = written_files made.outputs files }
@@ -196,25 +197,25 @@ HoldFrames files [] (frames ∷ more) = ⊥
 HoldFrames files (name ∷ names) (frames ∷ more) = ((bytes : List ℕ) × (files name ≡ Some bytes)
     × IsWellFormed bytes × ConsistsOf frames (stream_of bytes)) × HoldFrames files names more
 
--- The inputs that are read as streams were there and well-formed, and the outputs are there,
--- by their names, with exactly the frames that the job chooses of the inputs (`chosen_of`).
+-- The inputs that are read as streams were there and well-formed, and the outputs are there, with
+-- their names and exactly the frames that the job chooses from the inputs (`chosen_of`).
 pub record HoldsWritten (asked : Request) (old new : Contents) : Type 0 where
   pub sources : AreSoundFiles old (command_of asked).sources
   pub outputs : HoldFrames new (command_of asked).outputs (chosen_of asked old)
 
--- so it is of what the words ask for, where the files before and after are told
+-- this holds of what the words ask for, where the folder's contents before and after are known
 abbrev pub HoldsAllStreams : List (List ℕ) → Files → Files → Type 0
 HoldsAllStreams words old new = IfOk (job_of words)
     (λ asked. IfTold old (λ before. IfTold new (λ after. HoldsWritten asked before after)))
 
 -- ---- the fewest bytes
 
--- what is packed into the fewest bytes has the fewest of all files of the frames of its input
+-- what is packed into the fewest bytes has the fewest of all files with the frames of its input
 abbrev pub HasFewest : Request → Files → Files → Type 0
 HasFewest (Pack mode input output) old new = WritesFewest mode input output old new
 HasFewest _ old new = Unit {0}
 
--- so it is of what the words ask for
+-- this holds of what the words ask for
 abbrev pub HasFewestBytes : List (List ℕ) → Files → Files → Type 0
 HasFewestBytes words old new = IfOk (job_of words) (λ asked. HasFewest asked old new)
 
@@ -233,40 +234,40 @@ pub record ProgramRun (words : List (List ℕ)) (old new : World) (status : ℕ)
   pub statuses : status ≤ 4
   -- refused words give status 2, and nothing else does
   pub bad_word : (status ≡ 2) ↔ IsErr (job_of words)
-  -- over every folder, also one that doesn't tell its files: the command was done, or there
-  -- is a fault with its status, its line with its numbers, its cause and what it leaves
+  -- over every folder, even one whose contents aren't known: the command was done, or there is a
+  -- fault with its status, its line with its numbers, its cause and what it leaves
   pub answers : AnswersWords old new status (job_of words)
   -- with status 0, 1 or 2 all is as defined, whether or not a call failed
   pub defined : status ≤ 2
       → IfTold old.folder.files (λ files. IsOutcome (outcome words files) old new status)
-  -- Where no call of the folder failed, nor a write to standard output, and
-  -- memory was found, exactly what is legal is done: the words ask for a
-  -- command, no input is an output, each input that is read as a stream is
-  -- there, no longer than allowed and well-formed, and the choices are legal.
+  -- Where no call of the folder and no write to standard output failed, and memory didn't run out,
+  -- exactly what is legal is done: the words ask for a command, no input is an output, each input
+  -- that is read as a stream is there, no longer than allowed and well-formed, and the choices are
+  -- legal.
   pub accepted : (files : Contents) → old.folder.files ≡ Told files → NoCallFailed old new
       → status ≢ 4 → ((status ≡ 0) ↔ IsLegal words files)
-  -- each output is there, by its name, well-formed, and its stream is exactly the
-  -- frames that the job chooses of its inputs: part by part at most one silent
-  -- lead-in and then the frames, or the input's frames alone where only gains move
+  -- each output is there, with its name, well-formed, and its stream is exactly the frames that the
+  -- job chooses from its inputs: part by part at most one silent lead-in and then the frames, or
+  -- the input's frames alone where only gains move
   pub streams : status ≡ 0 → HoldsAllStreams words old.folder.files new.folder.files
-  -- with `pack --best`, and where the folder tells its files, no file of the same frames
-  -- in other slots, with a lead-in where this one has one or with none, has fewer bytes
+  -- with `pack --best`, and where the folder's contents are known, no file of the same frames in
+  -- other slots, with a lead-in where this one has one or with none, has fewer bytes
   pub fewest : status ≡ 0 → HasFewestBytes words old.folder.files new.folder.files
-  -- over every folder, told or not, no name but those
-  -- of the outputs was touched: created, or written to
+  -- over every folder, even one whose contents aren't known, no name but the names of the outputs
+  -- was touched: created, or written to
   pub touches : OnlyTouches (outputs_asked (job_of words)) old.folder.files new.folder.files
-  -- a refusal and want of memory leave the files, and touch no name
+  -- a refusal and running out of memory leave the files, and touch no name
   pub kept : status ≢ 0 → status ≢ 3 → new.folder.files ≡ old.folder.files
-  -- no other status hides an absent input, a failed
-  -- call of the folder or a file that became shorter
+  -- no status but 3 hides an absent input, a failed call of the folder or a file that became
+  -- shorter
   pub failed : status ≢ 3 → new.folder.counts ≡ old.folder.counts
   -- a command that was done sends no line
   pub quiet : status ≡ 0 → new.err.sent ≡ old.err.sent
   -- standard output gets a text only where the command was done, or a write there failed
   pub silent : status ≢ 0 → status ≢ 3 → new.out.sent ≡ old.out.sent
-  -- some texts are the same whatever the files are, and are sent over every
-  -- folder: those of `--help`, `--version` and `drill`, and the empty ones
-  -- of the commands that write files, except `salvage` and `join --seamless`
+  -- some texts are the same whatever the files are, and are sent over every folder: the texts of
+  -- `--help`, `--version` and `drill`, and the empty ones of the commands that write files, except
+  -- `salvage` and `join --seamless`
   pub text : status ≡ 0
       → IfSome (always_of (job_of words)) (λ text. new.out.sent ≡ sent_and_more old.out.sent text)
   -- the counts of what failed don't fall

@@ -50,7 +50,7 @@ pub(crate) fn inputs_of<'a>(job: &Job<'a>) -> ArrayVec<&'a str, 64>
         | Job::SplitAt { input, .. }
         | Job::SplitExact { input, .. }
         | Job::Salvage { input, .. } => names(&[input]),
-        // Arms of their own, since each has a proof of its own.
+        // Arms of their own, since each has its own proof.
         Job::Pack { input, .. } => names(&[input]),
         Job::SplitBy { input, sheet, .. } => names(&[input, sheet]),
         Job::Fade { input, sheet, .. } => names(&[input, sheet]),
@@ -74,7 +74,7 @@ pub(crate) fn outputs_of<'a>(job: &Job<'a>) -> Outputs<'a>
         | Job::Fade { output, .. }
         | Job::Salvage { output, .. } => Outputs::One(output),
         Job::SplitAt { prefix, .. } | Job::SplitExact { prefix, .. } => Outputs::Pieces(prefix),
-        // Arms of their own, since each has a proof of its own.
+        // Arms of their own, since each has its own proof.
         Job::SplitBy { prefix, .. } => Outputs::Pieces(prefix),
         Job::Join { output, .. } => Outputs::One(output),
     }

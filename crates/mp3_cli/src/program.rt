@@ -26,7 +26,7 @@ use salvage_edits::salvage;
 use split_edits::{ExactPoints, Points, split, split_exact};
 use std::alloc::Global;
 
-/// Sends the line of a fault, if there is one, and answers the status.
+/// Sends the line of a fault, if there is one, and returns the status.
 fn report<E: Sink>(
     err: &mut E,
     done: Result<(), EditFault>,
@@ -47,7 +47,7 @@ fn report<E: Sink>(
     }
 }
 
-/// Cuts the input at the starts in a cue sheet, to a frame or to a sample. The refusals are those of the command's own call.
+/// Cuts the input at the starts in a cue sheet, to a frame or to a sample. It is refused where the command's own call is.
 fn split_by_sheet<D: Folder>(
     alloc: Global,
     folder: &mut D,
@@ -67,8 +67,8 @@ fn split_by_sheet<D: Folder>(
     }
 }
 
-/// Joins the inputs, 1 to 64, with all their frames, or without those that only a piece needs. The refusals are those of the
-/// command's own call.
+/// Joins the inputs, 1 to 64, with all their frames, or without the frames that only a piece needs. It is refused where the
+/// command's own call is.
 fn join_files<D: Folder, T: Sink>(
     alloc: Global,
     folder: &mut D,
@@ -96,7 +96,7 @@ fn join_files<D: Folder, T: Sink>(
     }
 }
 
-/// Does what the job asks for. The refusals are those of the command's own call.
+/// Does what the job asks for. It is refused where the command's own call is.
 fn do_job<D: Folder, T: Sink>(
     alloc: Global,
     job: Job,
@@ -181,7 +181,7 @@ fn do_job<D: Folder, T: Sink>(
     }
 }
 
-/// Does what the job asks for, reports how it ended, and answers the status.
+/// Does what the job asks for, reports how it ended, and returns the status.
 fn run_job<D: Folder, T: Sink, E: Sink>(
     alloc: Global,
     job: Job,
@@ -206,12 +206,13 @@ fn run_job<D: Folder, T: Sink, E: Sink>(
     report(err, done, inputs.as_slice(), &outputs)
 }
 
-/// Does what the words ask for over the folder, and answers the status: 0 where it was done; 1 where an input, or what was
+/// Does what the words ask for over the folder, and returns the status: 0 where it was done; 1 where an input, or what was
 /// asked of it, was refused; 2 for a bad word; 3 for an absent file, a failed call of the folder, a file that became shorter,
-/// or a failed write to `out`; 4 for want of memory.
+/// or a failed write to `out`; 4 if memory ran out.
 ///
-/// With every status except 0 one line is sent to `err`, without taking memory; a failed write there changes
-/// nothing else. All memory is taken before an output is created, and before the first byte is sent to `out`.
+/// With every status except 0 one line is sent to `err`, without allocating memory; a failed write there
+/// changes nothing else. All memory is allocated before an output is created, and before the first byte is
+/// sent to `out`.
 pub fn run<D: Folder, T: Sink, E: Sink>(
     alloc: Global,
     words: &[String],

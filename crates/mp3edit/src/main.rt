@@ -15,12 +15,12 @@ use std::process::ExitCode;
 use std::rt::{Env, Files};
 use std::{env, io};
 
-/// The arguments of the program, without its name. An error where one isn't UTF-8, or for want of memory.
+/// The arguments of the program, without its name. An error where one isn't UTF-8, or if memory runs out.
 fn words<R: Env + AllocGlobal>(rt: &R) -> io::Result<Vec<String>> {
     Ok(env::args(rt)?.skip(1).collect(rt.alloc())?)
 }
 
-/// The status where the words can't be had: 4 for want of memory, else 3.
+/// The status where the words can't be read: 4 if memory ran out, otherwise 3.
 fn status_without_words(error: &io::Error) -> u8
     ensures memory { error_kind error.now ≡ OutOfMemory → result ≡ 4 }
     ensures other { error_kind error.now ≢ OutOfMemory → result ≡ 3 }
@@ -31,8 +31,8 @@ fn status_without_words(error: &io::Error) -> u8
     }
 }
 
-/// Does what the words ask for, and answers the status. Where the words can't be had, nothing is done and nothing
-/// is sent.
+/// Does what the words ask for, and returns the status. Where the words can't be read, nothing is done and
+/// nothing is sent.
 fn answer<D: Folder, T: Sink, E: Sink>(
     alloc: Global,
     words: io::Result<Vec<String>>,

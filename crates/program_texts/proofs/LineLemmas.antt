@@ -20,7 +20,7 @@ module _ {X : Type 0} (f : X → List ℕ) (xs : List X) (i : ℕ) (d : X) (lt :
     {sent_first sent_before sent_after : Sent} {faults_first faults_before faults_after : ℕ}
     (before : GotWhole sent_first sent_before faults_first faults_before
     (flat_map f (take i xs))) where
-  -- that of the next was sent too
+  -- the text of the next item was sent too
   pub got_more : GotWhole sent_before sent_after faults_before faults_after (f (get_or xs i d))
       → GotWhole sent_first sent_after faults_first faults_after (flat_map f (take (i + 1) xs))
   got_more next =
@@ -34,7 +34,7 @@ module _ {X : Type 0} (f : X → List ℕ) (xs : List X) (i : ℕ) (d : X) (lt :
         done = next.done ∙ before.done;
       }
 
-  -- a prefix of it was sent, and a write failed
+  -- a prefix of the next text was sent, and a write failed
   pub got_front : GotPrefix sent_before sent_after faults_before faults_after (f (get_or xs i d))
       → GotPrefix sent_first sent_after faults_first faults_after (flat_map f xs)
   got_front next =
@@ -75,7 +75,7 @@ pub got_either : {T E : Type 0} (r : Result T E) {sent_before sent_after : Sent}
 got_either (Ok x) later whole front = record { later = later; got = inl whole }
 got_either (Err e) later whole front = record { later = later; got = inr front }
 
--- the parts of the code, one after another, spell what theirs spell
+-- the parts of the code, joined, spell what the parts of the definition spell
 pub spelled_parts : (parts : List CodePart)
     → flat_map (λ part. part_text (line_part_of part)) parts ≡ text_of_line (map line_part_of parts)
 spelled_parts [] = refl

@@ -3,7 +3,7 @@ use Rattle.std.proofs.Common.{ap, arith, List, ℕ, [], ◌%◌, ◌+◌, ◌<�
 use Rattle.program_texts.specs.Names.{name_in}
 use Rattle.requests.{proofs.NamesLemmas.name-at, specs.Names.{piece_name, piece_names}}
 
--- the name at a place is that of the piece with the next number
+-- the name at a place is the name of the piece with the next number
 pub piece_at : (prefix : List ℕ) (place : ℕ) → place < 99
     → name_in (piece_names prefix) place ≡ piece_name prefix ((place + 1) % 100)
 piece_at prefix place lt =

@@ -21,7 +21,7 @@ pub data LinePart : Type 0 where
 abbrev pub hex_digit : ℕ → ℕ
 hex_digit n = slice_index (codes "0123456789abcdef") n
 
--- a check word as four of them
+-- a check word as four hexadecimal digits
 abbrev pub hex_word : ℕ → List ℕ
 hex_word word = hex_digit (word / 4096 % 16) ∷ hex_digit (word / 256 % 16)
     ∷ hex_digit (word / 16 % 16) ∷ hex_digit (word % 16) ∷ []
@@ -38,7 +38,7 @@ part_text (Name name) = name
 abbrev pub text_of_line : List LinePart → List ℕ
 text_of_line parts = flat_map part_text parts
 
--- the parts of the code
+-- a part of a line of the code
 abbrev pub line_part_of : CodePart → LinePart
 line_part_of (code.Text text) = Text text.now
 line_part_of (code.Number number) = Number number

@@ -38,7 +38,7 @@ cause_status Rejected = 1
 cause_status NoMemory = 4
 cause_status _ = 3
 
--- 1 for what is refused, 3 for an absent file and a fault of the outside, 4 for want of memory
+-- 1 for what is refused, 3 for an absent file and a fault of the outside, 4 if memory ran out
 abbrev pub status_of : EditFault → ℕ
 status_of fault = cause_status (why_of fault)
 
@@ -70,26 +70,26 @@ input_parts (TooManyFrames at) =
 input_parts (Shrunk first second) = Text (codes ": shrunk from ") ∷ Number first
     ∷ Text (codes " to ") ∷ Number second ∷ Text (codes "\n") ∷ []
 input_parts Read = Text (codes ": read fault\n") ∷ []
--- want of memory isn't a fault of an input: it has a line of its own
+-- running out of memory isn't a fault of an input: it has a line of its own
 input_parts Memory = []
 
--- those of a fault of a cue sheet, after its name
+-- the parts of the line of a fault of a cue sheet, after its name
 abbrev pub sheet_parts : CueFault → List LinePart
 sheet_parts (Line number) = Text (codes ": bad line ") ∷ Number number ∷ Text (codes "\n") ∷ []
 sheet_parts (NotRising number) =
     Text (codes ": not rising at line ") ∷ Number number ∷ Text (codes "\n") ∷ []
 sheet_parts NoTracks = Text (codes ": no tracks\n") ∷ []
--- nor is it one of a cue sheet
+-- nor is it a fault of a cue sheet
 sheet_parts NoSheetMemory = []
 
--- those of a fault of the sheet of a fade, after its name
+-- the parts of the line of a fault of the sheet of a fade, after its name
 abbrev pub curve_parts : EnvelopeFault → List LinePart
 curve_parts (BadLine number) = Text (codes ": bad line ") ∷ Number number ∷ Text (codes "\n") ∷ []
 curve_parts NoPoints = Text (codes ": no points\n") ∷ []
--- nor is it one of this sheet
+-- nor is it a fault of this sheet
 curve_parts NoCurveMemory = []
 
--- those of a refusal, by the names of the inputs; a sheet is input 1
+-- the parts of the line of a refusal, by the names of the inputs; a sheet is input 1
 abbrev pub refusal_parts : Refusal → List (List ℕ) → List LinePart
 refusal_parts (GainRange offset granule channel gain) inputs =
     Text (codes "gain ") ∷ Number gain ∷ Text (codes " out of range at ") ∷ Number offset
@@ -127,7 +127,7 @@ refusal_parts (Curve fault) inputs = Name (name_in inputs 1) ∷ curve_parts fau
 refusal_parts (CurveNotRising number) inputs = Name (name_in inputs 1)
     ∷ Text (codes ": not rising at line ") ∷ Number number ∷ Text (codes "\n") ∷ []
 
--- those of a fault, by the names of the inputs and of the outputs
+-- the parts of the line of a fault, by the names of the inputs and of the outputs
 abbrev pub fault_parts : EditFault → List (List ℕ) → List (List ℕ) → List LinePart
 fault_parts (EqualNames place) inputs outputs =
     Name (name_in inputs place) ∷ Text (codes ": input is an output\n") ∷ []
@@ -150,7 +150,7 @@ bad_word_parts place = Text (codes "bad word ") ∷ Number place ∷ Text (codes
 abbrev pub bad_word_line : ℕ → List ℕ
 bad_word_line place = text_of_line (bad_word_parts place)
 
--- a command that says a text, whatever the files are
+-- a command that sends a text, whatever the files are
 abbrev pub fixed_text_command : List ℕ → Command
 fixed_text_command text = record {
   inputs = [];

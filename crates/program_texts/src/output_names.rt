@@ -12,7 +12,7 @@ pub enum Outputs<'a> {
     None,
     /// This one.
     One(&'a str),
-    /// Those of the pieces of a split, 99: this prefix, two digits from 01 on, and `.mp3`.
+    /// The names of the pieces of a split, 99: this prefix, two digits from 01 on, and `.mp3`.
     Pieces(&'a str),
 }
 

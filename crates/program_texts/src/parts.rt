@@ -88,7 +88,7 @@ pub(crate) fn named_line<'a>(
     ])
 }
 
-/// Sends the texts one after another, and stops at the first write that fails.
+/// Sends the texts in order, and stops at the first write that fails.
 pub(crate) fn send_text<T: Sink>(sink: &mut T, pieces: &[&str]) -> Result<(), Failed>
     ensures whole { OnOk result (GotWhole (T.heard sink.old).sent (T.heard sink.new).sent
         (T.heard sink.old).faults (T.heard sink.new).faults
@@ -147,7 +147,7 @@ fn send_part<T: Sink>(sink: &mut T, part: &LinePart) -> Result<(), Failed>
     }
 }
 
-// Sends the parts one after another, and stops at the first write that fails.
+// Sends the parts in order, and stops at the first write that fails.
 fn send_parts<T: Sink>(sink: &mut T, parts: &[LinePart]) -> Result<(), Failed>
     ensures whole { OnOk result (GotWhole (T.heard sink.old).sent (T.heard sink.new).sent
         (T.heard sink.old).faults (T.heard sink.new).faults
@@ -163,7 +163,7 @@ fn send_parts<T: Sink>(sink: &mut T, parts: &[LinePart]) -> Result<(), Failed>
     Ok(())
 }
 
-/// Sends the parts of a line. It stops at the first write that fails, and doesn't answer that one did.
+/// Sends the parts of a line. It stops at the first write that fails, and doesn't return that one did.
 pub(crate) fn send_line<E: Sink>(err: &mut E, parts: &[LinePart])
     ensures { GotLine (E.heard err.old).sent (E.heard err.new).sent (E.heard err.old).faults
         (E.heard err.new).faults (text_of_line (map line_part_of parts.now)) }

@@ -16,7 +16,8 @@ use fade_plan::EnvelopeFault;
 use outside::{Failed, Sink};
 use sync_survey::SurveyFault;
 
-/// The status of a fault of an input: 3 where it isn't there, can't be read or became shorter, else 1.
+/// The status of a fault of an input: 3 where it isn't there, can't be read or became shorter,
+/// otherwise 1.
 fn input_status(fault: &SurveyFault) -> u8
     ensures { result ≡ status_of (EditFault.Input 0 fault.now) }
 {
@@ -27,8 +28,8 @@ fn input_status(fault: &SurveyFault) -> u8
     }
 }
 
-/// The status of a fault: 3 for a fault of the outside (Input with Absent, Read or Shrunk, Write, and Sent), 4 for want of
-/// memory (Memory), and 1 for every other, which refuses an input or what was asked of it.
+/// The status of a fault: 3 for a fault of the outside (Input with Absent, Read or Shrunk, Write, and Sent), 4 if memory
+/// ran out (Memory), and 1 for every other, by which an input or what was asked of it is refused.
 pub fn status(fault: &EditFault) -> u8
     ensures { result ≡ status_of fault.now }
 {
@@ -104,7 +105,7 @@ fn say<T: Sink>(out: &mut T, pieces: &[&str]) -> Result<(), EditFault>
     }
 }
 
-/// Sends what the program does, form by form, and the statuses, without taking memory.
+/// Sends what the program does, form by form, and the statuses, without allocating memory.
 ///
 /// # Errors
 /// `Sent` where a write failed; then a prefix of the text was sent.
@@ -118,7 +119,7 @@ pub fn say_help<T: Sink>(out: &mut T) -> Result<(), EditFault>
     say(out, &HELP)
 }
 
-/// Sends the program's name and version, without taking memory.
+/// Sends the program's name and version, without allocating memory.
 ///
 /// # Errors
 /// `Sent` where a write failed; then a prefix of the text was sent.
@@ -149,7 +150,7 @@ fn check_word_line(name: &str, at: u64, said: u16, right: u16) -> LineParts<'_>
     ])
 }
 
-// The line of a main_data_begin that is more than the bytes of main data that are there.
+// The line of a main_data_begin that is greater than the number of bytes of main data before it.
 fn back_pointer_line(name: &str, at: u64, begin: u32, present: u64) -> LineParts<'_>
     ensures { map line_part_of result.items ≡ Name name.now
         ∷ input_parts (SurveyFault.BackPointer at begin present) }
@@ -166,7 +167,7 @@ fn back_pointer_line(name: &str, at: u64, begin: u32, present: u64) -> LineParts
     ])
 }
 
-// The line of main data that have more bits than there is room for.
+// The line of main data with more bits than there is room for.
 fn overrun_line(name: &str, at: u64, bits: u32, room: u32) -> LineParts<'_>
     ensures { map line_part_of result.items ≡ Name name.now
         ∷ input_parts (SurveyFault.Overrun at bits room) }
@@ -198,7 +199,8 @@ fn shrunk_line(name: &str, first: u64, second: u64) -> LineParts<'_>
     ])
 }
 
-// The parts of the line of a fault of the input with this name. Want of memory isn't a fault of an input and never comes here.
+// The parts of the line of a fault of the input with this name. Running out of memory isn't a fault of an input and never
+// comes here.
 fn input_parts<'a>(name: &'a str, fault: &SurveyFault) -> LineParts<'a>
     ensures { map line_part_of result.items ≡ Name name.now ∷ input_parts fault.now }
 {
@@ -259,7 +261,7 @@ fn undo_sum_line<'a>(sum: i32) -> LineParts<'a>
     ])
 }
 
-// The line of two positions between which there is no frame, or of which one is after the end.
+// The line of two positions without a frame between them, or with one of them after the end.
 fn range_line<'a>(from: u64, to: u64, frames: u64) -> LineParts<'a>
     ensures { map line_part_of result.items ≡ refusal_parts (Refusal.Range from to frames) [] }
 {
@@ -274,7 +276,7 @@ fn range_line<'a>(from: u64, to: u64, frames: u64) -> LineParts<'a>
     ])
 }
 
-// The same of two places between which there is no sample.
+// The line of two places without a sample between them, or with one of them after the last sample.
 fn span_line<'a>(from: u64, to: u64, samples: u64) -> LineParts<'a>
     ensures { map line_part_of result.items ≡ refusal_parts (Refusal.Span from to samples) [] }
 {
@@ -289,7 +291,8 @@ fn span_line<'a>(from: u64, to: u64, samples: u64) -> LineParts<'a>
     ])
 }
 
-// The parts of the line of a fault of the cue sheet with this name. Want of memory isn't a fault of a sheet and never comes here.
+// The parts of the line of a fault of the cue sheet with this name. Running out of memory isn't a fault of a sheet and never
+// comes here.
 fn sheet_parts<'a>(name: &'a str, fault: &CueFault) -> LineParts<'a>
     ensures { map line_part_of result.items ≡ Name name.now ∷ sheet_parts fault.now }
 {
@@ -303,7 +306,8 @@ fn sheet_parts<'a>(name: &'a str, fault: &CueFault) -> LineParts<'a>
     }
 }
 
-// Those of a fault of the sheet of a fade.
+// The parts of the line of a fault of the sheet of a fade with this name. Running out of memory
+// never comes here.
 fn curve_parts<'a>(name: &'a str, fault: &EnvelopeFault) -> LineParts<'a>
     ensures { map line_part_of result.items ≡ Name name.now ∷ curve_parts fault.now }
 {
@@ -366,15 +370,15 @@ fn fault_parts<'a>(fault: &EditFault, inputs: &[&'a str], outputs: Outputs<'a>) 
     }
 }
 
-/// Sends the line of a fault, by the names of the inputs and of the outputs, without taking memory.
-/// It stops at the first write that fails, and doesn't answer that one did.
+/// Sends the line of a fault, by the names of the inputs and of the outputs, without allocating
+/// memory. It stops at the first write that fails, and doesn't return that one did.
 ///
-/// NAME is that of the input or, for Write, of the output whose place the fault has; for SheetTooLarge and the faults of a
-/// sheet, Line, NotRising, NoTracks and NoPoints, it is that of input 1. O is an offset in bytes, N a number of bytes or frames, L
-/// a line's number from 1, I a frame's number from 0, G a granule's and C a channel's from 0, and F and T are frame numbers too.
-/// In UndoRange S is a number of steps, with `-` before it where it is negative; in Shrunk F and S are lengths in bytes; in NoRate
-/// B is a bit rate in kbit/s as it was asked for, in BackPointer a main_data_begin, and P the bytes of main data before it; in
-/// Overrun B and R are bits; V is a gain.
+/// NAME is the name of the input or, for Write, of the output at the place in the fault; for SheetTooLarge and the faults of a
+/// sheet, Line, NotRising, NoTracks and NoPoints, it is the name of input 1. O is an offset in bytes, N a number of bytes or
+/// frames, L a line's number from 1, I a frame's number from 0, G a granule's and C a channel's from 0, and F and T are frame
+/// numbers too. In UndoRange S is a number of steps, with `-` before it where it is negative; in Shrunk F and S are lengths in
+/// bytes; in NoRate B is a bit rate in kbit/s as it was asked for, in BackPointer a main_data_begin, and P the bytes of main data
+/// before it; in Overrun B and R are bits; V is a gain.
 ///
 /// | fault | line |
 /// |---|---|
@@ -423,8 +427,8 @@ pub fn send_fault<E: Sink>(err: &mut E, fault: &EditFault, inputs: &[&str], outp
     send_line(err, fault_parts(fault, inputs, *outputs).as_slice());
 }
 
-/// Sends the line `bad word K`, K the place of the word counted from 1, without taking memory.
-/// It stops at the first write that fails, and doesn't answer that one did.
+/// Sends the line `bad word K`, K the place of the word counted from 1, without allocating memory.
+/// It stops at the first write that fails, and doesn't return that one did.
 pub fn send_bad_word<E: Sink>(err: &mut E, word: u32)
     ensures { GotLine (E.heard err.old).sent (E.heard err.new).sent (E.heard err.old).faults
         (E.heard err.new).faults (bad_word_line word) }

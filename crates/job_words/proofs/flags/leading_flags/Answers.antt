@@ -1,4 +1,4 @@
--- A flag more.
+-- One more flag.
 use Rattle.std.proofs.Common.{ap, append_assoc, arith, Bor, drop, length, List, map, refl, Some}
 use Rattle.std.proofs.Common.{string_bytes, subst, suc, sym, ℕ, [], ◌++◌, ◌+◌, ◌-◌, ◌∙◌, ◌∷◌, ◌≡◌}
 use Rattle.std.{proofs.lemmas.List.length-map, specs.List.drop-map}

@@ -1,4 +1,4 @@
--- The flags that are given so far, and those that can be from there on.
+-- The flags that are given so far, and those that may follow.
 use Rattle.std.proofs.Common.{drop, length, map, string_bytes, ◌++◌, ◌-◌, ◌≡◌, ◌≤◌}
 use Rattle.job_words.specs.Flags.{leading_flags, leading_flags_up_to}
 use Rattle.job_words.proofs.flags.leading_flags.Given as goal

@@ -1,4 +1,4 @@
--- The command's word, and those of the flags so far.
+-- The command's word, and the words of the flags so far.
 use Rattle.std.proofs.Common.{length, map, take, ◌*◌, ◌+◌, ◌≡◌, ◌≤◌}
 use Rattle.job_words.specs.{Code.word_kind, Forms.front_kinds}
 use Rattle.job_words.proofs.forms.front_kinds.Given as goal

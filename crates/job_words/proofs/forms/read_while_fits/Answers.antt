@@ -1,4 +1,4 @@
--- A value more, a word that doesn't fit, and the end.
+-- One more value, a word that doesn't fit, and the end.
 use Rattle.std.proofs.Common.{ap, append-nil, append_assoc, arith, drop, length, map, None, Option}
 use Rattle.std.proofs.Common.{Some, string_bytes, sym, [], ◌++◌, ◌+◌, ◌∙◌, ◌∷◌, ◌≡◌}
 use Rattle.std.{proofs.lemmas.List.map-append, specs.Option.option_map}
@@ -7,7 +7,7 @@ use Rattle.job_words.specs.{Code.{value_said, word_kind}, Kinds.{said_first, val
 use Rattle.job_words.specs.declared.kinds.Value.{Value}
 use Rattle.job_words.proofs.forms.read_while_fits.Goals as goal
 
--- what is read once the word at the place is, and what is left
+-- what is read once the word at this place is read, and what is left
 next : (c : After-read) (o : Option Value) → c.read.result ≡ o
     → map value_said c.loop-values.values.items ++ said_first (option_map value_said o)
     (values_of (drop (c.len-place.result + 1) (map word_kind c.args.kinds.now))

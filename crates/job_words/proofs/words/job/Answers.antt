@@ -1,4 +1,4 @@
--- The forms of the code are those of the definition.
+-- The forms of the code are the forms of the definition.
 use Rattle.std.proofs.Common.{map, string_bytes, subst, sym, ◌≡◌}
 use Rattle.job_words.proofs.PlaceLemmas.{code_is, IsAnswer, job_is}
 use Rattle.job_words.{proofs.ReadingLemmas.forms_are_readable, specs.Code.request_result}

@@ -1,5 +1,5 @@
--- A form that the words have ends the loop; else it
--- goes on, and the place of the bad word stays known.
+-- A form that the words have ends the loop; otherwise it continues, and the place of the bad word
+-- stays known.
 use Rattle.std.proofs.Common.{ap, arith, Err, get_or, List, map, max, string_bytes, subst, sym}
 use Rattle.std.proofs.{Common.{take, ◌∙◌, ◌≡◌}, lemmas.Grind.common_steps}
 use Rattle.std.proofs.lemmas.List.{get_or-map, length-map, take_all}
@@ -16,7 +16,7 @@ read-requires c =
     c.loop-form-test.true)
     (c.requires c.loop-form.form-index help_form (rw length-map c.loop-form-test.true))
 
--- the answer of the form
+-- what the form returns
 here : (c : After-read) → request_result c.read.result
     ≡ table_reading
     (shapes_of (get_or (map form_given c.args.forms.now) c.loop-form.form-index help_form))

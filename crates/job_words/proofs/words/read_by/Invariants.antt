@@ -1,4 +1,4 @@
--- No form so far is that of the words, and the place of the bad word by those.
+-- The words have no form so far, and this is the place of the bad word by those forms.
 use Rattle.std.{proofs.Common.{Err, map, string_bytes, take, ◌≡◌, ◌≤◌}, specs.List.All}
 use Rattle.job_words.specs.{Code.form_given, Forms.{IsReadable, shapes}, Words.table_reading}
 use Rattle.job_words.proofs.words.read_by.Given as goal

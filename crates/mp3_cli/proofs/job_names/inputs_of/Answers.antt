@@ -1,5 +1,5 @@
--- In each mode of packing the input alone is read, of a split by a sheet the input and
--- the sheet, to a frame or to a sample, and of a join all inputs, with seams or without.
+-- A packing reads its input alone, in each mode, a split by a sheet reads its input and the sheet,
+-- to a frame or to a sample, and a join reads all its inputs, with seams or without.
 use Rattle.std.proofs.Common.{ap, Bool, Bor, false, List, map, refl, string_bytes, sym, true, ℕ, []}
 use Rattle.std.proofs.Common.{◌∙◌, ◌∷◌, ◌≡◌}
 use Rattle.job_words.specs.{Code.job_request, Request.{Join, SplitBy}, declared.jobs.Job.Job}

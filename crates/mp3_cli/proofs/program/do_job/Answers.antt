@@ -1,4 +1,4 @@
--- Texts that are said, and commands without a text.
+-- Commands that send a text, and commands without one.
 use Rattle.std.proofs.Common.{Bool, false, List, rules, Some, true, ℕ, [], ◌≢◌}
 use Rattle.drill.{proofs.PackedLemmas.drill_text-some, specs.Drilled.drill_text}
 use Rattle.job_words.specs.Request.{SplitBy}
@@ -19,7 +19,7 @@ some_version : Some version_text ≢ Some []
 unfolding version_text
 some_version e = absurd cc
 
--- to a frame or to a sample, a split by a sheet says nothing
+-- a split by a sheet sends nothing, to a frame or to a sample
 sheet_silent : (exact : Bool) (input prefix sheet : List ℕ)
     → IsSilent (command_of (SplitBy exact input prefix sheet))
 sheet_silent false input prefix sheet = split_silent (sheet_cutting sheet) prefix input

@@ -1,4 +1,4 @@
--- The line names the files of the job, and the status is that of the fault.
+-- The line names the files of the job, and the status is the status of the fault.
 use Rattle.std.proofs.Common.{ap, Bor, List, map, sym, ℕ, ◌∙◌}
 use Rattle.commands.specs.SentText.{answer_fault}
 use Rattle.mp3_cli.proofs.RunLemmas.{done_where_zero}
