@@ -1,24 +1,24 @@
 //! Whole commands in a text, and one runner for all of them. A text costs a check less than a table of values.
 //!
-//! A blank line is between two rows. The prefix of a line tells what it says:
+//! A blank line separates two rows. The prefix of a line says what it is:
 //!
 //! ```text
 //! # what is tried
 //! < a FIRST SECOND        a file that is there before: its name, and words of `test_files::texts`
-//! to o p                  names that a command may write; where they aren't said, `o` alone
-//! room 416                the room of each of them; where it isn't said, 200,000 bytes
+//! to o p                  names that a command may write; without this line, `o` alone
+//! room 416                the room for each of them in bytes; without this line, 200,000
 //! fail Read 2             a call that is to fail: its kind, `Send` for a write to standard output, and its number, counted from 1
-//! $ gain -g 1 a o         a command; all but the last have to be done
-//! ! 1 a: no frame at 0    the status of the last one, and its line on standard error; where it isn't said, 0 and none
-//! | 1 frames              a line of its text on standard output, or three dots for any lines; where none is said, none
+//! $ gain -g 1 a o         a command; all but the last have to succeed
+//! ! 1 a: no frame at 0    the status of the last command, and its line on standard error; without this line, 0 and none
+//! | 1 frames              a line of its text on standard output, or three dots for any lines; without this line, no text
 //! > o FIRST_LOUDER        a file that is there after it
-//! ~ o FIRST               a file that must have become another than this
-//! - x                     a further name that must be absent
-//! each Read 2 a: ..       calls that fail too, each in a further run, as `turns` says
-//! tell 15                 how many writes to standard error fail too, each in a further run, the last of which makes none of this number
+//! ~ o FIRST               a file that must have changed from these bytes
+//! - x                     another name that must be absent
+//! each Read 2 a: ..       calls that fail too, each in another run, as `turns` says
+//! tell 15                 how many writes to standard error fail too, each in another run; the last of them is never made
 //! ```
 //!
-//! A file that was there and isn't named by `>` has to stay, and a name of the outputs that no line of a file names has to be
+//! A file that was there and isn't named by `>` has to stay, and a name of an output that no line of a file names has to be
 //! absent. A line `NAME = words` defines bytes for the lines after it, up to the end of the text.
 
 use crate::tells::run_tells;
@@ -39,13 +39,14 @@ static FRONTS: [&str; 13] = [
     "# ", "< ", "to ", "room ", "fail ", "$", "! ", "| ", "> ", "~ ", "- ", "each ", "tell ",
 ];
 
-/// The first row that ended otherwise than it says, and how.
+/// The first row that didn't end as it says, and how it ended.
 #[derive(Debug, PartialEq, Eq, Drop)]
 pub struct Unlike {
     /// The first row of its text.
     pub text: &'static str,
     pub row: &'static str,
-    /// Of calls that fail in turn their line and the number of the one that failed; else nothing and 0.
+    /// For a row whose calls fail one by one: the line of these calls and the number of the one that
+    /// failed; otherwise empty and 0.
     pub calls: &'static str,
     pub number: usize,
     pub found: Found,
@@ -116,7 +117,7 @@ fn run_once<P: Program>(alloc: Global, names: &[Named], row: &'static str) -> Re
     run_over::<P>(alloc, &mut folder, names, row)
 }
 
-/// Runs a row, and then with each call failing that it says.
+/// Runs a row, and then again with each call failing that the row names.
 fn run_row<P: Program>(alloc: Global, names: &[Named], row: &'static str) -> Result<(), Stop> {
     if said(row, "$").is_none() {
         return expect_definitions(row);
@@ -136,7 +137,8 @@ fn is_known(line: &str) -> bool {
     line.is_empty()
 }
 
-/// Reads a line that defines bytes. A line that says nothing is a fault, so that none is passed over.
+/// Reads a line that defines bytes. A line that defines nothing is a fault, so that no line is passed
+/// over.
 fn read_line(alloc: Global, names: &mut Vec<Named>, line: &'static str) -> Result<(), Stop> {
     if is_known(line) {
         return Ok(());
@@ -204,7 +206,7 @@ fn run_rows<P: Program>(
     Ok(())
 }
 
-/// What a text defines holds up to its end.
+/// Runs the rows of a text. What the text defines holds up to its end.
 fn run_text<P: Program>(
     alloc: Global,
     names: &mut Vec<Named>,
@@ -232,11 +234,12 @@ fn run_texts<P: Program>(
     Ok(())
 }
 
-/// Runs the rows of the texts, each over a folder of its own, up to the first that ends otherwise than it says. That is `None`
-/// where all end so. What `FILES` and `shared` define holds in all texts.
+/// Runs the rows of the texts, each over its own folder, up to the first that doesn't end as it says. Returns `None` where all
+/// end so. What `FILES` and `shared` define holds in all texts.
 ///
 /// # Errors
-/// Where there is no memory: for the folders and what is compared, or a command told it and left its files.
+/// Where memory ran out: for the folders and what is compared, or for a command that reported it and left
+/// its files.
 pub fn first_unlike<P: Program>(
     alloc: Global,
     shared: &[&'static str],

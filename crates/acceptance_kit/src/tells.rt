@@ -1,7 +1,7 @@
-//! Rows of which the writes to standard error fail: the first, the second and so on, each in a run of its own.
+//! Rows whose writes to standard error fail: the first, the second and so on, each in its own run.
 //!
-//! The status stays, and a prefix of the line was sent: nothing where the first write fails, and all of it where none of the number
-//! is made.
+//! The status stays the same, and a prefix of the line is sent: nothing where the first write fails, and all of it where no write
+//! of the number is made.
 
 use command_runs::before::prepare;
 use command_runs::differences::{Found, wants_memory};
@@ -13,7 +13,7 @@ use outside::MemFolder;
 use std::alloc::Global;
 use test_files::texts::{Named, number_of};
 
-/// Whether this was sent of a line where the write of this number fails, of so many that are tried.
+/// Whether this is what was sent of a line, where write `number` of the `tried` writes fails.
 fn is_sent(sent: &[u8], line: &'static str, number: usize, tried: usize) -> bool {
     if number <= 1 {
         return sent.is_empty();
@@ -66,7 +66,8 @@ fn run_once<P: Program>(
     run_over::<P>(alloc, &mut folder, names, row, number, tried)
 }
 
-/// Runs the command of the row with each write to standard error failing in turn, where the row says so.
+/// Runs the command of the row with each write to standard error failing in order, where the row says
+/// so.
 pub(crate) fn run_tells<P: Program>(
     alloc: Global,
     names: &[Named],

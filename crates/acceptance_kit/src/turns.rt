@@ -1,13 +1,13 @@
-//! Rows of which one call fails: the first of its kind, the second and so on, each in a run of its own, until none does.
+//! Rows in which one call fails: the first of its kind, the second and so on, each in its own run, until none does.
 //!
 //! A line `each Read 3 after 65536 a: read fault, s: read fault` says which kind of calls it is, `Send` for writes to standard output;
-//! how many are made at least; where it is said, how many bytes at least were written when the last one is made (`after`), or from one
-//! to the next (`by`); and the line of the run where the first fails, where the second does, and so on, the last of them where a later
-//! one does.
+//! how many calls are made at least; optionally, how many bytes at least were written when the last one is made (`after`), or from one
+//! to the next (`by`); and the line of the run where the first call fails, where the second does, and so on, the last of them where a
+//! later one does.
 //!
 //! A run where a call fails ends with status 3 and this line, the files as they were, and the outputs, in the order in which the row
-//! names them, whole up to one, of which there is a prefix, with nothing after it. One where no call fails ends with status 0 and all
-//! outputs whole. The text counts as the last output.
+//! names them, whole up to one, of which a prefix is there, with nothing after it. A run where no call fails ends with status 0 and
+//! all outputs whole. The text counts as the last output.
 
 use command_runs::before::{call_of, fail_call, prepare};
 use command_runs::differences::{Found, wants_memory};
@@ -24,10 +24,10 @@ use test_files::texts::{Named, number_of};
 /// More calls of one kind than any of these commands makes.
 const MOST: usize = 60;
 
-/// Calls of one kind, and what a run tells where one fails.
+/// Calls of one kind, and the lines of the runs where one fails.
 #[derive(Clone, Copy)]
 struct Calls {
-    /// A call of the folder; where it is none, a write to standard output.
+    /// A call of the folder; `None` for a write to standard output.
     call: Option<Call>,
     least: usize,
     after: usize,
@@ -35,7 +35,7 @@ struct Calls {
     lines: &'static str,
 }
 
-/// A call that fails, the line that is told, and the text of a run where none does.
+/// A call that fails, the line of its run, and the text of a run where none does.
 #[derive(Clone, Copy)]
 struct Failing<'a> {
     call: Option<Call>,
@@ -44,7 +44,7 @@ struct Failing<'a> {
     text: &'a [u8],
 }
 
-/// How many bytes this word says, and what is after it.
+/// The number of bytes after this word, and the rest of the line.
 fn parted_bytes(word: &'static str, rest: &'static str) -> Result<(usize, &'static str), Stop> {
     match rest.strip_prefix(word) {
         Some(rest) => {
@@ -82,7 +82,7 @@ fn line_of(lines: &'static str, number: usize) -> &'static str {
     told.unwrap_or("")
 }
 
-/// How many bytes were written when the call failed, where one did.
+/// How many bytes were written when the call failed, or `None` where none failed.
 fn written_at_fault(
     alloc: Global,
     ended: &Ended,
@@ -124,7 +124,8 @@ fn expect_created(folder: &MemFolder, row: &'static str, failing: &Failing) -> R
     Ok(())
 }
 
-/// Looks at what the command left and how it ended: how many bytes were written when the call failed, where one did.
+/// Compares what the command left and how it ended. Returns how many bytes were written when the call failed, or
+/// `None` where none failed.
 fn compare_failed(
     alloc: Global,
     folder: &MemFolder,
@@ -157,7 +158,8 @@ fn run_over<P: Program>(
     compare_failed(alloc, folder, names, row, failing, &ended)
 }
 
-/// How many bytes were written when the call failed, where there is one of its number.
+/// How many bytes were written when the call failed, or `None` where there is no call of its
+/// number.
 fn run_once<P: Program>(
     alloc: Global,
     names: &[Named],
@@ -168,7 +170,8 @@ fn run_once<P: Program>(
     run_over::<P>(alloc, &mut folder, names, row, failing)
 }
 
-/// There is no call of this number; `written` bytes were written when the last one failed.
+/// Expects that enough calls were made: there is no call of this number, and `written` bytes were
+/// written when the last one failed.
 fn expect_enough(calls: &Calls, number: usize, written: usize) -> Result<(), Stop> {
     if number <= calls.least || written < calls.after {
         return Err(Stop::Found(Found::number("no more calls, or no more bytes", written)));
@@ -176,7 +179,8 @@ fn expect_enough(calls: &Calls, number: usize, written: usize) -> Result<(), Sto
     Ok(())
 }
 
-/// The call of this number failed when `written` bytes were written.
+/// Expects that enough bytes were written: the call of this number failed when `written` bytes
+/// were.
 fn expect_far(calls: &Calls, number: usize, written: usize) -> Result<usize, Stop> {
     if written < number.saturating_sub(1).saturating_mul(calls.by) {
         return Err(Stop::Found(Found::number("no more calls, or no more bytes", written)));
@@ -184,7 +188,7 @@ fn expect_far(calls: &Calls, number: usize, written: usize) -> Result<usize, Sto
     Ok(written)
 }
 
-/// Lets the calls of one kind fail, one in each run.
+/// Makes the calls of one kind fail, one in each run.
 fn run_calls<P: Program>(
     alloc: Global,
     names: &[Named],
@@ -211,7 +215,7 @@ fn run_calls<P: Program>(
     Err(Stop::Found(Found::of("too many calls", "")))
 }
 
-/// The row has one command, and says nothing that isn't looked at where a call fails.
+/// Expects that the row has one command, and no line that isn't looked at where a call fails.
 fn expect_calls_alone(row: &'static str) -> Result<(), Stop> {
     for front in ["fail ", "! ", "~ ", "- "] {
         if said(row, front).is_some() {
@@ -224,7 +228,8 @@ fn expect_calls_alone(row: &'static str) -> Result<(), Stop> {
     Ok(())
 }
 
-/// Runs the command of the row with each call of its kinds failing in turn. `text` is sent where none fails.
+/// Runs the command of the row with each call of its kinds failing in order. `text` is sent where none
+/// fails.
 pub(crate) fn run_turns<P: Program>(
     alloc: Global,
     names: &[Named],

@@ -41,7 +41,8 @@ fn reserve_outputs(folder: &mut MemFolder, row: &'static str) -> Result<(), Stop
     Ok(())
 }
 
-/// Puts the files of the row into the folder, and makes room for the outputs. `Memory`; `Found` with a word that stands for nothing.
+/// Puts the files of the row into the folder, and makes room for the outputs. `Memory` if memory runs out; `Found` with a word that
+/// stands for no bytes.
 pub fn prepare(
     alloc: Global,
     folder: &mut MemFolder,
@@ -52,7 +53,8 @@ pub fn prepare(
     reserve_outputs(folder, row)
 }
 
-/// The call of the folder that is of this kind, or none for a write to standard output. `Found` where there is no such kind.
+/// The call of the folder that is of this kind, or `None` for a write to standard output. `Found` where there is no such
+/// kind.
 pub fn call_of(kind: &'static str) -> Result<Option<Call>, Stop> {
     match kind {
         "Find" => Ok(Some(Call::Find)),
@@ -64,7 +66,8 @@ pub fn call_of(kind: &'static str) -> Result<Option<Call>, Stop> {
     }
 }
 
-/// Lets a call of the folder fail. A write to standard output is the answer: which of them is to fail.
+/// Makes a call of the folder fail. For a write to standard output it returns which of them is to
+/// fail.
 pub fn fail_call(
     folder: &mut MemFolder,
     call: Option<Call>,
@@ -79,7 +82,7 @@ pub fn fail_call(
     }
 }
 
-/// Lets the calls of the row fail. The answer is which write to standard output is to fail.
+/// Makes the calls of the row fail. Returns which write to standard output is to fail.
 pub fn fail_calls(folder: &mut MemFolder, row: &'static str) -> Result<Option<u64>, Stop> {
     let mut sending = None;
     for line in row.lines() {

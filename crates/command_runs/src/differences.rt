@@ -1,17 +1,18 @@
-//! What a command left and told, beside what it should have.
+//! What a command left and sent, compared with what it should have.
 
 use crate::running::{Ended, Program, run_with_room};
 use outside::Folder;
 use std::alloc::{AllocError, Global};
 
-/// What was found in place of what has to be. One struct for all kinds costs the check less than an enum of them.
+/// What was found instead of what was expected. One struct for all kinds costs the check less than an enum of
+/// them.
 #[derive(Debug, PartialEq, Eq, Drop)]
 pub struct Found {
     pub what: &'static str,
     /// The file, the word or the row that it is about, where there is one.
     pub name: &'static str,
-    /// A status, or numbers of bytes: those that were written, or of a file those that are there, those that are looked for, and those up
-    /// to the first that differs.
+    /// A status, or numbers of bytes: the number written, or for a file the number that it has, the number expected, and the number
+    /// before the first that differs.
     pub numbers: [usize; 3],
     /// What was sent.
     pub sent: Option<String>,
@@ -68,7 +69,7 @@ pub fn bytes_differ(name: &'static str, found: &[u8], wanted: &[u8]) -> Option<F
     Some(Found::new("other bytes", name, numbers, None))
 }
 
-/// Whether this text was sent, in which three dots stand for any bytes.
+/// Whether this text was sent, where three dots in it stand for any bytes.
 fn is_text(sent: &[u8], text: &str) -> bool {
     match text.split_once("...") {
         Some((front, end)) => {
@@ -93,12 +94,12 @@ pub fn difference_of_sent(
     Ok(Some(Found::sent("this text", found)))
 }
 
-/// Whether the command told want of memory.
+/// Whether the command ended because memory ran out.
 pub fn wants_memory(ended: &Ended) -> bool {
     ended.status == 4 && ended.err.sent() == b"out of memory\n".as_slice()
 }
 
-/// How a command ended otherwise than with this status and line, and without text.
+/// The first difference between how a command ended and this status and line, without text.
 fn difference_of_end(
     alloc: Global,
     ended: &Ended,
@@ -118,10 +119,10 @@ fn difference_of_end(
     difference_of_sent(alloc, ended.out.sent(), "")
 }
 
-/// How the words end otherwise than with this status and line, and without text.
+/// Runs the words, and returns the first difference from this status and line, without text.
 ///
 /// # Errors
-/// Where there is no memory, or the command told so.
+/// Where memory ran out, here or in the command.
 pub fn other_end<P: Program, D: Folder>(
     alloc: Global,
     folder: &mut D,

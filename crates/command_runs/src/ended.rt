@@ -17,7 +17,7 @@ pub fn is_line(sent: &[u8], line: &str) -> bool {
     }
 }
 
-/// What was sent in place of a line.
+/// What was sent instead of a line.
 pub fn other_line(alloc: Global, sent: &[u8]) -> Stop {
     match String::from_utf8_lossy(alloc, sent) {
         Ok(found) => Stop::Found(Found::sent("this line", found)),
@@ -25,7 +25,7 @@ pub fn other_line(alloc: Global, sent: &[u8]) -> Stop {
     }
 }
 
-/// How the last command ended otherwise than with the row's status and line.
+/// Compares the status and the line of the last command with what the row says.
 fn compare_status(alloc: Global, row: &'static str, ended: &Ended) -> Result<(), Stop> {
     let (status, line) = parted(said(row, "! ").unwrap_or("0"));
     if !is_line(ended.err.sent(), line) {
@@ -54,7 +54,8 @@ fn compare_text(alloc: Global, row: &'static str, ended: &Ended) -> Result<(), S
     none_of(difference_of_sent(alloc, ended.out.sent(), &text)?)
 }
 
-/// Want of memory is told before an output is created: where there is one command, it leaves the files of the row.
+/// Running out of memory is reported before an output is created: where there is one command, it leaves the files
+/// of the row.
 fn compare_want(
     alloc: Global,
     folder: &MemFolder,
@@ -68,7 +69,7 @@ fn compare_want(
 }
 
 /// Compares how the last command ended, what it wrote, and the folder that it left with what the row says. `Found` with the first
-/// difference; `Memory` where the command told that it had none.
+/// difference; `Memory` where the command reported that it ran out of memory.
 pub fn compare_ended(
     alloc: Global,
     folder: &MemFolder,

@@ -64,7 +64,7 @@ pub fn compare_kept(
     Ok(())
 }
 
-/// Looks for a file that is still the one of a row.
+/// Looks for a file that should have changed but still has the bytes of the row.
 fn compare_others(
     alloc: Global,
     folder: &MemFolder,
@@ -97,7 +97,7 @@ fn compare_absent(folder: &MemFolder, row: &'static str) -> Result<(), Stop> {
     Ok(())
 }
 
-/// Looks for an output that is there, and that no line of a file names.
+/// Looks for an output that is there although no line of a file names it.
 pub fn compare_outputs(folder: &MemFolder, row: &'static str, front: &str) -> Result<(), Stop> {
     for name in outputs_of(row).split_ascii_whitespace() {
         let is_named = names_file(row, "< ", name) || names_file(row, front, name);
@@ -108,7 +108,8 @@ pub fn compare_outputs(folder: &MemFolder, row: &'static str, front: &str) -> Re
     Ok(())
 }
 
-/// Compares the folder with that before the command. The prefix is one that no line has, so that every file has to stay.
+/// Compares the folder with the folder before the command. The prefix is one that no line has, so that every file has to
+/// stay.
 pub fn compare_before(
     alloc: Global,
     folder: &MemFolder,

@@ -1,5 +1,5 @@
-//! What the tests of whole commands stand on: commands in words over a folder and sinks in memory, what the rows of such commands say (as
-//! `acceptance_kit::scripts` describes them), and how commands end otherwise than they should.
+//! What the tests of whole commands build on: commands in words over a folder and sinks in memory, what the rows of such commands say (as
+//! `acceptance_kit::scripts` describes them), and how commands differ from what they should do.
 #![tactic(auto)]
 
 pub mod before;

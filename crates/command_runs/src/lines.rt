@@ -38,7 +38,7 @@ pub fn names_file(row: &'static str, front: &str, name: &str) -> bool {
     false
 }
 
-/// The names that a command may write, which blanks part.
+/// The names that a command may write, separated by blanks.
 pub fn outputs_of(row: &'static str) -> &'static str {
     said(row, "to ").unwrap_or("o")
 }

@@ -1,4 +1,4 @@
-//! How far a command came that a failing call ended.
+//! How far a command got before a failing call ended it.
 
 use crate::lines::parted;
 use crate::stop::Stop;
@@ -6,8 +6,8 @@ use outside::MemFolder;
 use std::alloc::Global;
 use test_files::texts::{Named, bytes_of_words};
 
-/// How far the outputs were written, with the number of bytes in all: each is whole, or they are whole up to one, of which there is a
-/// prefix, with nothing after it, or neither.
+/// How far the outputs were written, with the number of bytes in all: each is whole; or they are whole up to one, of which a prefix
+/// is there, with nothing after it; or neither.
 #[derive(Clone, Copy)]
 pub enum Progress {
     Whole(usize),
@@ -15,7 +15,7 @@ pub enum Progress {
     Neither,
 }
 
-/// The progress with one output more.
+/// The progress with one more output.
 fn progressed(progress: Progress, found: &[u8], wanted: &[u8]) -> Progress {
     match progress {
         Progress::Whole(count) if found == wanted => {
@@ -56,7 +56,7 @@ fn progress_of_files(
     Ok(progress)
 }
 
-/// How far the outputs of the row were written, the text the last of them.
+/// How far the outputs of the row were written, with the text as the last of them.
 pub fn progress_of(
     alloc: Global,
     folder: &MemFolder,

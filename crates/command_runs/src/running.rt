@@ -9,9 +9,9 @@ const TEXT_ROOM: u64 = 100;
 /// More than any listing of these tests takes.
 const LISTING_ROOM: u64 = 16_000_000;
 
-/// A program whose commands are run. What it promises isn't known here, so that the check doesn't read all that it is made of.
+/// A program whose commands are run. What it promises isn't known here, so that the check doesn't read all its crates.
 pub trait Program {
-    /// Does what the words ask for, and gives the status.
+    /// Does what the words ask for, and returns the status.
     fn run<D: Folder>(
         alloc: Global,
         words: &[String],
@@ -29,12 +29,12 @@ pub struct Ended {
     pub err: MemSink,
 }
 
-/// Puts a file into the folder. It says nothing of the folder, so that a call leaves no facts, which cost the check.
+/// Puts a file into the folder. It has no clauses, so that a call leaves no facts, which cost the check.
 pub fn put(folder: &mut MemFolder, name: &str, bytes: &[u8]) -> Result<(), AllocError> {
     folder.put(name, bytes)
 }
 
-/// Makes room for a file, and says as little.
+/// Makes room for a file, without clauses too.
 pub fn reserve(folder: &mut MemFolder, name: &str, room: u64) -> Result<(), AllocError> {
     folder.reserve(name, room)
 }
@@ -47,22 +47,22 @@ fn make_room(sink: &mut MemSink, room: u64, failing: Option<u64>) -> Result<(), 
     }
 }
 
-/// A sink with so much room. The write of this number is to fail.
+/// A sink with `room` bytes of room. The write of this number is to fail.
 fn sink_of(alloc: Global, room: u64, failing: Option<u64>) -> Result<MemSink, AllocError> {
     let mut sink = MemSink::new(alloc);
     make_room(&mut sink, room, failing)?;
     Ok(sink)
 }
 
-/// The words of a text, which blanks part.
+/// The words of a text, separated by blanks.
 fn words_of(alloc: Global, text: &str) -> Result<Vec<String>, AllocError> {
     text.split_ascii_whitespace()
         .map(|word| String::from_str(alloc, word))
         .try_collect(alloc)
 }
 
-/// Runs the words with these sinks as standard output and standard error. It is apart from where they are made, since what is
-/// owned costs the check at each `?` that may let it go.
+/// Runs the words with these sinks as standard output and standard error. It is a function of its own, since owned values
+/// cost the check at each `?` that may drop them.
 fn ended_of<P: Program, D: Folder>(
     alloc: Global,
     words: &[String],
@@ -74,7 +74,7 @@ fn ended_of<P: Program, D: Folder>(
     Ended { status, out, err }
 }
 
-/// Runs the words, which blanks part, with these sinks.
+/// Runs the words, separated by blanks, with these sinks.
 fn run_to<P: Program, D: Folder>(
     alloc: Global,
     folder: &mut D,
@@ -86,8 +86,8 @@ fn run_to<P: Program, D: Folder>(
     Ok(ended_of::<P, D>(alloc, &words, folder, out, err))
 }
 
-/// Runs the words, which blanks part, with sinks that have room enough. The writes of these numbers to standard output and to standard
-/// error are to fail.
+/// Runs the words, separated by blanks, with sinks that have enough room. The writes of these numbers to standard output and to
+/// standard error are to fail.
 pub fn run_failing<P: Program, D: Folder>(
     alloc: Global,
     folder: &mut D,
@@ -100,7 +100,7 @@ pub fn run_failing<P: Program, D: Folder>(
     run_to::<P, D>(alloc, folder, words, out, err)
 }
 
-/// Runs the words, which blanks part, with sinks that have room enough.
+/// Runs the words, separated by blanks, with sinks that have enough room.
 pub fn run_with_room<P: Program, D: Folder>(
     alloc: Global,
     folder: &mut D,

@@ -9,7 +9,7 @@ use test_files::texts::TextFault;
 pub enum Stop {
     Memory,
     Found(Found),
-    /// The same where a call fails: its line, and its number.
+    /// What was found in a run where a call fails: the line of the call, and its number.
     Turn(&'static str, usize, Found),
 }
 
@@ -28,7 +28,7 @@ impl From<TextFault> for Stop {
     }
 }
 
-/// The row goes on where nothing was found.
+/// Continues with the row where nothing was found.
 pub fn none_of(found: Option<Found>) -> Result<(), Stop> {
     match found {
         Some(found) => Err(Stop::Found(found)),

@@ -10,7 +10,8 @@ fn begins_with_text(bytes: &[u8]) -> bool {
     bytes.starts_with(b"Xing") || bytes.starts_with(b"Info")
 }
 
-/// Whether the frame has a text after its side information, or where that would end without check word.
+/// Whether the frame has the text of a head after its side information, or where that would end without
+/// a check word.
 fn is_head(file: &[u8], frame: &Frame) -> bool {
     let bytes = bytes_from(file, frame.at);
     let early = bytes_from(bytes, side_size(&frame.class).saturating_add(4));
@@ -18,7 +19,7 @@ fn is_head(file: &[u8], frame: &Frame) -> bool {
     begins_with_text(early) || begins_with_text(late)
 }
 
-/// The lengths in bits of the main data of each granule and channel, summed.
+/// The lengths in bits of the main data of each granule and channel, added up.
 fn payload_bits(frame: &Frame, bytes: &[u8]) -> u32 {
     let (first, size, granules) = match (frame.class.is_mpeg_1, frame.class.channels) {
         (true, 2) => (20, 59, 2),
@@ -42,7 +43,8 @@ fn main_data_begin(frame: &Frame, bytes: &[u8]) -> u32 {
     number(bytes, frame.side_at.saturating_mul(8), width)
 }
 
-/// The remainder by x^16 + x^15 + x^2 + 1, bit by bit, from this word on (ISO/IEC 11172-3, 2.4.3.1).
+/// The remainder by x^16 + x^15 + x^2 + 1, bit by bit, starting from this word (ISO/IEC 11172-3,
+/// 2.4.3.1).
 fn remainder_behind(word: u16, bytes: &[u8], from: usize, to: usize) -> u16 {
     let mut word = word;
     for at in from..to {
@@ -63,14 +65,15 @@ fn word_said(bytes: &[u8]) -> u16 {
     }
 }
 
-/// The right one is over the second half of the header and the side information, from all ones on.
+/// The right check word, over the second half of the header and the side information, starting from
+/// all ones.
 fn word_right(frame: &Frame, bytes: &[u8]) -> u16 {
     let header = remainder_behind(0xffff, bytes, 16, 32);
     let side_at = frame.side_at.saturating_mul(8);
     remainder_behind(header, bytes, side_at, frame.area_at.saturating_mul(8))
 }
 
-/// The areas of these frames, one after the other.
+/// The areas of these frames, joined.
 fn main_data(alloc: Global, file: &[u8], frames: &[Frame]) -> Result<Vec<u8>, AllocError> {
     let mut joined = Vec::new(alloc);
     for frame in frames {
@@ -91,7 +94,7 @@ struct Numbered<'a> {
     bits: u32,
     /// The main data of the file before the frame's own area, in bytes.
     before: u64,
-    /// The same with its own area.
+    /// The main data up to the end of the frame's own area, in bytes.
     up_to: u64,
 }
 
@@ -123,13 +126,13 @@ impl<'a> Numbered<'a> {
         i128::from(self.before) - i128::from(self.begin)
     }
 
-    /// The place where they end.
+    /// The place where its main data end.
     fn end(&self) -> i128 {
         self.start()
             .saturating_add(i128::from(self.bits.div_ceil(8)))
     }
 
-    /// The bits from main_data_begin bytes before its own area to the end of that.
+    /// The bits from main_data_begin bytes before its own area to the end of that area.
     fn room(&self) -> u32 {
         let own = self.up_to.saturating_sub(self.before);
         let bytes = u64::from(self.begin).saturating_add(own);
@@ -137,7 +140,8 @@ impl<'a> Numbered<'a> {
     }
 }
 
-/// Whether the frame is lost: its main data begin before those of the whole file, and each frame before it is silent or lost.
+/// Whether the frame is lost: its main data begin before the main data of the whole file, and each frame before it is silent
+/// or lost.
 fn is_lost(
     alloc: Global,
     file: &[u8],
@@ -156,7 +160,7 @@ fn is_lost(
     Ok(true)
 }
 
-/// The place where the main data of the last frame before this one end that has any and isn't lost.
+/// The place where the main data end of the last frame before this one that has any and isn't lost.
 fn end_before(
     alloc: Global,
     file: &[u8],
@@ -261,7 +265,7 @@ fn rank(fault: &SurveyFault) -> (u64, u32) {
     }
 }
 
-/// The fault of the least rank.
+/// The fault with the least rank.
 fn least(faults: &[SurveyFault]) -> Option<SurveyFault> {
     let mut least = *faults.first()?;
     for fault in faults {
@@ -272,7 +276,7 @@ fn least(faults: &[SurveyFault]) -> Option<SurveyFault> {
     Some(least)
 }
 
-/// The fault of the least offset, and at one offset the first in the order of `SurveyFault`.
+/// The fault at the least offset, and at one offset the first in the order of `SurveyFault`.
 pub fn first_fault(
     alloc: Global,
     file: &[u8],

@@ -1,6 +1,6 @@
 //! A slow and plain reading of a file, from the rules and tables of the standard (ISO/IEC 11172-3 and 13818-3,
 //! 2.4), the layouts of the blocks, and the rules of where a stream begins: each frame's fields bit by bit,
-//! its main data in the areas of all frames joined, and the least of all faults. It shares no code with the
+//! its main data in the joined areas of all frames, and the least of all faults. It shares no code with the
 //! survey.
 #![tactic(auto)]
 

@@ -18,7 +18,7 @@ fn id3v2_length(bytes: &[u8]) -> Option<usize> {
 }
 
 /// The length of an APEv2 block by its header: text, version and size, then a count, flags which say that the tag has a header
-/// and that this is it, and eight bytes more.
+/// and that this is it, and eight more bytes.
 fn ape_length(bytes: &[u8]) -> Option<usize> {
     if bytes.len() < 32 || !bytes.starts_with(b"APETAGEX\xd0\x07\0\0") {
         return None;
@@ -57,7 +57,7 @@ fn is_whole(file: &[u8], at: usize, length: usize) -> bool {
     at.saturating_add(length) <= file.len()
 }
 
-/// The offset after all whole blocks and zero bytes with which the file begins.
+/// The offset after all whole blocks and zero bytes that the file begins with.
 fn front_end(file: &[u8]) -> usize {
     let mut at = 0;
     for _ in file {
@@ -107,7 +107,8 @@ pub(crate) fn start(file: &[u8]) -> Result<usize, SurveyFault> {
     }
 }
 
-/// What is found from the first frame on: all whole frames, and the fault where that ends too early.
+/// What is found from the first frame on: all whole frames, and the fault where the stream ends too
+/// early.
 #[derive(Drop)]
 pub(crate) struct Stream {
     pub(crate) frames: Vec<Frame>,
@@ -115,7 +116,7 @@ pub(crate) struct Stream {
 }
 
 impl Stream {
-    /// Takes in what is at the offset, and gives the offset after it.
+    /// Takes in what is at the offset, and returns the offset after it.
     fn take_in(&mut self, file: &[u8], at: usize) -> Result<Option<usize>, AllocError> {
         let offset = at as u64;
         let length = match found_at(file, at) {

@@ -30,22 +30,24 @@ pub const ID3V1_BLOCK: Stretch = Stretch::Filled(b"TAG", 0x20, 125);
 /// The header and the side information of an Info frame of MPEG-1, 44,100 Hz, 64 kbit/s, stereo: 36 of its 208 bytes.
 pub const INFO_FRONT: Stretch = Stretch::Filled(&[0xff, 0xfb, 0x50, 0x00], 0, 32);
 
-/// The same of a frame of 128 kbit/s, of 417 bytes, with 300 bytes of main data from its own area on.
+/// The header and the side information of a frame of 128 kbit/s and 417 bytes, with 300 bytes of main
+/// data from its own area on.
 pub const OF_300: Stretch = Stretch::Filled(
     &[0xff, 0xfb, 0x90, 0x00, 0x00, 0x00, 0x09, 0x60],
     0,
     28,
 );
 
-/// The same with 400 bytes of main data, which begin 81 bytes before its area.
+/// The header and the side information of such a frame with 400 bytes of main data, which begin 81
+/// bytes before its area.
 pub const OF_400: Stretch = Stretch::Filled(
     &[0xff, 0xfb, 0x90, 0x00, 0x28, 0x80, 0x0c, 0x80],
     0,
     28,
 );
 
-/// Two such frames, with areas of 381 bytes: the first 81 bytes of the second's main data are in the first's area, after its
-/// own.
+/// Two such frames, with areas of 381 bytes: the first 81 bytes of the second frame's main data are in the first frame's
+/// area, after its own main data.
 pub const TWO: &[Stretch] = &[
     OF_300,
     Stretch::Fill(0x11, 300),
@@ -83,8 +85,8 @@ fn push_filled(file: &mut Vec<u8>, front: &[u8], byte: u8, count: usize) -> Resu
     push_fill(file, byte, count)
 }
 
-/// A frame of 417 bytes. main_data_begin is the first 9 bits of the side information, and how many bits the first channel's
-/// main data have is in the 21st to the 32nd (ISO/IEC 11172-3, 2.4.1.7).
+/// Appends a frame of 417 bytes. main_data_begin is the first 9 bits of the side information, and the number of bits of the
+/// first channel's main data is in its bits 21 to 32 (ISO/IEC 11172-3, 2.4.1.7).
 fn push_frame(file: &mut Vec<u8>, begin: u16, bits: u16) -> Result<(), AllocError> {
     let side_front = u32::from(begin) << 23 | u32::from(bits);
     file.extend_from_slice(&[0xff, 0xfb, 0x90, 0x00])?;

@@ -19,7 +19,7 @@ pub struct Frame {
 /// MPEG-1, 44,100 Hz, 128 kbit/s, stereo, without check word and padding.
 const PLAIN: [u8; 4] = [0xff, 0xfb, 0x90, 0x00];
 
-/// The same with a check word.
+/// MPEG-1, 44,100 Hz, 128 kbit/s, stereo, with a check word and without padding.
 const PROTECTED: [u8; 4] = [0xff, 0xfa, 0x90, 0x00];
 
 const AREA: [u8; 4] = [0x11, 0x22, 0x33, 0x44];
@@ -60,8 +60,8 @@ pub const HEAD: Frame = Frame { area: b"Info", ..Z };
 pub const PROTECTED_HEAD: Frame =
     frame! { header: PROTECTED, word: Some(0x0000), area: b"Info", ..G };
 
-/// The same with the text where a frame without a check word has it. Its first two bytes are the last two
-/// of the side information.
+/// G with a wrong check word, and with the text where a frame without a check word has it. Its first two
+/// bytes are the last two of the side information.
 pub const EARLY_HEAD: Frame = Frame {
     header: PROTECTED,
     word: Some(0x0000),
@@ -76,7 +76,7 @@ pub const PROTECTED_Z: Frame = frame! { header: PROTECTED, word: Some(0xc05c), .
 /// G with a check word.
 pub const PROTECTED_G: Frame = frame! { header: PROTECTED, word: Some(0x11a2), ..G };
 
-/// The same with the gains 95, 96, 250, 85.
+/// G with a check word and the gains 95, 96, 250, 85.
 pub const PROTECTED_G_LOWER: Frame = frame! { header: PROTECTED, word: Some(0x9476), ..G_LOWER };
 
 /// The frames end to end.

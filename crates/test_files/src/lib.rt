@@ -1,4 +1,4 @@
-//! Small files for the tests of other crates, as frames and stretches of bytes; and real files that are read and written badly.
+//! Small files for the tests of other crates, as frames and stretches of bytes; and real files whose reads and writes go wrong.
 #![tactic(auto)]
 
 pub mod files;

@@ -10,10 +10,10 @@ use std::io::{ErrorKind, Read, Seek, SeekFrom, Write};
 use std::rt::Files;
 
 /// What the calls of a file do: the first is interrupted, the second moves two bytes, the third fails,
-/// and all others are as they should be.
+/// and all others succeed.
 #[derive(Drop)]
 pub struct Moves {
-    /// How many there were.
+    /// How many calls there were.
     pub calls: u64,
 }
 
@@ -46,7 +46,7 @@ pub struct Notes {
     pub failing_flush: u64,
 }
 
-/// Real files, of which each that is opened has its own `Moves` for reading and for writing.
+/// Real files. Each file that is opened has its own `Moves` for reading and for writing.
 #[derive(Drop)]
 pub struct Shaky<'a, R: Files> {
     pub files: &'a R,
@@ -54,7 +54,7 @@ pub struct Shaky<'a, R: Files> {
     pub opens: Cell<u64>,
 }
 
-/// A file that was opened so.
+/// A file that was opened through `Shaky`.
 #[derive(Drop)]
 pub struct ShakyFile<F> {
     file: F,

@@ -19,7 +19,7 @@ macro_rules! table {
     };
 }
 
-/// Stretches, of which those of one frame are on a line.
+/// Stretches, where those of one frame are on one line.
 #[macro_export]
 macro_rules! end_to_end {
     ($($stretch:expr),+) => {

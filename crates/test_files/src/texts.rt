@@ -3,7 +3,7 @@
 //! Words are separated by blanks. Each stands for bytes:
 //!
 //! - a name that was defined before;
-//! - bytes in hexadecimal, as `fffb9000`;
+//! - bytes in hexadecimal, such as `fffb9000`;
 //! - `'Info'`, a text, in which `_` is a blank;
 //! - `word*300`, one of the first two this many times;
 //! - `NAME@8=d1`, with another byte at this place, counted from 0;
@@ -11,11 +11,11 @@
 
 use std::alloc::{AllocError, AllocFailed, Global};
 
-/// Why a text has no bytes.
+/// Why a text stands for no bytes.
 #[derive(Clone, Copy, Debug, PartialEq, Eq)]
 pub enum TextFault {
     Memory,
-    /// This word stands for nothing.
+    /// This word stands for no bytes.
     Word(&'static str),
 }
 
@@ -31,7 +31,7 @@ impl<T: Drop> From<AllocFailed<T>> for TextFault {
     }
 }
 
-/// Bytes that have a name.
+/// Bytes with a name.
 #[derive(Drop)]
 pub struct Named {
     pub name: &'static str,
@@ -159,7 +159,7 @@ fn push_word(
     push_known(bytes, names, word)
 }
 
-/// The bytes of these words, one after the other.
+/// The bytes of these words, joined.
 pub fn bytes_of_words(
     alloc: Global,
     names: &[Named],
@@ -172,7 +172,7 @@ pub fn bytes_of_words(
     Ok(bytes)
 }
 
-/// Gives a name to the bytes of some words, as `NAME = fffb9000 ~417` says.
+/// Gives a name to the bytes of some words, such as `NAME = fffb9000 ~417`.
 pub fn define(alloc: Global, names: &mut Vec<Named>, line: &'static str) -> Result<(), TextFault> {
     let Some((name, words)) = line.split_once(" = ") else {
         return Err(TextFault::Word(line));
