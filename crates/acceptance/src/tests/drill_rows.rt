@@ -1,5 +1,5 @@
-//! The command that makes a stream from a seed: it doesn't call the folder that it is given, and
-//! writes one line.
+//! The command that makes a stream from a seed: it makes no call of the folder that it is given,
+//! and writes one line.
 
 pub static ROWS: &str = "
 # drill

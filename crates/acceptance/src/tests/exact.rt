@@ -1,5 +1,5 @@
 //! Exact pieces: the frames for some samples, with the delay and the padding by which players play
-//! just these.
+//! exactly these samples.
 
 pub static ROWS: &str = "
 # exact

@@ -1,4 +1,4 @@
-//! What is in a file, line by line. The lines are worked out by hand from the frames' bytes.
+//! What is in a file, line by line. The lines were worked out by hand from the frames' bytes.
 
 pub static ROWS: &str = "
 # list

@@ -1,4 +1,5 @@
-//! Files of more frames than any other of the tests has: each command finds memory for all of them.
+//! Files with more frames than any other file of the tests: each command finds memory for all of
+//! them.
 
 pub static ROWS: &str = "
 # many_frames

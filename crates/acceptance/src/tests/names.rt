@@ -2,30 +2,31 @@
 //! `test_files::named`, worked out by hand from the standard's tables. How their numbers, and those
 //! of the texts, come about:
 //!
-//! - **Lengths.** A frame has 144 bytes for each kbit/s a kHz in MPEG-1, 72 in MPEG-2 and MPEG-2.5,
-//!   rounded down, and one more where it is padded: 144 * 128 / 44.1 gives 417, and 32 kbit/s 104.
+//! - **Lengths.** A frame has 144 bytes for each kbit/s per kHz in MPEG-1, 72 in MPEG-2 and
+//!   MPEG-2.5, rounded down, and one more where it is padded: 144 * 128 / 44.1 gives 417, and
+//!   32 kbit/s 104.
 //! - **Areas.** An area is what the header (4 bytes), a check word (2) and the side information
 //!   leave of a frame. The side information has 32 bytes in MPEG-1 and 17 in MPEG-2 and MPEG-2.5;
-//!   with one channel 17 and 9. So of 417 bytes 381 are left, 379 with a check word, and 396 with
-//!   one channel; of 104 bytes 68.
+//!   with one channel 17 and 9. Thus 381 of 417 bytes are left, 379 with a check word, and 396 with
+//!   one channel; 68 of 104 bytes are.
 //! - **Side information.** main_data_begin has 9 bits in MPEG-1 and 8 otherwise. part2_3_length has
-//!   12 bits and counts bits: four times 600 are 300 bytes. Then come 9 bits of big_values, here 0
-//!   mostly, and 8 of global_gain: 100 is 64 (hex).
+//!   12 bits and counts bits: four times 600 are 300 bytes. Then come 9 bits of big_values, here
+//!   mostly 0, and 8 of global_gain: 100 is 64 (hex).
 //! - **Reservoir.** 300 bytes in an area of 381 leave 81, so the next frame's main data can begin
 //!   81 bytes before its own area. main_data_begin is 81 then: 001010001, with 7 more bits 2880.
-//! - **Info frames.** Behind the side information are a text (4 bytes), flags (4), the number of the
-//!   frames after this one (4), the bytes of it and these (4), a table (100), a quality (4) and an
-//!   extension (36), 156 bytes in all. The frame is the shortest with room for them. Stereo at
-//!   44,100 Hz needs 4 + 32 + 156, which are 192; 56 kbit/s have 182 bytes, and 183 padded, so it
-//!   has 208, of 64 kbit/s. The text is `Info` where all frames after it have one bit rate, else
-//!   `Xing`.
+//! - **Info frames.** After the side information come a text (4 bytes), flags (4), the number of the
+//!   frames after this one (4), the length of it and these in bytes (4), a table (100), a quality (4)
+//!   and an extension (36), 156 bytes in all. The frame is the shortest with room for them. Stereo at
+//!   44,100 Hz needs 4 + 32 + 156, which is 192; a frame of 56 kbit/s has 182 bytes, and 183 padded,
+//!   so the Info frame has 208, at 64 kbit/s. The text is `Info` where all frames after it have one
+//!   bit rate, otherwise `Xing`.
 //! - **Tables.** Entry i is about the frame with the number i * frames / 100, rounded down: 256
 //!   times the offset of that frame, counted from the Info frame, by all bytes, rounded down. Two
 //!   frames of 417 bytes are 1,042 bytes in all, so 256 * 208 / 1,042 gives 51, 33 (hex), for the
 //!   first 50 entries, and 256 * 625 / 1,042 gives 153, 99 (hex), for the others.
-//! - **Tags.** An APEv2 tag has a header and a footer of 32 bytes. The size that both say counts the
+//! - **Tags.** An APEv2 tag has a header and a footer of 32 bytes. The size in both counts the
 //!   items and the footer. An item has the value's length (4 bytes), flags (4), the key, a zero byte
-//!   and the value: the undo item has 8 + 12 + 1 + 11, which are 32. A tag with it alone has the
+//!   and the value: the undo item has 8 + 12 + 1 + 11, which is 32. A tag with it alone has the
 //!   size 64, 40 (hex), and 96 bytes.
 
 /// Bytes that the rows name.

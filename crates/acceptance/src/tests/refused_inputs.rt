@@ -1,5 +1,5 @@
-//! What is at fault in the bytes of an input, as each command finds it when it surveys its file,
-//! with its line, before an output is created; tried of `gain`.
+//! Faults in the bytes of an input, as each command finds them when it surveys its file, with their
+//! lines, before an output is created; tested with `gain`.
 
 pub static ROWS: &str = "
 # refused_inputs

@@ -1,4 +1,4 @@
-//! Damaged files, what is written of them, and what is said.
+//! Damaged files, what is written of them, and what is reported as missing.
 
 pub static ROWS: &str = "
 # salvage

@@ -20,7 +20,7 @@ enum Trouble {
     Short(u64, usize),
     /// They have no more than this length once the output was created.
     Shorter(usize),
-    /// Once it was created reads fail from this offset on.
+    /// Once the output was created, reads from this offset on fail.
     Unread(u64),
     /// Writes fail after this many bytes.
     Unwritten(usize),
@@ -32,11 +32,11 @@ const TRACK: &[u8] = b"TRACK 01 AUDIO\nINDEX 01 00:00:00\n";
 /// A sheet of a fade.
 const FADE: &[u8] = b"0 -5";
 
-/// More bytes than any output here has, so that no write wants memory.
+/// More bytes than any output here has, so that no write runs out of memory.
 const MOST_WRITTEN: usize = 100_000;
 
 /// A folder with the sheets `cue` and `fade`, whose other files are all found with one length and have these bytes. At most 1,000
-/// bytes are read at once, and 700 written. It tells nothing of them.
+/// bytes are read at once, and 700 written. Its contents aren't known.
 #[derive(Drop)]
 struct Changing {
     found: u64,
@@ -66,7 +66,7 @@ impl Changing {
         }
     }
 
-    /// How many of so many bytes there are to read.
+    /// How many of `length` bytes there are to read.
     fn there(&self, length: usize) -> usize {
         match self.trouble {
             Trouble::Short(reads, shorter) if reads < self.reads => length.min(shorter),
@@ -90,7 +90,7 @@ impl Changing {
     }
 }
 
-/// Copies at most 1,000 bytes from an offset on, of as many as there are.
+/// Copies at most 1,000 bytes from an offset on, of the `there` bytes that can be read.
 fn copy_some(content: &[u8], at: u64, there: usize, into: &mut [u8]) -> usize
     ensures count { result ≤ length into.old }
     ensures rest { drop result into.new ≡ drop result into.old }
@@ -102,7 +102,7 @@ fn copy_some(content: &[u8], at: u64, there: usize, into: &mut [u8]) -> usize
     count
 }
 
-/// The bytes of a file that is whole.
+/// The bytes of a whole file.
 fn whole<'a>(name: &str, bytes: &'a [u8]) -> &'a [u8] {
     match name {
         "cue" => TRACK,
@@ -184,7 +184,8 @@ fn bytes_named(alloc: Global, words: &'static str) -> Result<Vec<u8>, TextFault>
     bytes_of_words(alloc, &names, words)
 }
 
-/// The bytes of these words. Where one stands for nothing there are none, so that the test fails.
+/// The bytes of these words. Where a word stands for no bytes, there are none, so that the test
+/// fails.
 fn bytes_of(alloc: Global, words: &'static str) -> Result<Vec<u8>, AllocError> {
     match bytes_named(alloc, words) {
         Ok(bytes) => Ok(bytes),
@@ -216,7 +217,7 @@ fn expect_first_alone<R: Abort>(rt: &R, folder: &Changing, case: &Case) {
     );
 }
 
-/// Asserts how the words end, how often the end was met, and how many outputs were created.
+/// Asserts how the command ends, how often the end was met, and how many outputs were created.
 fn expect_over<R: Abort + AllocGlobal>(
     rt: &R,
     folder: &mut Changing,
@@ -263,7 +264,7 @@ fn expect_cases<R: Abort + AllocGlobal>(
     Ok(())
 }
 
-// Of the last file nothing is read.
+// Nothing is read of the last file.
 static FOUND: [Case; 3] = table! {
     Case { words, found, trouble, status, line, ends, created }
     ("gain -s s -g 1 a o", 834, Trouble::Short(0, 417), 3, "a: shrunk from 834 to 417\n", 1, 0)
@@ -326,8 +327,8 @@ static READ: [Case; 22] = table! {
     ("salvage a o", 513, Trouble::Short(1, 100), 3, "a: shrunk from 513 to 100\n", 1, 1)
 };
 
-// 864 bytes, of which 417 from byte 30 on are the head. It is read after the survey; in the second pass its area, from byte 66 on, is the
-// first that is missing.
+// 864 bytes: the head is the 417 bytes from byte 30 on. It is read after the survey; in the second pass its area, from byte 66 on, is the
+// first part that is missing.
 static HEADED: [Case; 4] = table! {
     Case { words, found, trouble, status, line, ends, created }
     ("info a", 864, Trouble::Short(1, 35), 3, "a: shrunk from 864 to 35\n", 1, 0)
@@ -336,7 +337,7 @@ static HEADED: [Case; 4] = table! {
     ("pack a o", 864, Trouble::Short(2, 35), 3, "a: shrunk from 864 to 66\n", 1, 1)
 };
 
-// 200 frames, 83,400 bytes, of which 65,536 are read at first. Of the two pieces of a split the second isn't created before the first is
+// 200 frames, 83,400 bytes, the first 65,536 of which are read at once. The second piece of a split isn't created before the first is
 // whole.
 static PIECES: [Case; 2] = table! {
     Case { words, found, trouble, status, line, ends, created }
@@ -352,7 +353,7 @@ fn each_command_over_files_that_become_shorter(rt: HostRuntime) -> Result<(), Fa
     Ok(())
 }
 
-/// A file that is found so many bytes longer than it is, and how a command over it ends: its status and line.
+/// A file that is found `extra` bytes longer than it is, and how a command over it ends: its status and line.
 struct Longer {
     name: &'static str,
     file: &'static str,
@@ -368,7 +369,7 @@ static LONGER: [Longer; 2] = table! {
     ("z", "fffb9000 ~417", 1_073_741_824, "list z", 1, "z: too long, 1073742241 bytes\n")
 };
 
-/// How the words end otherwise than the case says.
+/// How the command doesn't end as the case says.
 fn other_end_of(alloc: Global, case: &Longer) -> Result<Option<Found>, AllocError> {
     let bytes = bytes_of(alloc, case.file)?;
     let mut inner = MemFolder::new(alloc);
@@ -401,7 +402,7 @@ static SLOW: [Slow; 4] = table! {
     (Trouble::Unwritten(70_000), 3, "loud: write fault\n", 70_437)
 };
 
-/// Asserts how the words end, and that as many bytes were written as the case says, which are the first of these.
+/// Asserts how the command ends, and that the case's number of bytes were written, which are the first of `loud`.
 fn expect_slow<R: Abort + AllocGlobal>(
     rt: &R,
     folder: &mut Changing,

@@ -1,4 +1,4 @@
-//! Files that are split at positions, and by a cue sheet; each piece is what `cut` writes of the
+//! Files that are split at positions, and by a cue sheet; each piece is what `cut` writes for the
 //! same frames, and was worked out by hand.
 
 pub static ROWS: &str = "

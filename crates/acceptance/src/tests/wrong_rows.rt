@@ -1,17 +1,18 @@
-//! Rows of which one line says what isn't so. The runner has to find it, or no other test of this crate shows anything.
+//! Rows with one line that is wrong. The runner has to find it, or no other test of this crate shows anything.
 
 use crate::tests::Mp3edit;
 use acceptance_kit::scripts::first_unlike;
 use std::alloc::{AllocError, AllocGlobal, Global};
 use std::test::Fail;
 
-/// A row, and what is found in place of what it says.
+/// A row, and what is found instead of what it says.
 struct Wrong {
     row: &'static str,
     what: &'static str,
 }
 
-/// G with its gains moved by -5 is G_LOWER, and 41 is a file without a frame; each row says one thing more or otherwise.
+/// G with its gains moved by -5 is G_LOWER, and 41 is a file without a frame; each row has one thing too many, or one
+/// that is wrong.
 static WRONG: [Wrong; 10] = [
     Wrong {
         row: "< a G\n$ gain -s s -g -5 a o\n! 1\n> o G_LOWER",
@@ -63,7 +64,7 @@ fn is_found(alloc: Global, wrong: &Wrong) -> Result<bool, AllocError> {
     })
 }
 
-/// The first row of which something else is found, or nothing.
+/// The first row whose wrong line isn't what is found, or `None`.
 fn first_missed(alloc: Global) -> Result<Option<&'static str>, AllocError> {
     for wrong in &WRONG {
         if !is_found(alloc, wrong)? {

@@ -1,4 +1,4 @@
-//! Whether the functions that plan may be called.
+//! Whether the planning functions may be called.
 ghost use Rattle.std.specs.Prelude.{ℕ, ◌+◌, ◌≡◌, ◌<◌, ◌≤◌, AllPairs, All, IsTrue, length, slice_index, map};
 ghost use Rattle.slot_plan.specs.Layouts.{HasLayout};
 ghost use Rattle.slot_plan.specs.Parts.{own_frame, needs_in_parts, AreNeedsOfOneClass, ArePartsFeasible};
@@ -43,7 +43,7 @@ pub fn are_of_one_class(needs: &[Need]) -> bool
     true
 }
 
-/// Whether the frames can be laid in their own slots after so many free bytes.
+/// Whether the frames can be laid in their own slots after `before` free bytes.
 pub fn fit(window: u32, before: u32, part: &[Need]) -> bool
     requires window { window ≤ 511 }
     requires before { before ≤ window }
@@ -60,8 +60,8 @@ pub fn fit(window: u32, before: u32, part: &[Need]) -> bool
     true
 }
 
-/// Whether the frames are of one class and fit behind so many bytes, which are at most the window. Then they may be
-/// asked what they want and leave, and in which slot they join others that left no more.
+/// Whether the frames are of one class and fit after `free` bytes, which are at most the window. Then what they
+/// need and leave may be computed, and the slot in which they join frames that left no more than `free`.
 pub fn fit_behind(needs: &[Need], free: u32) -> bool
     requires some { 0 < length needs.now }
     ensures free { IsTrue result → FitBehindFree free needs.now }
@@ -79,7 +79,7 @@ pub fn fit_behind(needs: &[Need], free: u32) -> bool
     fit(window, free, needs)
 }
 
-/// Whether the frames of each part can.
+/// Whether the frames of each part can be laid in their own slots after a whole window.
 pub fn all_fit(window: u32, needs: &[Need], parts: &[u32]) -> bool
     requires window { window ≤ 511 }
     requires ascending { AllPairs (λ m n. m < n) parts.now }

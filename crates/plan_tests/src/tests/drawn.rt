@@ -10,7 +10,7 @@ static HEADERS: [[u8; 4]; 3] = [
     [0xff, 0xf3, 0xe6, 0xc0],
 ];
 
-/// The next of a sequence of numbers without a pattern.
+/// The next number of a sequence without a pattern.
 pub fn next(state: &mut u32) -> u32 {
     *state = state.wrapping_mul(1_664_525).wrapping_add(1_013_904_223);
     *state / 65_536

@@ -7,7 +7,7 @@ use std::process::Abort;
 use std::test::Fail;
 use test_files::table;
 
-/// What comes of a sheet on a stream of 1,000 frames of MPEG-1 at 44,100 Hz.
+/// What a sheet gives on a stream of 1,000 frames of MPEG-1 at 44,100 Hz.
 enum Answer {
     /// The steps of frames: the frame, and its steps.
     Steps(&'static [(u32, i16)]),
@@ -65,7 +65,7 @@ fn has_steps(curve: &Curve, wanted: &[(u32, i16)]) -> bool {
     })
 }
 
-/// Whether this comes of the sheet that was read.
+/// Whether the sheet that was read gives this.
 fn is_placed(envelope: Envelope, answer: &Answer) -> bool {
     let class = Class {
         version: Version::One,

@@ -4,14 +4,14 @@ use arrayvec::ArrayVec;
 use frame_header::Slot;
 use slot_plan::{Need, Placed};
 
-/// The slots that lead-ins may have, and frames too, or each its own.
+/// The slots that lead-ins may have, and also frames, unless each frame keeps its own.
 #[derive(Clone, Copy)]
 pub struct Menu<'a> {
     pub slots: &'a [Slot],
     pub is_kept: bool,
 }
 
-/// A list of slots in which the main data can be laid, with its first `lead_ins` those of lead-ins, and the sum of its areas in
+/// A list of slots in which the main data can be laid, the first `lead_ins` of them for lead-ins, and the sum of its areas in
 /// bytes.
 #[derive(Drop)]
 pub struct Found {
@@ -31,7 +31,8 @@ fn count_of(menu: Menu<'_>, frames: usize, lead_ins: usize) -> u64 {
     count
 }
 
-/// The slot that is chosen next in the list of this number, where so many lists have the same up to it.
+/// The slot that is chosen next in the list of this number, where `behind` lists have the same slots up
+/// to it.
 fn slot_in(menu: Menu<'_>, number: u64, behind: u64) -> Option<Slot> {
     let place = number
         .checked_div(behind)?
@@ -39,13 +40,13 @@ fn slot_in(menu: Menu<'_>, number: u64, behind: u64) -> Option<Slot> {
     menu.slots.get(place as usize).copied()
 }
 
-/// The number of the first list after those, `behind` of them, that have the same slots up to here.
+/// The number of the first list after the `behind` lists that have the same slots up to here.
 fn next_in(number: u64, behind: u64) -> u64 {
     let same = number.checked_div(behind).unwrap_or(number);
     same.saturating_add(1).saturating_mul(behind.max(1))
 }
 
-/// The list of this number, of which the last slot changes fastest, with main data laid as early as may be after `lead_ins`
+/// The list of this number, whose last slot changes fastest, with main data laid as early as possible after `lead_ins`
 /// lead-ins. Where some main data end after their frame, the number of the next list that has other slots up to that frame.
 fn laid(needs: &[Need], menu: Menu<'_>, lead_ins: usize, number: u64) -> Result<Found, u64> {
     let mut found = Found {
@@ -80,7 +81,7 @@ fn laid(needs: &[Need], menu: Menu<'_>, lead_ins: usize, number: u64) -> Result<
     Ok(found)
 }
 
-/// The first list after `lead_ins` lead-ins.
+/// The first list with `lead_ins` lead-ins.
 pub fn first_list(needs: &[Need], menu: Menu<'_>, lead_ins: usize) -> Option<Found> {
     let count = count_of(menu, needs.len(), lead_ins);
     let mut number = 0;
@@ -96,7 +97,7 @@ pub fn first_list(needs: &[Need], menu: Menu<'_>, lead_ins: usize) -> Option<Fou
     None
 }
 
-/// The first list without a lead-in, else after one.
+/// The first list without a lead-in, otherwise the first with one.
 pub fn first_of_all(needs: &[Need], menu: Menu<'_>) -> Option<Found> {
     if let Some(found) = first_list(needs, menu, 0) {
         return Some(found);
@@ -146,7 +147,7 @@ fn has_frames(placed: &[Placed], found: &Found) -> bool {
     true
 }
 
-/// Whether a list is found, and the plan has its frames and no more.
+/// Whether a list was found, and the plan has its frames and no others.
 pub fn is_found(placed: &[Placed], found: Option<Found>) -> bool {
     match found {
         Some(found) => placed.len() == found.slots.len() && has_frames(placed, &found),

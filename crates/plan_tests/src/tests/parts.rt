@@ -1,4 +1,4 @@
-//! Plans of parts, in which the frames keep their slots, may have any, or one that isn't smaller.
+//! Plans of parts whose frames keep their slots, may have any slot, or one that isn't smaller.
 mod classes;
 mod larger;
 mod led;

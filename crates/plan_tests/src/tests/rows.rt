@@ -23,7 +23,8 @@ fn row_of(class: Class, placed: &Placed) -> Row {
     }
 }
 
-/// The first place where a plan has another frame than these; how many frames the plan has where these are more or fewer.
+/// The first place where the plan has another frame than these; the number of frames of the plan where it has more or
+/// fewer.
 fn other_row(class: Class, placed: &[Placed], rows: &[Row]) -> Option<usize> {
     if placed.len() != rows.len() {
         return Some(placed.len());
@@ -34,7 +35,7 @@ fn other_row(class: Class, placed: &[Placed], rows: &[Row]) -> Option<usize> {
         .position(|(frame, row)| row_of(class, frame) != *row)
 }
 
-/// The plan of these needs has these frames.
+/// Expects that the plan of these needs has these frames.
 pub fn expect_rows<R: Abort>(rt: &R, needs: &[Need], placed: &[Placed], rows: &[Row], name: &str) {
     assert!(rt; !needs.is_empty());
     if let Some(place) = other_row(needs[0].header.class(), placed, rows) {

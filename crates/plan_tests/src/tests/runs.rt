@@ -1,4 +1,4 @@
-//! What becomes of an input behind another one, worked out by hand.
+//! What becomes of an input after another one, worked out by hand.
 ghost use Rattle.std.specs.Prelude.{◌≡◌, IsTrue, IfSome};
 ghost use Rattle.exact_span.specs.PlayedPositions.{AreCounted};
 ghost use Rattle.seam_plan.specs.Decisions.{IsJoinableInput};
@@ -14,14 +14,15 @@ use test_files::table;
 
 /// MPEG-1, 44,100 Hz, 32 kbit/s, stereo: 104 bytes, area 68.
 const LEAST_RATE: [u8; 4] = [0xff, 0xfb, 0x10, 0x00];
-/// The same at 160 kbit/s: 522 bytes, area 486.
+/// The same frame at 160 kbit/s: 522 bytes, area 486.
 const HIGHER_RATE: [u8; 4] = [0xff, 0xfb, 0xa0, 0x00];
-/// The same at 320 kbit/s: 1,044 bytes, area 1,008.
+/// The same frame at 320 kbit/s: 1,044 bytes, area 1,008.
 const LARGEST_RATE: [u8; 4] = [0xff, 0xfb, 0xe0, 0x00];
 
-/// Frames that leave nothing behind a whole window, which has 511 bytes: the third takes them and its own area.
+/// Frames that leave nothing after a whole window of 511 bytes: the third takes them and its own area.
 const FULL: [Asked; 3] = [Asked(STEREO, 0), Asked(STEREO, 0), Asked(STEREO, 892)];
-/// Two frames of those before it, which are shared, and two more. The third has 19 bytes more than its area.
+/// Two frames that are shared with the frames before, and two more. The third has 19 bytes more than its
+/// area.
 const SHARING: [Asked; 4] = [
     Asked(STEREO, 381),
     Asked(STEREO, 100),
@@ -35,17 +36,17 @@ const TOO_LARGE: [Asked; 4] = [
     Asked(LARGEST_RATE, 1500),
     Asked(LARGEST_RATE, 0),
 ];
-/// A lead-in, and a frame that wants 19 bytes before it.
+/// A lead-in, and a frame that needs 19 free bytes before it.
 const LED: [Asked; 2] = [Asked(LEAST_RATE, 0), Asked(STEREO, 400)];
-/// A frame like a lead-in, and one that wants nothing.
+/// A frame like a lead-in, and one that needs no free bytes.
 const UNLED: [Asked; 2] = [Asked(LEAST_RATE, 0), Asked(STEREO, 300)];
 
-/// 1,152 positions of three frames of 1,152 are after the last played one.
+/// 1,152 of the positions of three frames, each of 1,152, are after the last played one.
 const FIRST_PLAYED: Option<Played> = Some(Played {
     start: 1105,
     end: 2304,
 });
-/// With these, the first 2,304 positions are shared, two frames.
+/// With these, the first 2,304 positions are shared: two frames.
 const SHARED: Option<Played> = Some(Played {
     start: 1152,
     end: 4608,
@@ -56,8 +57,8 @@ const UNEVEN: Option<Played> = Some(Played {
     end: 4608,
 });
 
-/// Whether played positions are as heads count them: players reckon delays of 529 to 4,624 samples, and at most 3,566 after the
-/// last played position.
+/// Whether played positions are as heads count them: players use delays of 529 to 4,624 samples, and at most 3,566 positions
+/// are after the last played one.
 fn are_counted(class: Class, frames: u32, played: Option<Played>) -> bool
     ensures { IsTrue result → IfSome played (AreCounted class frames) }
 {
@@ -70,7 +71,8 @@ fn are_counted(class: Class, frames: u32, played: Option<Played>) -> bool
     played.rest(class, frames) <= 3566
 }
 
-/// Whether an input may be joined: its frames are of this class and fit behind no bytes, and its head counts as heads do.
+/// Whether an input may be joined: its frames are of this class and fit with no free bytes before them, and its head
+/// counts as heads do.
 fn can_be_joined(class: Class, input: &Input<'_>) -> bool
     ensures { IsTrue result → IsJoinableInput class input.now }
 {
@@ -105,8 +107,8 @@ fn decided(first: &Input<'_>, next: &Input<'_>, are_alike: bool) -> Option<Joint
     Some(run.join(1, next, alike))
 }
 
-/// An input behind the one whose frames are `FULL`, and what becomes of it: the seam, and the header of the first frame that is
-/// left in the slot in which it joins.
+/// An input after the one whose frames are `FULL`, and what becomes of it: the seam, and the header of its first frame that
+/// isn't left out, in the slot in which it joins.
 struct Case {
     name: &'static str,
     frames: &'static [Asked],
@@ -119,7 +121,7 @@ struct Case {
 
 static CASES: [Case; 7] = table! {
     Case { name, frames, blank, played, alike, seam, first }
-    // Behind nothing the 400 bytes of the third frame need an area as large.
+    // With no free bytes, the 400 bytes of the third frame need an area of that size.
     ("it follows", &SHARING, false, SHARED, true, Seam::Follows(2), HIGHER_RATE)
     ("its frames aren't alike", &SHARING, false, SHARED, false, Seam::Whole, STEREO)
     ("it shares no whole frames", &SHARING, false, UNEVEN, true, Seam::Whole, STEREO)
@@ -129,7 +131,7 @@ static CASES: [Case; 7] = table! {
     ("a lead-in that isn't wanted", &UNLED, true, None, true, Seam::Whole, LEAST_RATE)
 };
 
-/// Whether this becomes of the input.
+/// Whether this is what becomes of the input.
 fn is_so(first: &Input<'_>, next: &Input<'_>, case: &Case) -> bool {
     let Some(joint) = decided(first, next, case.alike) else {
         return false;
@@ -164,7 +166,7 @@ fn inputs_behind_a_full_run(rt: HostRuntime) -> Result<(), Fail> {
     Ok(())
 }
 
-/// Whether two frames are shared, of which the second, frame 1, is to be alike: it is compared with the last frame of the run,
+/// Whether two frames are shared, and the second, frame 1, has to be alike: it is compared with the last frame of the run,
 /// frame 2 of the first input. The run has no more than three frames.
 fn two_are_shared(first: &Input<'_>, next: &Input<'_>) -> bool {
     if first.needs.is_empty() {
@@ -203,7 +205,7 @@ fn frames_that_are_shared(rt: HostRuntime) -> Result<(), Fail> {
     Ok(())
 }
 
-/// How many frames leave a run of the frames of one input at its front.
+/// How many frames leave the front of a run of the frames of one input.
 fn left_at_front(needs: &[Need], blank: bool) -> u32 {
     let first = Input {
         needs,

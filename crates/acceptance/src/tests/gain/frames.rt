@@ -1,5 +1,5 @@
-//! What a change of gains makes of frames, byte for byte: of all gains, of gains that wrap, and of
-//! one channel alone. The side information is worked out by hand.
+//! What a change of gains makes of frames, byte for byte: all gains, gains that wrap, and one
+//! channel alone. The side information was worked out by hand.
 
 pub static ROWS: &str = "
 # gain/frames

@@ -1,5 +1,5 @@
-//! What `gain` refuses of its words and of a file with a tag, and in which order; not what it
-//! undoes.
+//! What `gain` refuses in its words and in a file with a tag, and in which order; not what `gain
+//! -u` refuses.
 
 pub static ROWS: &str = "
 # gain/refusals

@@ -1,4 +1,4 @@
-//! What an undo makes of gains, tags and what else is in a file.
+//! What an undo makes of gains, of tags and of what else is in a file.
 
 pub static ROWS: &str = "
 # undo/files

@@ -1,4 +1,4 @@
-//! What an undo refuses besides tags at fault, and in which order.
+//! What an undo refuses besides faulty tags, and in which order.
 
 pub static ROWS: &str = "
 # undo/refusals

@@ -1,4 +1,4 @@
-//! `best`, called once it is seen that it may be.
+//! `best`, called once it is checked that it may be.
 
 use crate::tests::checked::{are_of_one_class, fit};
 use best_plan::best;
@@ -6,7 +6,7 @@ use slot_plan::{Least, Need, Plan};
 use std::alloc::{AllocError, AllocGlobal};
 use std::process::Abort;
 
-/// The best plan; none where the frames have no layout in their own slots.
+/// The best plan; `None` where the frames have no layout in their own slots.
 pub fn best_of<R: Abort + AllocGlobal>(rt: &R, needs: &[Need]) -> Result<Option<Plan>, AllocError> {
     assert!(rt; !needs.is_empty());
     assert!(rt; needs.len() <= 200_000);

@@ -1,4 +1,5 @@
-//! Each best plan of a short part is that of the least sum by trying every list of slots.
+//! Each best plan of a short part is the list with the least sum, found by trying every list of
+//! slots.
 
 use super::planned::best_of;
 use crate::tests::asked::{Asked, needs_of};
@@ -23,7 +24,7 @@ fn searched(needs: &[Need]) -> Option<Found> {
     found
 }
 
-/// The plan is that which is found by trying every list, where there are both.
+/// The plan is the one found by trying every list, where both are there.
 fn expect_searched<R: Abort + AllocGlobal>(
     rt: &R,
     frames: &[Asked],

@@ -23,10 +23,10 @@ static CASES: [Case; 6] = table! {
     // 329 and 381 have the same sum as 381 and 329.
     ("of one sum the first in order", &[Asked(STEREO, 300), Asked(STEREO, 400)],
         &[Frame(112, 0), Frame(128, 29)])
-    // A byte is missing. 225 and 799 have the same sum as 329 and 695, and all others more.
+    // One byte is missing. 225 and 799 have the same sum as 329 and 695, and all others more.
     ("behind a lead-in", &[Asked(LARGE, 1010)], &[LeadIn(80, 0), Frame(256, 225)])
     ("one", &[Asked(STEREO, 400)], &[Frame(160, 0)])
-    // By `checks/laid.py`, which shares nothing with the crates and has a table of its own: the areas have 3,497 bytes, 6 more than
+    // From `checks/laid.py`, which shares nothing with the crates and has its own table: the areas have 3,497 bytes, 6 more than
     // the main data.
     ("ten",
         &[

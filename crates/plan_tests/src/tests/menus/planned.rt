@@ -1,4 +1,4 @@
-//! `rate_plan`, called once it is seen that it may be.
+//! `rate_plan`, called once it is checked that it may be.
 ghost use Rattle.std.specs.Prelude.{◌≡◌, ◌<◌, ◌≤◌, IsTrue, AllPairs, length};
 ghost use Rattle.slot_plan.specs.Parts.{slot_areas};
 ghost use Rattle.rate_plan.specs.Menus.{IsMenu};

@@ -1,4 +1,5 @@
-//! Each plan of a short part from a menu is the first by trying every list of its slots.
+//! Each plan of a short part from a menu is the first list, found by trying every list of its
+//! slots.
 
 use super::planned::plan_of;
 use crate::tests::asked::{Asked, needs_of};
@@ -12,7 +13,8 @@ use std::alloc::AllocGlobal;
 use std::process::Abort;
 use std::test::Fail;
 
-/// Whether up to this frame no list is found after a lead-in, and up to each before it one is.
+/// Whether no list is found after a lead-in up to this frame, and one is found up to each earlier
+/// frame.
 fn is_unfit(needs: &[Need], menu: Menu<'_>, i: u32) -> bool {
     for (at, _) in needs.iter().enumerate() {
         if first_list(&needs[..at + 1], menu, 1).is_some() != (at < i as usize) {
@@ -22,7 +24,8 @@ fn is_unfit(needs: &[Need], menu: Menu<'_>, i: u32) -> bool {
     (i as usize) < needs.len()
 }
 
-/// The answer is that which is found by trying every list; whether it is a plan.
+/// Expects that the planner's result is the one found by trying every list; returns whether it is a
+/// plan.
 fn expect_searched<R: Abort + AllocGlobal>(
     rt: &R,
     frames: &[Asked],

@@ -10,8 +10,8 @@ use std::process::Abort;
 use std::test::Fail;
 use test_files::table;
 
-/// The lowest and the highest bit rate of the menu in kbit/s, at most how many of their slots it has, and the answer: a plan, or
-/// no row and the first unfit frame.
+/// The lowest and the highest bit rate of the menu in kbit/s, the most of their slots that it has, and the result: a plan, or no
+/// row and the first unfit frame.
 struct Case {
     name: &'static str,
     frames: &'static [Asked],
@@ -32,7 +32,7 @@ static RATES: [Case; 6] = table! {
         &[Frame(128, 0), Frame(128, 81)], None)
     ("all rates", &[Asked(STEREO, 300), Asked(STEREO, 400)], (32, 320), 28, &[Frame(112, 0), Frame(128, 29)],
         None)
-    // The padding comes where it is needed: 278 and 278 hold 556 bytes.
+    // Padding is used where it is needed: 278 and 278 hold 556 bytes.
     ("padding by need", &[Asked(STEREO, 156), Asked(STEREO, 400)], (96, 96), 28,
         &[Padded(96, 0), Padded(96, 122)], None)
 };
@@ -45,7 +45,7 @@ static FRAMES: [Case; 7] = table! {
     ("all that fits behind a lead-in", &[Asked(PROTECTED, 136)], (32, 32), 28,
         &[PaddedLeadIn(32, 0), Padded(32, 69)], None)
     ("a byte more", &[Asked(PROTECTED, 137)], (32, 32), 28, &[], Some(0))
-    // No more than 511 bytes are free, and 1,009 are the largest area.
+    // No more than 511 bytes are free, and the largest area is 1,009.
     ("the window", &[Asked(STEREO, 0), Asked(STEREO, 0), Asked(STEREO, 1521), Asked(STEREO, 0)], (256, 320),
         28, &[], Some(2))
     ("silent", &[Asked(STEREO, 0), Asked(STEREO, 0)], (320, 320), 28, &[Frame(320, 0), Frame(320, 511)], None)

@@ -9,8 +9,8 @@ use std::process::Abort;
 use std::test::Fail;
 use test_files::table;
 
-/// The lowest slot of a class without check words, and the bit rate in kbit/s from which on, without padding,
-/// the area is a whole window: 511 bytes, and 255 in MPEG-2 and MPEG-2.5.
+/// The lowest slot of a class without check words, and the lowest bit rate in kbit/s at which the area,
+/// without padding, is at least a whole window: 511 bytes, and 255 in MPEG-2 and MPEG-2.5.
 struct Row {
     header: [u8; 4],
     lead_in: u32,
@@ -38,7 +38,8 @@ static CLASSES: [Row; 18] = table! {
     ([0xff, 0xe3, 0x18, 0xc0], 32)
 };
 
-/// The most main data that a frame in this slot can have begin a whole window before its area, after its lead-in.
+/// The main data of a frame in this slot that has as many as it can begin a whole window before its area, after
+/// its lead-in.
 fn expect_greatest<R: Abort + AllocGlobal>(
     rt: &R,
     header: Header,

@@ -1,4 +1,4 @@
-//! Plans by a policy of which only the choices are written, worked out by hand.
+//! Plans by a policy that defines its choices alone, worked out by hand.
 ghost use Rattle.std.specs.Prelude.{◌≡◌, ◌+◌, ◌-◌, ◌*◌, ◌<◌, slice_range};
 ghost use Rattle.std.specs.Int.{from_bool};
 ghost use Rattle.frame_header.specs.Slots.{all_slots};
@@ -44,7 +44,7 @@ impl Policy for NoSmaller {
         slice_range all_slots (2 * (h.slot.rate_index - 1) + from_bool h.slot.padding) 28 };
 
     fn choices(&self, header: &Header) -> ArrayVec<Slot, 28> {
-        // Slots side by side ascend.
+        // Neighbouring slots ascend.
         slices_are_menus();
         slots_from(header.class(), place_of(header.slot))
     }

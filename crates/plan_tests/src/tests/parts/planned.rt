@@ -1,4 +1,4 @@
-//! `plan` and `plan_led`, called once it is seen that they may be.
+//! `plan` and `plan_led`, called once it is checked that they may be.
 
 use crate::tests::checked::{all_fit, are_of_one_class, are_within, ascend};
 use crate::tests::rows::{Row, expect_rows};
@@ -26,7 +26,7 @@ pub fn plan_of<R: Abort + AllocGlobal, P: Policy>(
     plan(rt.alloc(), needs, parts, policy)
 }
 
-/// The plan of these parts has these frames.
+/// Expects that the plan of these parts has these frames.
 pub fn expect_plan<R: Abort + AllocGlobal, P: Policy>(
     rt: &R,
     needs: &[Need],
@@ -57,7 +57,7 @@ pub fn led_plan_of<R: Abort + AllocGlobal, P: Policy>(
     plan_led(rt.alloc(), needs, policy)
 }
 
-/// The led plan of these frames has these.
+/// Expects that the led plan of these needs has these frames.
 pub fn expect_led_plan<R: Abort + AllocGlobal, P: Policy>(
     rt: &R,
     needs: &[Need],

@@ -1,4 +1,5 @@
-//! Each plan of a part of at most three frames, also with a lead-in in front, is the first by trying every list of slots.
+//! Each plan of a part of at most three frames, with or without an added lead-in, is the first list, found by trying
+//! every list of slots.
 
 use super::planned::{led_plan_of, plan_of};
 use crate::tests::asked::{Asked, HIGH, LOW, needs_of};
@@ -10,7 +11,7 @@ use std::alloc::{AllocError, AllocGlobal};
 use std::process::Abort;
 use std::test::Fail;
 
-/// Whether the plan, and that with a lead-in in front, are those which are found by trying every list.
+/// Whether the plan, and the plan with an added lead-in, are those found by trying every list.
 fn is_searched<R: Abort + AllocGlobal, P: Policy>(
     rt: &R,
     needs: &[Need],
@@ -25,7 +26,7 @@ fn is_searched<R: Abort + AllocGlobal, P: Policy>(
     )
 }
 
-/// Whether the plans are, with the slots that the frames have, and with all.
+/// Whether the plans are the ones found, with the slots that the frames have and with all slots.
 fn are_searched<R: Abort + AllocGlobal>(
     rt: &R,
     needs: &[Need],
@@ -42,7 +43,7 @@ fn are_searched<R: Abort + AllocGlobal>(
     Ok(is_searched(rt, needs, &Keep, own)? && is_searched(rt, needs, &Least, any)?)
 }
 
-/// Searches where the frames can be laid in their own slots after a whole window; answers whether they can.
+/// Searches where the frames can be laid in their own slots after a whole window; returns whether they can.
 fn searched<R: Abort + AllocGlobal>(
     rt: &R,
     needs: &[Need],
@@ -72,7 +73,7 @@ static FRAMES: [Asked; 9] = [
     Asked(HIGH, 723),
 ];
 
-/// How many of the lists of so many frames fit in their slots.
+/// How many of the lists of `length` frames fit in their slots.
 fn count_searched<R: Abort + AllocGlobal>(
     rt: &R,
     length: usize,
@@ -93,7 +94,7 @@ fn count_searched<R: Abort + AllocGlobal>(
     Ok(count)
 }
 
-/// How many of so many lists fit in their slots.
+/// Expects that `count` of the lists of `length` frames fit in their slots.
 fn expect_count<R: Abort + AllocGlobal>(
     rt: &R,
     length: usize,
@@ -107,7 +108,7 @@ fn expect_count<R: Abort + AllocGlobal>(
     Ok(())
 }
 
-/// All single frames, of which each fits in its slot, all lists of two, and all of three.
+/// All single frames, each of which fits in its slot, all lists of two, and all of three.
 #[test]
 fn all_lists(rt: HostRuntime) -> Result<(), Fail> {
     expect_count(&rt, 1, 9, 9)?;

@@ -22,13 +22,14 @@ struct Case {
 
 static ALONE: [Case; 6] = table! {
     Case { name, frames, parts, kept, least }
-    // 19 bytes are missing: a lead-in of area 68. A free slot takes 160 kbit/s, area 486.
+    // 19 bytes are missing: a lead-in of area 68. With any slot, 160 kbit/s has area 486.
     ("stereo", &[Asked(STEREO, 400)], &[0], &[LeadIn(32, 0), Frame(128, 68)], &[Frame(160, 0)])
-    // The frame has 379 bytes, and the lead-in 68, since it has no check word. With one at 160 kbit/s 484.
+    // The frame has 379 bytes, and the lead-in 68, since it has no check word. At 160 kbit/s the frame has
+    // 484.
     ("protected", &[Asked(PROTECTED, 447)], &[0], &[LeadIn(32, 0), Frame(128, 68)], &[Frame(160, 0)])
-    // 189 bytes are missing: 80 kbit/s with area 227, in which a free slot has room for all 200.
+    // 189 bytes are missing: 80 kbit/s with area 227, which with any slot has room for all 200.
     ("low", &[Asked(LOW, 200)], &[0], &[LeadIn(80, 0), Frame(8, 227)], &[Frame(80, 0)])
-    // The reserve is kept for the frames after, so the first two can't be smaller.
+    // The reservoir is kept for the frames after, so the first two can't be smaller.
     ("large", &[Asked(LARGE, 498), Asked(LARGE, 1009), Asked(LARGE, 1520)], &[0],
         &[Padded(320, 0), Padded(320, 511), Padded(320, 511)],
         &[Padded(320, 0), Padded(320, 511), Padded(320, 511)])
@@ -46,7 +47,7 @@ static JOINED: [Case; 4] = table! {
     ("two parts", &[Asked(STEREO, 300), Asked(STEREO, 400), Asked(STEREO, 400)], &[0, 2],
         &[Frame(128, 0), Frame(128, 81), LeadIn(32, 62), Frame(128, 130)],
         &[Frame(112, 0), Frame(128, 29), Frame(160, 10)])
-    // The third part misses 119 bytes: 48 kbit/s with area 120.
+    // 119 bytes are missing for the third part: 48 kbit/s with area 120.
     ("three parts", &[Asked(STEREO, 400), Asked(STEREO, 420), Asked(STEREO, 500)], &[0, 1, 2],
         &[LeadIn(32, 0), Frame(128, 68), LeadIn(32, 49), Frame(128, 117), LeadIn(48, 78), Frame(128, 198)],
         &[Frame(160, 0), Frame(128, 86), Frame(160, 47)])

@@ -1,4 +1,4 @@
--- One need more, and the last.
+-- One more need, and the last.
 use Rattle.std.proofs.Common.{arith, sym, ◌∙◌}
 use Rattle.slot_plan.proofs.CheckedLemmas.{class-all, class-more}
 use Rattle.plan_tests.proofs.tests.checked.are_of_one_class.Goals as goal

@@ -1,4 +1,4 @@
--- One frame more, and the last.
+-- One more frame, and the last.
 use Rattle.std.proofs.Common.{arith}
 use Rattle.slot_plan.proofs.CheckedLemmas.{fit-all, fit-next}
 use Rattle.plan_tests.proofs.tests.checked.fit.Goals as goal

@@ -1,4 +1,4 @@
--- Frames of one class that fit behind so many bytes fit behind more.
+-- Frames of one class that fit after a number of free bytes fit after more.
 use Rattle.slot_plan.proofs.CheckedLemmas.{behind-free, behind-window, joins-window}
 use Rattle.plan_tests.proofs.tests.checked.fit_behind.Goals as goal
 

@@ -1,4 +1,4 @@
--- One area more, and all.
+-- One more area, and all.
 use Rattle.std.proofs.Common.{ap, arith, Bool, get_or, inl, inr, length, List, sym, ℕ, ◌+◌, ◌-◌}
 use Rattle.std.proofs.{Common.{◌<◌, ◌∙◌, ◌≡◌}, lemmas.Bool.cases_lt}
 use Rattle.std.proofs.lemmas.List.{get_or-map, length-map, Kept.AllPairs-from_increasing}

@@ -1,4 +1,4 @@
--- The class is that of the first need.
+-- The class is the class of the first need.
 use Rattle.std.proofs.Common.{AllPairs, arith, false, get_or, length, List, subst, true, [], ◌<◌}
 use Rattle.std.proofs.Common.{◌∷◌, ◌≡◌}
 use Rattle.frame_header.specs.{Fields.{ClassFields, SlotFields}, Tables.class_of}

@@ -1,4 +1,4 @@
--- All slots are 28.
+-- There are 28 slots in all.
 use Rattle.std.proofs.Common.{ap, length, ◌∙◌}
 use Rattle.frame_header.proofs.SlotLemmas.{length-all_slots}
 use Rattle.plan_tests.proofs.tests.parts.larger.slots_from.Goals as goal

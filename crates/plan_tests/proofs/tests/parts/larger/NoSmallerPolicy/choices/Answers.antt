@@ -1,4 +1,4 @@
--- Slots side by side ascend, and a header's own is the first of those from its place on.
+-- Neighbouring slots ascend, and a header's own slot is the first of those from its place on.
 use Rattle.std.proofs.Common.{AllPairs, ap, arith, Contains, get_or, List, subst, sym, ◌<◌, ◌∙◌}
 use Rattle.std.{proofs.Common.◌≡◌, specs.Prelude.slice_range}
 use Rattle.frame_header.proofs.HeaderLemmas.{IsClass-class_of}
