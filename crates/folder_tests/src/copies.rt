@@ -1,6 +1,7 @@
 //! A copy by calls of a folder, over one in memory and over real files.
 //!
-//! A test owns its folder and ends in one place, and what it asserts is in small functions that borrow it: that costs the check least.
+//! A test owns its folder and ends in one place, and what it asserts is in small functions that borrow the folder: that costs the
+//! check least.
 mod real;
 
 use outside::{Call, Failed, Folder, MemFolder, read_full, write_all};
@@ -27,7 +28,7 @@ fn is_copied(
     copied(folder, from, "to") == wanted && folder.get("to") == Some(content)
 }
 
-// Past the room, then on the list of those that fail, then done, and then without a file.
+// Past the room, then on the list of calls that fail, then done, and then without a file.
 fn expect_copies(rt: &impl Abort, folder: &mut MemFolder) -> Result<(), AllocError> {
     folder.put("from", b"0123456789")?;
     folder.reserve("to", 9)?;

@@ -47,7 +47,7 @@ fn reads_a_gain_among_few_bytes(rt: HostRuntime) {
     assert!(rt; number_at(b"\0\0\0\0\0\0\x12\x34\x5f", 52, 20) == 0x2345f);
 }
 
-// Whether a byte that is put among these leaves those.
+// Whether a byte that is put among these bytes gives the wanted ones.
 fn is_put(bytes: &mut [u8], at: usize, byte: u8, wanted: &[u8]) -> bool {
     if at >= 1000 || bytes.len() >= 1000 || at + 16 > 8 * bytes.len() {
         return false;

@@ -11,7 +11,8 @@ const MPEG_2: Version = Version::Two;
 
 const MPEG_2_5: Version = Version::TwoFive;
 
-/// Four bytes, and the version, the channels, the frequency in Hz, and the length and the area in bytes that they say.
+/// Four bytes, and the version, the channels, the frequency in Hz, and the length and the area in bytes that they
+/// give.
 struct Says {
     bytes: [u8; 4],
     version: Version,
@@ -91,7 +92,7 @@ fn written_headers(rt: HostRuntime) -> Result<(), Fail> {
     Ok(())
 }
 
-/// Bytes that are no header, and why.
+/// Bytes that aren't a header, and why.
 struct Refused {
     bytes: [u8; 4],
     why: NotHeader,

@@ -222,7 +222,8 @@ fn frame_of(
     Ok(frame)
 }
 
-// Whether a frame with this header and side information becomes the second with the gains of another.
+// Whether a frame with this header and the old side information becomes the wanted one with the gains
+// of the new.
 fn becomes(header: &Header, old: &Side, new: &Side, frame: &mut [u8], after: &[u8]) -> bool {
     let class = header.class();
     let room = header.length() - header.area();

@@ -53,7 +53,7 @@ fn frame_of(alloc: Global, case: &Case) -> Result<Vec<u8>, AllocError> {
     Ok(frame)
 }
 
-/// Whether the case's frame has its length, and the text is where it is wanted.
+/// Whether the case's frame has its length, and the text is at the wanted place.
 fn is_found(alloc: Global, case: &Case) -> Result<bool, AllocError> {
     let frame = frame_of(alloc, case)?;
     match Header::read(case.header) {

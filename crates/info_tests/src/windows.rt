@@ -33,7 +33,7 @@ fn window_over<R: AllocGlobal>(rt: &R, areas: &[usize]) -> Result<Window, Fail> 
 /// The main data of a frame.
 struct Case {
     what: &'static str,
-    /// The areas that were pushed, the frame's own last.
+    /// The areas that were pushed, the frame's own area last.
     areas: &'static [usize],
     /// Its own area in bytes.
     area: u16,

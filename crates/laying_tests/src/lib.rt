@@ -1,4 +1,4 @@
-//! Tests of main data that are laid anew, of what frames need for that, and of the files that hold them.
+//! Tests of main data that are repacked, of what frames need for that, and of the files that hold them.
 #![tactic(auto)]
 
 #[cfg(test)]

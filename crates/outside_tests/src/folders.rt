@@ -1,6 +1,7 @@
 //! What no clause says: that calls succeed.
 //!
-//! A test owns its folder and ends in one place, and what it asserts is in small functions that borrow it: that costs the check least.
+//! A test owns its folder and ends in one place, and what it asserts is in small functions that borrow the folder: that costs the
+//! check least.
 mod buffers;
 mod exact;
 mod sending;
@@ -11,7 +12,7 @@ use outside::{Failed, MemSink, send_all};
 use std::process::Abort;
 use std::test::Fail;
 
-/// Bytes that are sent, what is answered, and what the sink has then.
+/// Bytes that are sent, what is returned, and what the sink has then.
 struct Sent {
     bytes: &'static [u8],
     answer: Result<(), Failed>,

@@ -1,5 +1,5 @@
-//! The first bytes of blocks, exactly, and each way not to be one. The lengths are worked out by hand from
-//! the layouts.
+//! The first bytes of blocks, exactly, and each way for bytes not to be a block. The lengths are worked
+//! out by hand from the layouts.
 
 ghost use Rattle.std.specs.Prelude.{◌≡◌};
 
@@ -53,7 +53,7 @@ fn blocks(rt: HostRuntime) {
     }
 }
 
-/// Bytes with which no block begins.
+/// Bytes that no block begins with.
 struct Other {
     what: &'static str,
     front: &'static [u8],

@@ -15,7 +15,7 @@ pub fn side_of(begin: u16, bits: u16) -> Side {
     side
 }
 
-/// What appends frames: those that wait, and the buffer before the file.
+/// What appends frames: the frames that wait, and the buffer before the file.
 #[derive(Drop)]
 pub struct Appending {
     pub queue: FrameQueue,
@@ -23,7 +23,7 @@ pub struct Appending {
 }
 
 impl Appending {
-    /// Of frames with the class of this header.
+    /// Appends frames with the class of this header.
     pub fn new(alloc: Global, header: &Header) -> Result<Appending, AllocError> {
         Ok(Appending {
             queue: FrameQueue::new(alloc, header.class())?,

@@ -1,4 +1,4 @@
-//! Tests of frames that are written one after the other, and of a file that is put together of them.
+//! Tests of frames that are written in order, and of a file that is put together from them.
 #![tactic(auto)]
 
 #[cfg(test)]

@@ -1,12 +1,12 @@
-//! A file without bytes, and what is in one afterwards.
+//! A file without bytes, and what is in it afterwards.
 //!
-//! A test owns its folder and ends in one place, and all else borrows it: at each end of the owner the folder is let go, which
-//! costs the check much.
+//! A test owns its folder and ends in one place, and everything else borrows it: at each end of its owner the folder is
+//! dropped, which costs the check much.
 
 use outside::MemFolder;
 use std::alloc::AllocError;
 
-/// Puts a file without bytes, with room for `room`.
+/// Puts a file without bytes, with `room` bytes of room.
 pub fn put_empty(folder: &mut MemFolder, name: &str, room: u64) -> Result<(), AllocError> {
     folder.put(name, &[])?;
     folder.reserve(name, room)

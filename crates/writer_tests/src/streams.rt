@@ -1,4 +1,4 @@
-//! A file that the crates below put together, and what a survey finds in it. Its places were worked out by hand from the
+//! A file that the crates below put together, and what a survey finds in it. The places were worked out by hand from the
 //! standard's rule of the frame length (ISO/IEC 11172-3, 2.4.3.1).
 
 use crate::outputs::{are_at, put_empty};
@@ -20,7 +20,7 @@ static PLAIN: [u8; 4] = [0xff, 0xfb, 0x90, 0x00];
 /// An ID3v2 tag of 2 bytes after its header of 10.
 static ID3V2: [u8; 12] = *b"ID3\x03\x00\x00\x00\x00\x00\x02ab";
 
-/// The first 3 bytes of an ID3v1 tag, which has 128 with 125 spaces after these.
+/// The first 3 bytes of an ID3v1 tag of 128, which has 125 spaces after them.
 static ID3V1: [u8; 3] = *b"TAG";
 
 static BLOCKS: [Piece; 2] = [
@@ -40,7 +40,8 @@ static BLOCKS: [Piece; 2] = [
     },
 ];
 
-/// Three frames: the second is silent, and the main data of the third begin in the first one's area.
+/// Three frames: the second is silent, and the main data of the third begin in the area of the
+/// first.
 static FRAMES: [Main; 3] = [
     Main {
         begin: 0,
@@ -112,7 +113,7 @@ fn is_surveyed(survey: &Survey) -> bool {
     has_places(survey) && survey.blocks() == BLOCKS.as_slice() && has_rows(survey.frames())
 }
 
-/// The whole file around the frames, which are written as `o`.
+/// The whole file around the frames, which are written to `o`.
 fn file_over<R: Abort + AllocGlobal>(rt: &R, folder: &mut MemFolder) -> Result<Vec<u8>, Fail> {
     put_empty(folder, "o", 1251)?;
     let header = Header::read(PLAIN)?;
@@ -134,8 +135,8 @@ fn surveyed(alloc: Global, file: &[u8]) -> Result<Option<Survey>, AllocError> {
 #[test]
 fn a_file_of_three_frames(rt: HostRuntime) -> Result<(), Fail> {
     let file = whole_file(&rt)?;
-    // The third frame's main data begin 300 bytes into the first one's area, at 256, and pass the 36 bytes before the two
-    // areas after it.
+    // The third frame's main data begin 300 bytes into the first one's area, at 256, and skip the 36 bytes before each of
+    // the two areas after it.
     let places = [555, 556, 673, 1126, 1127];
     assert!(rt; are_at(&file, &places, &[0x11, 0x22, 0x22, 0x22, 0]));
     let survey = surveyed(rt.alloc(), &file)?.ok_or("no survey")?;

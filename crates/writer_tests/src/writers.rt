@@ -1,4 +1,4 @@
-//! Frames worked out by hand. Rates and lengths are those of ISO/IEC 11172-3 and 13818-3, 2.4.2.3 and 2.4.3.1.
+//! Frames worked out by hand. Rates and lengths are from ISO/IEC 11172-3 and 13818-3, 2.4.2.3 and 2.4.3.1.
 
 use crate::appended::{Appending, side_of};
 use crate::outputs::{are_at, put_empty};
@@ -51,8 +51,8 @@ fn two_areas(rt: HostRuntime) -> Result<(), Fail> {
     Ok(())
 }
 
-/// The main data of a frame: how many bytes before its own area they begin, how many bits the frame says that they have, and
-/// their bytes; where it is asserted, how far back the next may begin then, and how many frames wait.
+/// The main data of a frame: how many bytes before its own area they begin, how many bits the frame says they have, and
+/// their bytes; and, where it is asserted, how far back the next may begin then, and how many frames wait.
 #[derive(Clone, Copy)]
 pub struct Main<'a> {
     pub begin: u16,
@@ -112,7 +112,7 @@ fn file_of<R: Abort + AllocGlobal>(
     Ok(file_over(rt, &mut folder, &header, frames, room)?)
 }
 
-/// 81 bytes are left of the first area.
+/// 81 bytes of the first area are left.
 static TWO: [Main; 2] = [
     Main {
         begin: 0,
@@ -172,7 +172,7 @@ fn write_end<D: Folder>(writer: &mut Writer, folder: &mut D) -> Result<(), Faile
     writer.finish(folder, "o")
 }
 
-/// Writes two frames to the file, whose `failing`th write fails, and answers how far the writer is then.
+/// Writes two frames to the file, whose `failing`th write fails, and returns how far the writer is then.
 fn write_two<R: Abort + AllocGlobal>(
     rt: &R,
     folder: &mut MemFolder,
@@ -189,7 +189,7 @@ fn write_two<R: Abort + AllocGlobal>(
     Ok(writer.state())
 }
 
-/// A frame goes to the file with the call that gives the next one, if its area can't be reached then.
+/// A frame is written to the file by the call with the next one, if its area can't be reached then.
 #[test]
 fn frames_straight_to_a_file(rt: HostRuntime) -> Result<(), Fail> {
     let mut folder = MemFolder::new(rt.alloc());
@@ -198,7 +198,7 @@ fn frames_straight_to_a_file(rt: HostRuntime) -> Result<(), Fail> {
     Ok(())
 }
 
-/// After a write that failed the writer takes nothing more.
+/// After a failed write the writer takes nothing more.
 #[test]
 fn a_writer_that_failed(rt: HostRuntime) -> Result<(), Fail> {
     let mut folder = MemFolder::new(rt.alloc());
@@ -207,7 +207,7 @@ fn a_writer_that_failed(rt: HostRuntime) -> Result<(), Fail> {
     Ok(())
 }
 
-/// The same, written to a file in one write, with no more room than they need.
+/// Two frames, written to a file in one write, with no more room than they need.
 #[test]
 fn two_frames_in_a_file(rt: HostRuntime) -> Result<(), Fail> {
     let file = file_of(&rt, PLAIN, &TWO, 834)?;
@@ -217,7 +217,7 @@ fn two_frames_in_a_file(rt: HostRuntime) -> Result<(), Fail> {
 
 static LAST: [u8; 256] = [0x44; 256];
 
-/// 256 frames of the shortest kind, of which the last alone has main data.
+/// 256 frames of the shortest kind, where only the last has main data.
 fn waiting(alloc: Global) -> Result<Vec<Main<'static>>, AllocError> {
     let mut frames = Vec::new(alloc);
     for begin in 0..255 {
@@ -247,7 +247,7 @@ fn have_waited(file: &[u8]) -> bool {
             .all(|frame| are_at(frame, &[3, 23], &[0x00, 0x44]))
 }
 
-/// The main data of the 256th frame go through the areas of all of them. Its check word is the remainder of 14 00 ff
+/// The main data of the 256th frame go through the areas of all frames. Its check word is the remainder of 14 00 ff
 /// and 16 times 00, worked out by another program.
 #[test]
 fn as_many_as_may_wait(rt: HostRuntime) -> Result<(), Fail> {
@@ -273,7 +273,7 @@ fn the_longest_frame(rt: HostRuntime) -> Result<(), Fail> {
 /// How many bytes of its area the first of several frames of the longest kind uses.
 const USED: usize = 1400;
 
-/// The other bytes of its area, in which the main data of the next begin.
+/// The other bytes of its area, where the main data of the next frame begin.
 const LEFT: u16 = 20;
 
 /// Writes `count` frames of the longest kind, and the end. All bytes of the main data of frame n, counted from 0, are n + 1.
@@ -294,7 +294,7 @@ fn write_many<D: Folder>(
 }
 
 /// The byte at this place of a file of `count` such frames. Before the area are the header's 4 bytes, and the side
-/// information's 17, of which the first is main_data_begin.
+/// information's 17, the first of which is main_data_begin.
 fn byte_at(place: usize, count: u8) -> u8 {
     let number = (place / 1441 % 256) as u8;
     match place % 1441 {
@@ -309,15 +309,15 @@ fn byte_at(place: usize, count: u8) -> u8 {
     }
 }
 
-/// How many frames are written, and how many bytes the file holds where its first write fails, its second, and so on, and at
-/// last where none does.
+/// How many frames are written, and how many bytes the file holds where its first write fails, its second, and so on, and
+/// finally where none does.
 struct Run {
     count: u8,
     held: &'static [usize],
 }
 
-/// 65,536 bytes are written at once, so 100 frames of 1,441 bytes fill them twice before the end. Of 46 frames the last
-/// waits up to the end, and with it they are filled there.
+/// 65,536 bytes are written at once, so 100 frames of 1,441 bytes fill the buffer twice before the end. Of 46 frames
+/// the last waits until the end, which then fills the buffer.
 static RUNS: [Run; 2] = [
     Run {
         count: 100,
@@ -329,7 +329,7 @@ static RUNS: [Run; 2] = [
     },
 ];
 
-/// Whether all is written.
+/// Whether everything is written.
 fn writes_all<R: Abort + AllocGlobal>(
     rt: &R,
     count: u8,
@@ -349,7 +349,7 @@ fn is_held(bytes: &[u8], count: u8, held: usize) -> bool {
             .all(|(place, byte)| *byte == byte_at(place, count))
 }
 
-/// Lets one write fail, counted from 1: the file holds a prefix of the bytes.
+/// Makes one write fail, counted from 1: the file holds a prefix of the bytes.
 fn expect_held_in<R: Abort + AllocGlobal>(
     rt: &R,
     folder: &mut MemFolder,
@@ -376,7 +376,7 @@ fn expect_held<R: Abort + AllocGlobal>(
     expect_held_in(rt, &mut folder, run, failing, held)
 }
 
-/// Each write fails in turn.
+/// Each write fails in order.
 #[test]
 fn writes_fail(rt: HostRuntime) -> Result<(), Fail> {
     for run in &RUNS {

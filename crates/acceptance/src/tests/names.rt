@@ -14,12 +14,12 @@
 //!   mostly 0, and 8 of global_gain: 100 is 64 (hex).
 //! - **Reservoir.** 300 bytes in an area of 381 leave 81, so the next frame's main data can begin
 //!   81 bytes before its own area. main_data_begin is 81 then: 001010001, with 7 more bits 2880.
-//! - **Info frames.** After the side information come a text (4 bytes), flags (4), the number of the
-//!   frames after this one (4), the length of it and these in bytes (4), a table (100), a quality (4)
-//!   and an extension (36), 156 bytes in all. The frame is the shortest with room for them. Stereo at
-//!   44,100 Hz needs 4 + 32 + 156, which is 192; a frame of 56 kbit/s has 182 bytes, and 183 padded,
-//!   so the Info frame has 208, at 64 kbit/s. The text is `Info` where all frames after it have one
-//!   bit rate, otherwise `Xing`.
+//! - **Info frames.** After the side information come a text (4 bytes), flags (4), the number of
+//!   frames after this one (4), the length of it and these in bytes (4), a table (100), a quality
+//!   (4) and an extension (36), 156 bytes in all. The frame is the shortest with room for them.
+//!   Stereo at 44,100 Hz needs 4 + 32 + 156, which is 192; a frame of 56 kbit/s has 182 bytes, and
+//!   183 padded, so the Info frame has 208, at 64 kbit/s. The text is `Info` where all frames after
+//!   it have one bit rate, otherwise `Xing`.
 //! - **Tables.** Entry i is about the frame with the number i * frames / 100, rounded down: 256
 //!   times the offset of that frame, counted from the Info frame, by all bytes, rounded down. Two
 //!   frames of 417 bytes are 1,042 bytes in all, so 256 * 208 / 1,042 gives 51, 33 (hex), for the

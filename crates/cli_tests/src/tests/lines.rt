@@ -38,7 +38,7 @@ static INPUT_LINES: [Line; 14] = table! {
     (EditFault::Input(0, SurveyFault::Read), 3, b"a.mp3: read fault\n")
 };
 
-/// All others.
+/// All other faults.
 static LINES: [Line; 16] = table! {
     Line { fault, status, line }
     (EditFault::EqualNames(0), 1, b"a.mp3: input is an output\n")
@@ -60,7 +60,7 @@ static LINES: [Line; 16] = table! {
     (EditFault::Memory, 4, b"out of memory\n")
 };
 
-/// Those of bit rates that frames are to have.
+/// Faults of the bit rates that were asked for.
 static RATE_LINES: [Line; 2] = [
     Line {
         fault: EditFault::Refused(Refusal::NoRate(100)),
@@ -74,7 +74,7 @@ static RATE_LINES: [Line; 2] = [
     },
 ];
 
-/// Those of commands with several files.
+/// Faults of commands with several files.
 static SEVERAL_LINES: [Line; 6] = table! {
     Line { fault, status, line }
     (EditFault::Refused(Refusal::Differ(1)), 1, b"c.mp3: other class than the first input\n")
@@ -123,7 +123,7 @@ fn lines(rt: HostRuntime) -> Result<(), Fail> {
     Ok(())
 }
 
-/// A piece that could not be written, counted from 0, and its line.
+/// A piece that couldn't be written, counted from 0, and its line.
 struct PieceLine {
     piece: u32,
     line: &'static [u8],

@@ -21,7 +21,7 @@ pub fn bad_word(words: &[String]) -> Option<u32> {
     }
 }
 
-/// The words of a split of `a` with the prefix `p` at the frames from 0 on, `count` of them.
+/// The words of a split of `a` with the prefix `p` at `count` frames, from 0 on.
 pub fn split_words(alloc: Global, count: u32) -> Result<Vec<String>, AllocError> {
     let mut words = owned(alloc, &["split", "a", "p"])?;
     for number in 0..count {
@@ -30,7 +30,7 @@ pub fn split_words(alloc: Global, count: u32) -> Result<Vec<String>, AllocError>
     Ok(words)
 }
 
-/// The words of a join of `count` times `a` to `o`.
+/// The words of a join of `a`, `count` times, to `o`.
 pub fn join_words(alloc: Global, count: u32) -> Result<Vec<String>, AllocError> {
     let mut words = owned(alloc, &["join", "o"])?;
     for _ in 0..count {
@@ -39,7 +39,7 @@ pub fn join_words(alloc: Global, count: u32) -> Result<Vec<String>, AllocError> 
     Ok(words)
 }
 
-/// The words of a line, where `''` is one without a character.
+/// The words of a line, where `''` is an empty one.
 fn words_of(alloc: Global, line: &str) -> Result<Vec<String>, AllocError> {
     let mut words = Vec::new(alloc);
     for word in line.split_ascii_whitespace() {
@@ -49,7 +49,7 @@ fn words_of(alloc: Global, line: &str) -> Result<Vec<String>, AllocError> {
     Ok(words)
 }
 
-/// What the words ask for, or the place of the first bad one.
+/// What the words ask for, or the place of the first bad word.
 fn read(alloc: Global, words: &[String]) -> Result<String, AllocError> {
     match job(words) {
         Ok(job) => format!(in alloc; "{job:?}"),
@@ -65,7 +65,7 @@ fn other_than(alloc: Global, words: &str, wanted: &str) -> Result<Option<String>
     Ok(Some(format!(in alloc; "{words}: {found}")?))
 }
 
-/// A line that says nothing is a fault, so that none is passed over.
+/// Reads a line. A line that expects nothing is a fault, so that none is passed over.
 fn unlike_in(alloc: Global, line: &str) -> Result<Option<String>, AllocError> {
     match line.split_once("=> ") {
         Some((words, wanted)) => other_than(alloc, words, wanted),
@@ -74,8 +74,8 @@ fn unlike_in(alloc: Global, line: &str) -> Result<Option<String>, AllocError> {
     }
 }
 
-/// The first words that are read otherwise than a line says, and how they are read. Each line has words and `=> `, and then what they
-/// ask for, or which word is bad.
+/// The first words that aren't read as their line says, and how they are read. Each line has words and `=> `, and then what they ask
+/// for, or which word is bad.
 fn first_unlike(alloc: Global, rows: &str) -> Result<Option<String>, AllocError> {
     for line in rows.lines() {
         let unlike = unlike_in(alloc, line)?;
@@ -86,7 +86,7 @@ fn first_unlike(alloc: Global, rows: &str) -> Result<Option<String>, AllocError>
     Ok(None)
 }
 
-/// The words that have a form, and those that none takes.
+/// The words that have a form, and the words that no form takes.
 #[test]
 fn words(rt: HostRuntime) -> Result<(), Fail> {
     assert_eq!(rt; first_unlike(rt.alloc(), words_read::ROWS)?, None);

@@ -1,4 +1,4 @@
-//! Texts that the program says of itself.
+//! Texts that the program sends about itself.
 
 use crate::tests::reading::owned;
 use mp3_cli::run;

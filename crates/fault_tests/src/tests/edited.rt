@@ -1,5 +1,5 @@
-//! Two frames of 417 bytes that are cut short at each length, and with each value of each byte of the second header. What is found is
-//! said by rules, from the standard's table of bit rates and the bits of a header.
+//! Two frames of 417 bytes, cut short at each length, or with each value of each byte of the second header. What is found follows by
+//! rules from the standard's table of bit rates and the bits of a header.
 
 use super::{first_faults, walks};
 use std::alloc::{AllocError, Global};
@@ -34,7 +34,7 @@ fn wrong_cut(alloc: Global, two_frames: &[Stretch]) -> Result<Option<usize>, All
     Ok(None)
 }
 
-/// The same of both files of two frames.
+/// The same for both files of two frames.
 fn wrong_cut_of_both(alloc: Global) -> Result<Option<usize>, AllocError> {
     match wrong_cut(alloc, walks::TWO_FRAMES)? {
         None => wrong_cut(alloc, first_faults::TWO_FRAMES),
@@ -49,7 +49,7 @@ fn files_cut_short(rt: HostRuntime) -> Result<(), Fail> {
     Ok(())
 }
 
-/// The fault where the first byte of the second header has this value: a zero byte is passed.
+/// The fault where the first byte of the second header has this value: a zero byte is skipped.
 fn of_first_byte(value: u8) -> Option<SurveyFault> {
     match value {
         0 => Some(SurveyFault::LostSync(418)),
@@ -58,14 +58,14 @@ fn of_first_byte(value: u8) -> Option<SurveyFault> {
     }
 }
 
-/// The same of the second byte: three bits of the sync word, two for the version, two for the layer, and one that is 0 where there is a
-/// check word.
+/// The fault where the second byte has this value: three bits of the sync word, two for the version, two for the layer, and one that is
+/// 0 where there is a check word.
 fn of_second_byte(value: u8) -> Option<SurveyFault> {
     match value {
         // MPEG-2.5, in which the frame would have 522 bytes.
         0xe2 | 0xe3 => Some(SurveyFault::Truncated(417)),
         0xf2 | 0xf3 => Some(SurveyFault::Mixed(417)),
-        // The word was worked out apart, by long division.
+        // The word was worked out independently, by long division.
         0xfa => Some(SurveyFault::CheckWord(417, 0x2880, 0x2ede)),
         0xfb => None,
         _ => Some(SurveyFault::LostSync(417)),
@@ -79,7 +79,8 @@ fn length_of(value: u8, frequency: u32) -> u32 {
     length.saturating_add(u32::from(value / 2 % 2))
 }
 
-/// The same where the frame has this length. Its area has 36 bytes less, and its main data begin 81 bytes before that.
+/// The fault where the frame has this length. Its area is 36 bytes shorter, and its main data begin 81 bytes before
+/// that.
 fn of_length(length: u32) -> Option<SurveyFault> {
     match length {
         0..=364 => Some(SurveyFault::Overrun(417, 3200, 8 * (81 + length - 36))),
@@ -88,7 +89,7 @@ fn of_length(length: u32) -> Option<SurveyFault> {
     }
 }
 
-/// The same where the frame has this length and another frequency.
+/// The fault where the frame has this length and another frequency.
 fn of_other_class(length: u32) -> Option<SurveyFault> {
     match length {
         0..=417 => Some(SurveyFault::Mixed(417)),
@@ -96,7 +97,7 @@ fn of_other_class(length: u32) -> Option<SurveyFault> {
     }
 }
 
-/// The same of the third byte.
+/// The fault where the third byte has this value.
 fn of_third_byte(value: u8) -> Option<SurveyFault> {
     match (value / 16, value / 4 % 4) {
         (15, _) | (_, 3) => Some(SurveyFault::LostSync(417)),
@@ -107,7 +108,8 @@ fn of_third_byte(value: u8) -> Option<SurveyFault> {
     }
 }
 
-/// The same of the last byte, whose first two bits say in which mode the channels are.
+/// The fault where the last byte, whose first two bits are the mode of the channels, has this
+/// value.
 fn of_last_byte(value: u8) -> Option<SurveyFault> {
     match value {
         0xc0..=0xff => Some(SurveyFault::Mixed(417)),
@@ -124,7 +126,7 @@ fn changed_answer(at: usize, value: u8) -> Option<SurveyFault> {
     }
 }
 
-/// Whether this fault is found in the file where the byte has this value. It keeps it.
+/// Whether this fault is found in the file where the byte has this value. The byte keeps the value.
 fn finds_changed(alloc: Global, file: &mut [u8], at: usize, value: u8) -> Result<bool, AllocError> {
     match file.get_mut(at) {
         Some(byte) => *byte = value,
@@ -133,7 +135,7 @@ fn finds_changed(alloc: Global, file: &mut [u8], at: usize, value: u8) -> Result
     first_faults::both_find(alloc, file, 2, changed_answer(at, value))
 }
 
-/// The first byte of the second header and the value of it with which another fault is found.
+/// The first byte of the second header, and its first value, for which another fault is found.
 fn wrong_change(alloc: Global) -> Result<Option<(usize, u8)>, AllocError> {
     for at in 417..421 {
         let mut file = bytes_of(alloc, first_faults::TWO_FRAMES)?;

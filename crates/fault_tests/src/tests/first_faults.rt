@@ -37,7 +37,7 @@ const FRONT_1: Stretch = Filled(
     4,
 );
 
-/// Two frames with 300 and 400 bytes of main data, one after the other, each byte 55 (hex).
+/// Two frames with 300 and 400 bytes of main data, joined, each byte 55 (hex).
 pub const TWO_FRAMES: &[Stretch] = &end_to_end! {
     FRONT_0, Fill(0x55, 381),
     FRONT_1, Fill(0x55, 319), Fill(0, 62)
@@ -50,29 +50,29 @@ const FRONT_OF_3049: Stretch = Filled(
     4,
 );
 
-/// As `SHORT` with main_data_begin 12 and 352 bits, more than 23 bytes.
+/// Like `SHORT`, with main_data_begin 12 and 352 bits, more than 23 bytes.
 const SHORT_TOO_LONG: Stretch = Filled(b"\xff\xf3\x14\xc0\x0c\x0b", 0, 18);
 
-/// As `SHORT` with a check word, so an area of 9 bytes, and with 8 bits of gain 100. The right words here were
-/// worked out apart, by long division.
+/// Like `SHORT`, with a check word and thus an area of 9 bytes, and with 8 bits of gain 100. The right words
+/// here were worked out independently, by long division.
 const PROTECTED: Stretch = Filled(b"\xff\xf2\x14\xc0\xe9\x52\0\0\x40\x01\x90", 0, 13);
 
-/// As `SHORT` with a check word.
+/// Like `SHORT`, with a check word.
 const PROTECTED_SILENT: Stretch = Filled(b"\xff\xf2\x14\xc0\xee\xd2", 0, 18);
 
-/// As `PROTECTED` with a wrong word.
+/// Like `PROTECTED`, with a wrong word.
 const WRONG: Stretch = Filled(b"\xff\xf2\x14\xc0\xe9\x53\0\0\x40\x01\x90", 0, 13);
 
-/// As `PROTECTED` with main_data_begin 1, for which its word is wrong.
+/// Like `PROTECTED`, with main_data_begin 1, for which its word is wrong.
 const WRONG_AND_BACK: Stretch = Filled(b"\xff\xf2\x14\xc0\xe9\x52\x01\0\x40\x01\x90", 0, 13);
 
-/// As `PROTECTED` with 73 bits.
+/// Like `PROTECTED`, with 73 bits.
 const PROTECTED_OF_73: Stretch = Filled(b"\xff\xf2\x14\xc0\x41\xdd\0\x02\x48\x01\x90", 0, 13);
 
-/// As `PROTECTED` with main_data_begin 9 and 144 bits, which fill two areas.
+/// Like `PROTECTED`, with main_data_begin 9 and 144 bits, which fill two areas.
 const PROTECTED_OF_144: Stretch = Filled(b"\xff\xf2\x14\xc0\x50\x2a\x09\x04\x80\x01\x90", 0, 13);
 
-/// As `PROTECTED` with main_data_begin 10 and 80 bits.
+/// Like `PROTECTED`, with main_data_begin 10 and 80 bits.
 const PROTECTED_AND_10_BACK: Stretch = Filled(
     b"\xff\xf2\x14\xc0\x3a\x9e\x0a\x02\x80\x01\x90",
     0,
@@ -174,7 +174,7 @@ static FRAMES: [Case; 9] = table! {
     ("a frame behind a head", &[HEAD, Z], 0, Some(SurveyFault::TooManyFrames(417)))
 };
 
-/// Files of several faults.
+/// Files with several faults.
 static ORDERS: [Case; 10] = table! {
     Case { name, file, allowed, answer }
     ("Truncated before Mixed", &[Z, OTHER_CLASS, Fill(0, 379)], MANY,
@@ -210,7 +210,7 @@ pub fn both_find(
     Ok(plain == answer && found == answer)
 }
 
-/// The name of the first case whose first fault is another.
+/// The name of the first case with another first fault.
 fn first_wrong(alloc: Global, cases: &[Case]) -> Result<Option<&'static str>, AllocError> {
     for case in cases {
         let file = bytes_of(alloc, case.file)?;
@@ -221,7 +221,7 @@ fn first_wrong(alloc: Global, cases: &[Case]) -> Result<Option<&'static str>, Al
     Ok(None)
 }
 
-/// The same of the cases of walks.
+/// The same for the cases of walks.
 fn first_wrong_walk(alloc: Global) -> Result<Option<&'static str>, AllocError> {
     for case in &walks::CASES {
         let file = bytes_of(alloc, case.file)?;

@@ -46,7 +46,7 @@ fn blocks_and_zero_bytes(rt: HostRuntime) -> Result<(), Fail> {
     Ok(())
 }
 
-/// Whether the frame at the offset is found, which has one bit too many.
+/// Whether the frame at the offset is found, with one bit too many.
 fn is_across(alloc: Global, offset: usize) -> Result<bool, AllocError> {
     let before = offset.saturating_sub(417);
     let file = bytes_of(alloc, &[Fill(0, before), Z, Stretch::Frame(0, 3049), Z])?;
@@ -54,7 +54,7 @@ fn is_across(alloc: Global, offset: usize) -> Result<bool, AllocError> {
     is_surveyed(alloc, &file, &answer)
 }
 
-/// The header or the side information of the frame is across the end of the buffer.
+/// The header or the side information of the frame crosses the end of the buffer.
 #[test]
 fn a_frame_across_the_end_of_the_buffer(rt: HostRuntime) -> Result<(), Fail> {
     for offset in 65_490..65_540 {

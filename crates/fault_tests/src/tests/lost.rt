@@ -1,5 +1,5 @@
 //! Files whose first frames point before the stream, and which of their frames are lost. Worked out by hand: a
-//! frame of 417 bytes adds 381 bytes to the main data, one of `SHORT` 11.
+//! frame of 417 bytes adds 381 bytes to the main data, one like `SHORT` 11.
 
 use super::shapes::surveyed;
 use super::stretches::{Case, HEAD, SHORT, SHORT_LOUD, SHORT_OF_FOUR, Z};
@@ -11,7 +11,7 @@ use test_files::files::Stretch::Filled;
 use test_files::files::{Stretch, bytes_of};
 use test_files::table;
 
-/// As `SHORT` with main_data_begin 12.
+/// Like `SHORT`, with main_data_begin 12.
 const SHORT_SILENT_BACK: Stretch = Filled(b"\xff\xf3\x14\xc0\x0c", 0, 19);
 
 /// A file without fault, and whether each of its frames is lost.
@@ -41,7 +41,7 @@ fn are_marked(survey: &Survey, lost: &[bool]) -> bool {
     rows.len() == lost.len() && rows.iter().zip(lost).all(|(row, lost)| row.lost() == *lost)
 }
 
-/// Whether the survey of the file marks them.
+/// Whether the survey of the file marks these frames as lost.
 fn are_lost(alloc: Global, case: &Lost) -> Result<bool, AllocError> {
     let file = bytes_of(alloc, case.file)?;
     match surveyed(alloc, &file, 100)? {
@@ -50,7 +50,7 @@ fn are_lost(alloc: Global, case: &Lost) -> Result<bool, AllocError> {
     }
 }
 
-/// The name of the first case of which other frames are lost.
+/// The name of the first case with other lost frames.
 fn first_wrong(alloc: Global) -> Result<Option<&'static str>, AllocError> {
     for case in &CASES {
         if !are_lost(alloc, case)? {

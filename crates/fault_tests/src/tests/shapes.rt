@@ -33,7 +33,7 @@ fn has_frames(survey: &Survey, offsets: &[u64]) -> bool {
             .all(|(row, offset)| u64::from(row.offset()) == *offset)
 }
 
-/// Whether the survey says this of the start.
+/// Whether the survey has this start.
 fn has_start(survey: &Survey, shape: &Shape) -> bool {
     let junk = shape.first.saturating_sub(shape.front_end);
     survey.junk() == (shape.front_end, junk)
@@ -45,7 +45,7 @@ fn has_shape(survey: &Survey, shape: &Shape) -> bool {
     has_start(survey, shape) && has_frames(survey, shape.frames) && survey.blocks() == shape.blocks
 }
 
-/// The survey of a file of at most `allowed` frames.
+/// The survey of a file, with `allowed` frames allowed.
 pub fn surveyed(
     alloc: Global,
     file: &[u8],
@@ -56,7 +56,7 @@ pub fn surveyed(
     Ok(survey(alloc, &mut folder, "a", allowed))
 }
 
-/// Whether the survey of a file gives this.
+/// Whether the survey of a file finds this.
 pub fn is_surveyed(
     alloc: Global,
     file: &[u8],
@@ -69,7 +69,7 @@ pub fn is_surveyed(
     })
 }
 
-/// The fault that the survey of a file of at most `allowed` frames finds, where there is one.
+/// The fault that the survey of a file finds, with `allowed` frames allowed, where there is one.
 pub fn survey_fault(
     alloc: Global,
     file: &[u8],

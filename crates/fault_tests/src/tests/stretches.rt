@@ -1,4 +1,4 @@
-//! Stretches of files that several tests are made of.
+//! Stretches of files that several tests use.
 
 use test_files::files::Stretch;
 use test_files::files::Stretch::{Bytes, Fill, Filled, Frames};
@@ -26,10 +26,10 @@ pub const HEAD: Stretch = Frames(&[frames::HEAD]);
 /// MPEG-2, 24,000 Hz, 8 kbit/s, one channel: 24 bytes, with an area of 11. Silent.
 pub const SHORT: Stretch = Filled(b"\xff\xf3\x14\xc0", 0, 20);
 
-/// The same with 8 bits.
+/// The same frame with 8 bits.
 pub const SHORT_LOUD: Stretch = Filled(b"\xff\xf3\x14\xc0\0\0\x40", 0, 17);
 
-/// The same with main_data_begin 33 and 352 bits, which fill four areas.
+/// The same frame with main_data_begin 33 and 352 bits, which fill four areas.
 pub const SHORT_OF_FOUR: Stretch = Filled(b"\xff\xf3\x14\xc0\x21\x0b", 0, 18);
 
 /// The header of such a frame at 48,000 Hz, where it has 384 bytes.

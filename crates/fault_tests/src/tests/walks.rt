@@ -21,7 +21,7 @@ pub const TWO_FRAMES: &[Stretch] = &[Z, Z];
 /// The header of a frame of 72 bytes: MPEG-2.5, 8,000 Hz, 8 kbit/s, one channel.
 const SLOW_HEADER: Stretch = Bytes(&[0xff, 0xe3, 0x18, 0xc0]);
 
-/// The same with the version that the standard reserves.
+/// The same header with the version that the standard reserves.
 const RESERVED_VERSION: Stretch = Bytes(&[0xff, 0xeb, 0x18, 0xc0]);
 
 /// What is after that header in a silent frame.
@@ -73,7 +73,7 @@ pub static CASES: [Walk; 22] = table! {
     ("the first of them alone", &[RESERVED_VERSION, SLOW_SILENCE], Err(SurveyFault::NoFrame(0)))
 };
 
-/// The name of the first case whose survey is another than its answer.
+/// The name of the first case whose survey gives another result.
 pub fn first_wrong(alloc: Global, cases: &[Walk]) -> Result<Option<&'static str>, AllocError> {
     for case in cases {
         let file = bytes_of(alloc, case.file)?;
@@ -107,7 +107,7 @@ fn is_plain(alloc: Global, at: usize, value: u8) -> Result<bool, AllocError> {
     Ok(found == first_fault(alloc, &file, 1000)?)
 }
 
-/// The first byte of the second header and the value of it with which it doesn't.
+/// The first byte of the second header, and its first value, for which it doesn't.
 fn wrong_change(alloc: Global) -> Result<Option<(usize, u8)>, AllocError> {
     for at in 417..421 {
         for value in 0..=255 {

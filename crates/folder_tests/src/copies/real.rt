@@ -27,7 +27,7 @@ fn expect<R: Files + AllocGlobal + Abort>(rt: &R, name: &str, text: &str) -> Res
     Ok(())
 }
 
-// Makes a copy of the ten bytes, and asserts that it has no others.
+// Makes a copy of the ten bytes, and asserts that it has no other bytes.
 fn expect_copied<R: Files + AllocGlobal + Abort>(
     rt: &R,
     folder: &mut DiskFolder<R>,
@@ -82,12 +82,12 @@ fn is_not_found<R: Files>(folder: &mut DiskFolder<R>, name: &str, fault: FindFau
     folder.find(name) == Err(fault)
 }
 
-// Bytes go to no file but those that the folder was asked to create.
+// Whether a write to this file fails: bytes go only to files that the folder created.
 fn is_unwritten<R: Files>(folder: &mut DiskFolder<R>, name: &str) -> bool {
     folder.write(name, b"ab").is_err()
 }
 
-// What is asserted of the files, before the folder is let go.
+// Asserts what holds of the files, before the folder is dropped.
 fn expect_over_files<R: Files + AllocGlobal + Abort>(rt: &R) -> Result<(), Fail> {
     let mut folder = DiskFolder::new(rt, rt.alloc());
     assert!(rt; is_not_found(&mut folder, "outside_files/to", FindFault::Absent));
@@ -104,7 +104,7 @@ fn real_files(rt: HostRuntime) -> Result<(), Fail> {
     Ok(())
 }
 
-// Two files are created, so the first has to be opened again, and somebody removed it.
+// Two files are created, so the first has to be opened again, and it was removed in between.
 fn expect_removed<R: Files + AllocGlobal + Abort>(rt: &R) -> Result<(), Fail> {
     let mut folder = DiskFolder::new(rt, rt.alloc());
     assert!(rt; folder.create("outside_removed/to").is_ok());
@@ -114,7 +114,7 @@ fn expect_removed<R: Files + AllocGlobal + Abort>(rt: &R) -> Result<(), Fail> {
     Ok(())
 }
 
-// A write makes no file again.
+// A write doesn't make a file again.
 #[test]
 fn a_removed_file(rt: HostRuntime) -> Result<(), Fail> {
     prepare(&rt, "outside_removed", "outside_removed/from")?;
@@ -124,7 +124,8 @@ fn a_removed_file(rt: HostRuntime) -> Result<(), Fail> {
     Ok(())
 }
 
-// A name is noted before its file is made, so where this fails bytes may go to a file of this name.
+// A name is noted before its file is made, so where making it fails, bytes may go to a file of this
+// name.
 fn expect_noted_first<R: Files + AllocGlobal + Abort>(rt: &R) -> Result<(), Fail> {
     let mut folder = DiskFolder::new(rt, rt.alloc());
     assert!(rt; folder.create("outside_noted/new/to").is_err());
@@ -225,7 +226,7 @@ fn a_shaky_file(rt: HostRuntime) -> Result<(), Fail> {
     Ok(())
 }
 
-// Whether the device is no file that can be found, and wasn't opened either: to open a pipe may block.
+// Whether the device is no file that can be found, and wasn't opened either: opening a pipe may block.
 fn is_left_closed<R: Files>(files: &Shaky<R>, alloc: Global) -> bool {
     let mut folder = DiskFolder::new(files, alloc);
     folder.find("/dev/null") == Err(FindFault::Failed) && files.opens.get() == 0
@@ -249,7 +250,7 @@ fn is_sent_as<W: Write + Drop>(
     sink.write(bytes) == answer
 }
 
-// The second write, the third write, the second flush, and what goes well.
+// The second write, the third write, the second flush, and what succeeds.
 fn are_sends_shaky<W: Write + Drop>(sink: &mut StdSink<W>) -> bool {
     is_sent_as(sink, b"abc", Ok(2))
         && is_sent_as(sink, b"c", Err(Failed))
@@ -262,7 +263,7 @@ fn expect_over_stream(rt: &impl Abort, notes: &mut Notes) {
     assert!(rt; are_sends_shaky(&mut sink));
 }
 
-// Each of the writes that move bytes, and that whose flush fails, is followed by one flush.
+// Each of the writes that move bytes, and the write whose flush fails, is followed by one flush.
 fn are_noted(notes: &Notes) -> bool {
     notes.bytes.as_slice() == b"abcde".as_slice() && notes.moves.calls == 5 && notes.flushes == 3
 }

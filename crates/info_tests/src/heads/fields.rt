@@ -71,7 +71,7 @@ fn heads_without_a_table(rt: HostRuntime) {
     }
 }
 
-/// Text, flags, two frames, 729 bytes, the table, quality 100, and an extension of 36 times 55 (hex) with 44 more bytes behind it.
+/// Text, flags, two frames, 729 bytes, the table, quality 100, and an extension of 36 times 55 (hex), followed by 44 more bytes.
 static WHOLE: [Stretch; 4] = [
     Bytes(b"Xing\0\0\0\x0f\0\0\0\x02\0\0\x02\xd9"),
     Fill(7, 100),
@@ -79,7 +79,7 @@ static WHOLE: [Stretch; 4] = [
     Fill(0x55, 80),
 ];
 
-/// What that head says, with this extension.
+/// The fields of that head, with this extension.
 fn whole_with(extension: [u8; 36]) -> Info {
     Info {
         vbr: true,

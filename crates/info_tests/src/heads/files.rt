@@ -19,7 +19,7 @@ const LOW_80: [u8; 4] = [0xff, 0xf3, 0x94, 0xc0];
 
 const LOW_8: [u8; 4] = [0xff, 0xf3, 0x14, 0xc0];
 
-/// The frames of a file, and what its Info frame says.
+/// The frames of a file, and the fields of its Info frame.
 struct Case {
     frames: &'static [[u8; 4]],
     vbr: bool,
@@ -75,7 +75,7 @@ fn is_count(said: Option<u32>, count: usize) -> bool {
     }
 }
 
-/// Whether the Info frame says what the case wants.
+/// Whether the Info frame has the fields of the case.
 fn says(info: &Info, case: &Case) -> bool {
     let Some(table) = info.table else {
         return false;

@@ -1,4 +1,4 @@
-//! Info frames. Lengths and areas are those of the standard's rates and frequencies, worked out by hand.
+//! Info frames. Lengths and areas follow from the standard's rates and frequencies, worked out by hand.
 
 use arrayvec::ArrayVec;
 use frame_header::Header;
@@ -20,7 +20,7 @@ struct Case {
 
 static CASES: [Case; 18] = table! {
     Case { header, rate_index, padding, length }
-    // MPEG-1, two channels: 36 bytes before the area, so 192 bytes at least.
+    // MPEG-1, two channels: 36 bytes before the area, so at least 192 bytes.
     ([0xff, 0xfb, 0x90, 0x00], 5, false, 208)
     ([0xff, 0xfb, 0x94, 0x00], 5, false, 192)
     ([0xff, 0xfb, 0x98, 0x00], 3, false, 216)
@@ -95,7 +95,7 @@ fn is_before_two(alloc: Global, first: &Header, bytes: &[u8]) -> Result<bool, Al
 
 #[test]
 fn a_frame_before_two_frames_of_128_kbit(rt: HostRuntime) -> Result<(), Fail> {
-    // The first of them has a check word; the Info frame has none.
+    // The first of the frames has a check word; the Info frame has none.
     let first = Header::read([0xff, 0xfa, 0x90, 0x00])?;
     let info = Info {
         vbr: false,

@@ -14,10 +14,11 @@ use test_files::files::Stretch::{Bytes, Fill};
 use test_files::files::{Stretch, bytes_of};
 use test_files::table;
 
-/// MPEG-1, 128 kbit/s at 44,100 Hz in two channels: 417 bytes, of which 4 and 32 are before the area.
+/// MPEG-1, 128 kbit/s at 44,100 Hz in two channels: 417 bytes, the first 4 and 32 of which are before
+/// the area.
 const PLAIN: [u8; 4] = [0xff, 0xfb, 0x90, 0x00];
 
-/// At 64 kbit/s 208 bytes, and at 128 kbit/s 417, or with padding 418.
+/// 208 bytes at 64 kbit/s, 417 at 128 kbit/s, and 418 with padding.
 const RATE_64: Slot = Slot {
     rate_index: 5,
     padding: false,
@@ -30,7 +31,7 @@ const RATE_128: Slot = Slot {
 
 const EXTENSION: [u8; 36] = *b"LAME3.100 and 27 bytes more, in all.";
 
-/// Whether the Info frame says two frames and `bytes` bytes.
+/// Whether the Info frame has the counts of two frames and `bytes` bytes.
 fn has_counts(info: &Info, vbr: bool, bytes: u32) -> bool {
     info.vbr == vbr && info.frames == Some(2) && info.bytes == Some(bytes)
 }
@@ -119,7 +120,7 @@ static CASES: [Case; 4] = table! {
         Kept { quality: None, extension: [0; 36] })
 };
 
-/// What is kept of the head of the file `a`; none where it has no survey.
+/// What is kept of the head of the file `a`; `None` where the file has no survey.
 fn kept_of<D: Folder>(alloc: Global, folder: &mut D) -> Option<Result<Kept, PassFault>> {
     let Ok(survey) = survey(alloc, folder, "a", 100) else {
         return None;
@@ -152,7 +153,7 @@ fn heads(rt: HostRuntime) -> Result<(), Fail> {
     Ok(())
 }
 
-/// Whether something is kept of the head of the file `a`; none where it has no survey.
+/// Whether something is kept of the head of the file `a`; `None` where the file has no survey.
 fn answer_of<D: Folder>(alloc: Global, folder: &mut D) -> Option<Result<(), PassFault>> {
     match kept_of(alloc, folder)? {
         Ok(_) => Some(Ok(())),
@@ -171,7 +172,7 @@ fn answer_in(
     Ok(answer_of(alloc, folder))
 }
 
-/// The same where this read fails.
+/// Whether something is kept where this read fails.
 fn answer_where_it_fails(
     alloc: Global,
     file: &[u8],
@@ -181,7 +182,8 @@ fn answer_where_it_fails(
     answer_in(alloc, &mut folder, file, number)
 }
 
-/// Whether a read that fails is told: those of the survey, then the one of the head, and then there are no more.
+/// Whether each read that fails is reported: the reads of the survey, then the one of the head, and then there
+/// are no more.
 fn are_told(alloc: Global, file: &[u8]) -> Result<bool, AllocError> {
     let mut is_refused = false;
     for number in 1..10 {
@@ -200,7 +202,7 @@ fn are_told(alloc: Global, file: &[u8]) -> Result<bool, AllocError> {
     Ok(is_refused)
 }
 
-/// Lets each read fail in turn.
+/// Makes each read fail in order.
 #[test]
 fn reads_that_fail(rt: HostRuntime) -> Result<(), Fail> {
     let file = bytes_of(rt.alloc(), CASES[0].file)?;

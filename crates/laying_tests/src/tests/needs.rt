@@ -13,12 +13,12 @@ use sync_survey::{Survey, survey};
 use test_files::files::{Stretch, bytes_of};
 use test_files::table;
 
-/// The bit rate index of 128 kbit/s, and that of 32.
+/// The bit rate index of 128 kbit/s, and the index of 32.
 const OWN: u8 = 9;
 
 const LEAST: u8 = 1;
 
-/// A lost frame, one with 301 bytes of main data, and one with 400 that begin right after them.
+/// A lost frame, one with 301 bytes of main data, and one with 400 that begin right after those.
 static FILE: [Stretch; 3] = [
     Stretch::Frame(10, 800),
     Stretch::Frame(0, 2401),
@@ -57,7 +57,7 @@ fn plan_between<R: Abort + AllocGlobal>(
 /// A frame of a plan: whether it is a lead-in, its bit rate index, and its main_data_begin in bytes.
 struct Planned(bool, u8, u16);
 
-/// The frames from one up to the end, and their plan.
+/// The frames from this one to the end, and their plan.
 struct Case {
     from: usize,
     placed: &'static [Planned],
@@ -65,7 +65,7 @@ struct Case {
 
 static CASES: [Case; 3] = table! {
     Case { from, placed }
-    // The lost frame has no main data, so those of the next one begin in its area, and so on.
+    // The lost frame has no main data, so the next frame's begin in its area, and so on.
     (0, &[Planned(false, OWN, 0), Planned(false, OWN, 381), Planned(false, OWN, 461)])
     (1, &[Planned(false, OWN, 0), Planned(false, OWN, 80)])
     // 19 bytes are missing: a lead-in with an area of 68.
@@ -125,14 +125,14 @@ fn parts_of_a_file(rt: HostRuntime) -> Result<(), Fail> {
     Ok(())
 }
 
-/// Whether the parts need these bytes in the slots that the frames have.
+/// Whether the parts need these numbers of bytes in the slots that the frames have.
 fn are_needed(needs: &[Need], bytes: &[u32]) -> bool {
     needs.len() == bytes.len()
         && needs.iter().zip(bytes).all(|(need, wanted)| need.bytes == *wanted
             && need.header.slot.rate_index == OWN)
 }
 
-/// Two parts, of which the second has one frame.
+/// Two parts, the second with one frame.
 #[test]
 fn two_parts(rt: HostRuntime) -> Result<(), Fail> {
     let survey = survey_of_file(&rt)?;

@@ -1,5 +1,5 @@
 //! Parts of one frame worked out by hand: frames of MPEG-1, 44,100 Hz and 128 kbit/s in two channels have 417 bytes and an area of
-//! 381 (ISO/IEC 11172-3, 2.4.3.1), a lead-in at 32 kbit/s 104 and an area of 68.
+//! 381 (ISO/IEC 11172-3, 2.4.3.1), a lead-in at 32 kbit/s 104 bytes and an area of 68.
 ghost use Rattle.std.specs.Prelude.{◌<◌};
 
 use cut_edits::{Chosen, plan_file};
@@ -29,18 +29,18 @@ const BLOCKS: &[Stretch] = &end_to_end! {
     SHORT_BLOCK, ID3V1, LAST_REST
 };
 
-/// The header of an Info frame: of the bit rates 64 kbit/s is the lowest whose frames, of 208 bytes, hold its 192 bytes.
+/// The header of an Info frame: 64 kbit/s is the lowest bit rate whose frames, of 208 bytes, hold its 192 bytes.
 const INFO_HEADER: Stretch = Bytes(&[0xff, 0xfb, 0x50, 0x00]);
 
-/// The text of the Info frame of one frame at byte 36, that all four fields are there, how many frames follow, and how many bytes there
+/// The text of the Info frame of one frame at byte 36, the flags of all four fields, how many frames follow, and how many bytes there
 /// are with the Info frame: 208 and 417.
 const ONE_FRAME: Stretch = Bytes(b"Info\x00\x00\x00\x0f\x00\x00\x00\x01\x00\x00\x02\x71");
 
-/// The same of a lead-in and a frame, 208, 104 and 417 bytes, whose bit rates differ.
+/// The same for a lead-in and a frame, 208, 104 and 417 bytes, whose bit rates differ.
 const TWO_FRAMES: Stretch = Bytes(b"Xing\x00\x00\x00\x0f\x00\x00\x00\x02\x00\x00\x02\xd9");
 
-/// The same blocks, around an Info frame and the first frame, whose area has zeros after its main data. The seek table has where the
-/// frame begins, in 256ths of all bytes: 208 * 256 / 625 is 85.
+/// The same blocks, around an Info frame and the first frame, whose area has zeros after its main data. The seek table says where
+/// the frame begins, in 256ths of all bytes: 208 * 256 / 625 is 85.
 const FIRST: &[Stretch] = &end_to_end! {
     LONG_BLOCK, Fill(0x44, 3000), Fill(0x55, 4000),
     INFO_HEADER, Fill(0, 32), ONE_FRAME, Fill(85, 100), Fill(0, 56),
@@ -48,8 +48,8 @@ const FIRST: &[Stretch] = &end_to_end! {
     SHORT_BLOCK, ID3V1, LAST_REST
 };
 
-/// Main data of 300 bytes, and of 400 that begin right after them, 81 bytes before the second area. Of the side information
-/// main_data_begin is the first 9 bits, and how many bits the first channel's main data have is in the 21st to the 32nd.
+/// Main data of 300 bytes, and of 400 that begin right after them, 81 bytes before the second area. main_data_begin is the
+/// first 9 bits of the side information, and the number of bits of the first channel's main data is in its bits 21 to 32.
 const TWO: &[Stretch] = &end_to_end! {
     OF_300, Fill(0x11, 300), Fill(0x22, 81),
     OF_400, Fill(0x22, 319), Fill(0x33, 62)
@@ -138,8 +138,8 @@ fn expect_output<R: Abort + AllocGlobal>(
     Ok(())
 }
 
-/// It owns the folder and ends in one place, and all else borrows it: at each end of the owner the folder is let go, which costs the
-/// check much.
+/// Owns the folder and ends in one place; everything else borrows it: at each end of its owner the folder is dropped, which costs
+/// the check much.
 fn expect_case<R: Abort + AllocGlobal>(rt: &R, case: &Case) -> Result<(), AllocError> {
     let mut folder = MemFolder::new(rt.alloc());
     expect_output(rt, &mut folder, case)

@@ -8,7 +8,7 @@ use std::alloc::Global;
 use std::process::Abort;
 use std::test::Fail;
 
-// What a `fill` asks for, what it answers, and how many reads there were by then.
+// What a `fill` asks for, what it returns, and how many reads there were by then.
 struct Case {
     at: u64,
     n: usize,
@@ -23,12 +23,13 @@ macro_rules! cases {
     };
 }
 
-// Whether so many bytes of the file are given, or none where a read failed.
+// Whether the wanted number of the file's bytes are there, or none where a read failed.
 fn are_given(bytes: &[u8], case: &Case) -> bool {
     bytes.len() == case.answer.unwrap_or(0) && stand_at(bytes, case.at)
 }
 
-// What a call of `fill` answered, the bytes that were there then, and the reads by then.
+// Whether a call of `fill` returned what is wanted, with the wanted bytes there and the wanted
+// number of reads made by then.
 fn is_filled(filled: Result<usize, Failed>, bytes: &[u8], reads: u64, case: &Case) -> bool {
     filled == case.answer && are_given(bytes, case) && reads == case.reads
 }
@@ -56,7 +57,7 @@ fn expect_none(rt: &impl Abort, feed: &Feed) {
     assert!(rt; feed.bytes().is_empty());
 }
 
-// A new feed gives no bytes, and none once it is cleared.
+// Expects that a new feed has no bytes, and none once it is cleared.
 fn expect_fed(
     rt: &impl Abort,
     alloc: Global,
@@ -92,7 +93,8 @@ fn a_feed_over_short_reads(rt: HostRuntime) -> Result<(), Fail> {
     expect_fed(&rt, rt.alloc(), &mut folder, &BY_SHORT_READS, &[])
 }
 
-// Reads as long as they are asked for: one for the first 65,536 bytes, and one for those after.
+// Reads of the length that is asked for: one for the first 65,536 bytes, and one for the bytes
+// after those.
 static BY_LONG_READS: [Case; 4] = cases! {
     1 at 1: Ok(1), 1 reads;
     4096 at 61_441: Ok(4096), 1 reads;
@@ -142,7 +144,7 @@ static PIECES: [Piece; 4] = [
     },
 ];
 
-// Two bytes once more, of which the eighth write fails.
+// Two bytes again, whose write, the eighth, fails.
 static AGAIN: Piece = Piece {
     from: 0,
     to: 2,
@@ -165,7 +167,7 @@ fn push(
     );
 }
 
-// Nothing waits after that, where it failed either.
+// Expects that nothing waits after the end, even where that failed.
 fn finish(
     rt: &impl Abort,
     buffer: &mut WriteBuffer,

@@ -5,7 +5,7 @@ use outside::{ReadFault, read_exact};
 use std::process::Abort;
 use std::test::Fail;
 
-/// A reading of 20 bytes from `at` on, of a file that was found with `found` bytes, what it answers, and how many reads there
+/// A reading of 20 bytes from `at` on, of a file that was found with `found` bytes, what it returns, and how many reads there
 /// were by then.
 struct Reading {
     found: u64,
@@ -14,7 +14,8 @@ struct Reading {
     reads: u64,
 }
 
-/// The second reading begins where 10 bytes are left, and of the third the second read fails.
+/// The second reading begins where 10 bytes are left, and the second read of the third reading
+/// fails.
 static READINGS: [Reading; 3] = [
     Reading {
         found: 100,
@@ -36,7 +37,8 @@ static READINGS: [Reading; 3] = [
     },
 ];
 
-/// Whether this was answered with so many reads, and the bytes where they were given.
+/// Whether this was returned after the wanted number of reads, with the right bytes where there are
+/// any.
 fn is_read(answer: &Result<(), ReadFault>, reads: u64, bytes: &[u8], reading: &Reading) -> bool {
     *answer == reading.answer
         && reads == reading.reads

@@ -23,7 +23,7 @@ fn expect_pushed(
     );
 }
 
-// The same once what waits is sent too, or was to be.
+// Asserts the same once what waits is sent too, or should have been.
 fn expect_finished(
     rt: &impl Abort,
     buffer: &mut SendBuffer,
@@ -51,7 +51,8 @@ fn expect_pieces(rt: &impl Abort, alloc: Global, sink: &mut MemSink) -> Result<(
     Ok(())
 }
 
-// Bytes that fit wait. Others are added once what waits was sent, or are sent too where they are more than the buffer holds.
+// Bytes that fit wait. Other bytes are added once what waited was sent, or are sent too where they are more than the buffer
+// holds.
 #[test]
 fn pieces_wait_and_are_sent(rt: HostRuntime) -> Result<(), Fail> {
     let mut sink = MemSink::new(rt.alloc());
@@ -70,7 +71,7 @@ fn expect_failed(rt: &impl Abort, alloc: Global, sink: &mut MemSink) -> Result<(
     Ok(())
 }
 
-// The second write fails: what waited before it is there, and nothing else.
+// The second write fails: what waited before it was sent, and nothing else.
 #[test]
 fn a_write_behind_the_buffer_fails(rt: HostRuntime) -> Result<(), Fail> {
     let mut sink = MemSink::new(rt.alloc());

@@ -16,7 +16,8 @@ impl Calls {
     }
 }
 
-/// A folder of one file, which gives and takes at most `most` bytes at a time. It tells nothing.
+/// A folder of one file, which gives and takes at most `most` bytes at a time. Its contents aren't
+/// known.
 #[derive(Drop)]
 pub struct Slow {
     pub content: Vec<u8>,
@@ -41,7 +42,7 @@ impl Slow {
     }
 }
 
-/// The byte that the file has at this place: no two places less than 251 apart have the same.
+/// The byte that the file has at this place: it differs at any two places less than 251 apart.
 pub fn byte_at(place: usize) -> u8 {
     (place % 251) as u8
 }

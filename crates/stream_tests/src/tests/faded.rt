@@ -11,8 +11,8 @@ use sync_survey::SurveyFault;
 use test_files::frames::{Frame, G, file_of};
 use test_files::{frame, table};
 
-// G with other gains, by the bytes of the side information in which they are: two for each channel of the first granule, one and two
-// for those of the second.
+// G with other gains, given by the bytes of the side information that hold them: two for each channel of the first granule, one and
+// two for the channels of the second.
 macro_rules! at {
     ($a:literal, $b:literal, $c:literal, $d:literal, $e:literal, $f:literal, $g:literal) => {
         frame! {
@@ -27,25 +27,25 @@ macro_rules! at {
 /// All four gains are 100.
 const AT_100: Frame = at!(0x32, 0x00, 0x06, 0x40, 0xc8, 0x19, 0x00);
 
-/// All are 99.
+/// All four are 99.
 const AT_99: Frame = at!(0x31, 0x80, 0x06, 0x30, 0xc6, 0x18, 0xc0);
 
-/// All are 98.
+/// All four are 98.
 const AT_98: Frame = at!(0x31, 0x00, 0x06, 0x20, 0xc4, 0x18, 0x80);
 
-/// All are 97.
+/// All four are 97.
 const AT_97: Frame = at!(0x30, 0x80, 0x06, 0x10, 0xc2, 0x18, 0x40);
 
-/// All are 94.
+/// All four are 94.
 const AT_94: Frame = at!(0x2f, 0x00, 0x05, 0xe0, 0xbc, 0x17, 0x80);
 
-/// All are 90.
+/// All four are 90.
 const AT_90: Frame = at!(0x2d, 0x00, 0x05, 0xa0, 0xb4, 0x16, 0x80);
 
 static FLAT: [Frame; 4] = [AT_100, AT_100, AT_100, AT_100];
 
 /// The input, the output and the sheet of a fade, the sheet's text, and the frames of the faded file or why the fade is refused. `in`
-/// holds four frames, `s` the text, `long` 65,537 bytes, and nothing else is there.
+/// holds four frames, `s` the text, `long` 65,537 bytes, and there is no other file.
 struct Fade {
     input: &'static str,
     output: &'static str,
@@ -98,7 +98,7 @@ fn comes_back(alloc: Global, folder: &mut MemFolder, row: &Fade, file: &[u8]) ->
     fade(alloc, folder, "out", "back", row.sheet, true) == Ok(()) && has(folder, "back", file)
 }
 
-/// Whether the fade is done and can be taken back, or it is refused and its output isn't there.
+/// Whether the fade is done and can be undone, or it is refused and its output isn't there.
 fn is_answered(
     alloc: Global,
     folder: &mut MemFolder,
@@ -129,7 +129,7 @@ fn fades(alloc: Global, row: &Fade) -> Result<bool, AllocError> {
     fades_in(alloc, &mut folder, row)
 }
 
-/// Each frame moves by its own steps and back, and nothing is created where the first fault is told.
+/// Each frame moves by its own steps and back, and nothing is created where the fade is refused.
 #[test]
 fn fades_and_refusals(rt: HostRuntime) -> Result<(), Fail> {
     for (number, row) in FADES.iter().enumerate() {

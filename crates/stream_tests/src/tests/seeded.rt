@@ -1,4 +1,4 @@
-//! Streams made from a seed. Their bytes are those of a program in another language that follows the rules of the generator.
+//! Streams made from a seed. Their bytes are from a program in another language that follows the rules of the generator.
 
 use commands::EditFault;
 use drill::{StreamFault, Summary, drill, send_summary, stream_folder, write_stream};
@@ -18,8 +18,8 @@ fffb900000000034004b80000000342007f0000000030800dc000000016c801dc000000014363d1f
 3a083435183c171c013b2d310e0f301907011b2f333d11001d250d0d2b330d3e1e0f3e262834263a
 310313112824071b0a20";
 
-/// The header, the side information and four bytes of the own area of the three frames that the seed 5 gives. Their main data begin
-/// 0, 168 and 387 bytes before their own area.
+/// The header, the side information and the first four bytes of the own area of each of the three frames that the seed 5 gives.
+/// Their main data begin 0, 168 and 387 bytes before their own area.
 static FRONTS: &str = "\
 fffb90000000015700608000000008000a400000000ae400d000000001290029c00000003c281d2c
 fffb9000540002540045000000002b600ae0000000034000ec00000000480020800000001e301c2f
@@ -35,7 +35,7 @@ fn is_first(alloc: Global, stream: &[u8]) -> Result<bool, TextFault> {
     )
 }
 
-/// A number made of all bytes, each of which changes it.
+/// A number made from all bytes, each of which changes it.
 fn hash_of(bytes: &[u8]) -> u32 {
     bytes.iter().fold(0, |hash: u32, byte| {
         hash.wrapping_mul(31).wrapping_add(u32::from(*byte))
@@ -69,7 +69,7 @@ fn write(
     Ok(write_stream(alloc, seed, count, folder, "s"))
 }
 
-/// The bytes of the file `s`, in a vector of their own.
+/// The bytes of the file `s`, in a new vector.
 fn written(alloc: Global, folder: &MemFolder) -> Result<Vec<u8>, AllocError> {
     let mut stream = Vec::new(alloc);
     stream.extend_from_slice(folder.get("s").unwrap_or(&[]))?;
@@ -119,7 +119,8 @@ fn has_bytes(folder: &MemFolder, count: usize) -> bool {
     folder.get("s").unwrap_or(&[]).len() == count
 }
 
-/// Whether a stream of 200 frames ends at its second write, with what the first wrote.
+/// Whether writing a stream of 200 frames fails at the second write, and what the first wrote is
+/// there.
 fn fails_at_the_second_write(alloc: Global, folder: &mut MemFolder) -> Result<bool, AllocError> {
     folder.fail(Call::Write, 2)?;
     let is_refused = write(alloc, folder, 1, 200)? == Err(StreamFault::Write);
@@ -141,7 +142,7 @@ fn has_line(sink: &MemSink) -> bool {
     sink.sent() == LINE
 }
 
-/// Whether the line about the packed stream is sent, and then has no room.
+/// Whether the line about the packed stream is sent, and has no room the second time.
 fn drills_once(alloc: Global, sink: &mut MemSink) -> bool {
     drill(alloc, 1, 1, sink) == Ok(())
         && has_line(sink)

@@ -17,7 +17,7 @@ struct Case {
     lost: &'static [bool],
 }
 
-/// By the standard no frame of these is lost.
+/// Files in which no frame is lost by the standard.
 static WITH_HEAD: [Case; 7] = table! {
     Case { name, file, lost }
     ("the first frame begins in the head", &[Frames(&[HEAD]), Frame(1, 2400)], &[true])
@@ -29,7 +29,7 @@ static WITH_HEAD: [Case; 7] = table! {
     ("a frame with bits before it", &[Frames(&[HEAD]), Frame(0, 8), Frame(380, 8)], &[false, false])
 };
 
-/// The frames that are lost are so with their own areas alone.
+/// The frames that are lost are also lost with their own areas alone.
 static WITHOUT_HEAD: [Case; 3] = table! {
     Case { name, file, lost }
     ("the first frame", &[Frame(1, 2400), Frame(0, 8)], &[true, false])
@@ -84,7 +84,7 @@ fn are_emptied(before: &[Row], after: &[Row]) -> bool {
     place == after.len()
 }
 
-/// The frames, copied.
+/// A copy of the frames.
 fn rows_of(alloc: Global, survey: &Survey) -> Result<Vec<Row>, AllocError> {
     let mut rows = Vec::new(alloc);
     rows.extend_from_slice(survey.frames())?;
@@ -125,8 +125,8 @@ fn a_file_without_a_head(rt: HostRuntime) -> Result<(), Fail> {
     Ok(())
 }
 
-/// Of a frame that is neither silent nor lost the survey of no file without fault has a later one that begins in the head. With
-/// such a one in its place the next frame, which points into the head, isn't lost.
+/// In the survey of a file without fault, no frame after one that is neither silent nor lost begins in the head. With such a
+/// one in place of the first frame, the next frame, which points into the head, isn't lost.
 #[test]
 fn a_frame_with_bits_stops_it(rt: HostRuntime) -> Result<(), Fail> {
     let mut survey = surveyed(rt.alloc(), WITH_HEAD[2].file)?.ok_or("no survey")?;

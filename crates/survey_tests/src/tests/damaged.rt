@@ -14,7 +14,7 @@ use test_files::frames::{Frame, HEAD, OVERFULL, PROTECTED_G, PROTECTED_HEAD, PRO
 /// A damaged file, and what is read of it.
 struct Case {
     file: &'static [Stretch],
-    /// The offsets of the frames, and which of them become empty ones.
+    /// The offsets of the frames, and whether each becomes an empty one.
     frames: &'static [(u64, bool)],
     gaps: &'static [Gap],
     /// The offsets of the blocks.
@@ -23,12 +23,14 @@ struct Case {
     head: Option<u64>,
 }
 
-/// Two frames: the main data of the second begin 81 bytes before its own area, in that of the first.
+/// Two frames: the main data of the second begin 81 bytes before its own area, in the area of the
+/// first.
 const FIRST: Stretch = Stretch::Frame(0, 2400);
 
 const SECOND: Stretch = Stretch::Frame(81, 3200);
 
-/// The first frame's third byte is 00, so that its main data are lost to the second.
+/// The first frame's third byte is 00, so the main data of the second frame that are in the first
+/// are lost.
 static NO_FIRST: Case = Case {
     file: &[Bytes(&[0xff, 0xfb, 0x00, 0x00]), Fill(0, 413), SECOND],
     frames: &[(417, true)],
@@ -40,7 +42,7 @@ static NO_FIRST: Case = Case {
     head: None,
 };
 
-/// The second frame has one byte less.
+/// The second frame is one byte short.
 static TRUNCATED: Case = Case {
     file: &[FIRST, Bytes(&[0xff, 0xfb, 0x90, 0x00]), Fill(0, 412)],
     frames: &[(0, false)],
@@ -111,7 +113,7 @@ static BLOCK_IN_GAP: Case = Case {
     head: None,
 };
 
-/// With a wrong check word.
+/// G with a check word that is wrong.
 const WRONG_G: Frame = frame! { word: Some(0x11a3), ..PROTECTED_G };
 
 /// A protected frame whose check word is wrong.
@@ -143,8 +145,8 @@ static HEADS: Case = Case {
     head: Some(49),
 };
 
-/// The second frame begins one byte before the end of the first's main data, and moves no end: the third
-/// begins there. More bits than its own area has are in the fourth.
+/// The second frame begins one byte before the end of the first frame's main data, and doesn't move that
+/// end: the third begins there. The fourth has more bits than its own area.
 static UNSOUND: Case = Case {
     file: &[
         FIRST,
@@ -170,7 +172,7 @@ const SHORT: Frame =
 
 const SHORT_BACK: Frame = frame! { side: &[11], ..SHORT };
 
-/// A frame of MPEG-1 between such frames isn't one of the stream's.
+/// A frame of MPEG-1 between such frames isn't part of the stream.
 static MPEG_2: Case = Case {
     file: &[
         Frames(&[SHORT, SHORT_BACK]),
@@ -205,7 +207,7 @@ const SLOW: Frame =
 const SLOW_PROTECTED: Frame =
     frame! { header: [0xff, 0xe2, 0x18, 0xc0], word: Some(0x11d2), ..SLOW };
 
-/// With a wrong one.
+/// The same frame with a wrong check word.
 const SLOW_WRONG: Frame = frame! { word: Some(0x11d3), ..SLOW_PROTECTED };
 
 static MPEG_2_5: Case = Case {
@@ -259,7 +261,7 @@ fn same_blocks(blocks: &[Piece], wanted: &[u64]) -> bool {
             .all(|(block, at)| block.offset == *at)
 }
 
-/// Whether what is read of the case's file is what is wanted.
+/// Whether the case's file is read as wanted.
 fn holds(alloc: Global, case: &Case) -> Result<bool, AllocError> {
     let Ok(damaged) = read(alloc, case.file)? else {
         return Ok(false);
@@ -304,7 +306,7 @@ fn other_versions(rt: HostRuntime) -> Result<(), Fail> {
     expect(&rt, rt.alloc(), &MPEG_2_5)
 }
 
-/// Whether nothing is read of the file for want of a frame.
+/// Whether nothing is read of the file because it has no frame.
 fn is_without_frame(alloc: Global, parts: &[Stretch], front_end: u64) -> Result<bool, AllocError> {
     Ok(match read(alloc, parts)? {
         Ok(_) => false,

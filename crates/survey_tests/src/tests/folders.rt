@@ -1,4 +1,5 @@
-//! The survey of a file of a folder: what it says of a well-formed file, and what a folder may do to it.
+//! The survey of a file of a folder: what it finds in a well-formed file, and what a folder may do to
+//! it.
 
 use super::untold::Untold;
 use frame_header::{Class, Version};
@@ -60,7 +61,7 @@ fn has_head(head: Option<Head>) -> bool {
     }
 }
 
-/// The survey of the file of two frames at most, where there is one.
+/// The survey of the file, with at most two frames allowed, where there is one.
 fn surveyed(alloc: Global, parts: &[Stretch]) -> Result<Option<Survey>, AllocError> {
     let file = bytes_of(alloc, parts)?;
     let mut folder = MemFolder::new(alloc);
@@ -81,7 +82,7 @@ fn a_song(rt: HostRuntime) -> Result<(), Fail> {
     Ok(())
 }
 
-/// The fault that a survey of a file of at most `allowed` frames finds, where there is one.
+/// The fault that a survey with `allowed` frames allowed finds, where there is one.
 fn fault_of<D: Folder>(
     alloc: Global,
     folder: &mut D,
@@ -144,7 +145,8 @@ fn outcome_where_it_fails(
     outcome_in(alloc, &mut folder, file, kind, number)
 }
 
-/// Lets the calls of a kind fail in turn, until a survey makes fewer; answers how many it makes, where each is told.
+/// Makes the calls of a kind fail in order, until a survey makes fewer; returns how many it makes, where each
+/// failure is reported.
 fn told_in_turn(alloc: Global, file: &[u8], kind: Call) -> Result<Option<u64>, AllocError> {
     for number in 1..10 {
         let outcome = outcome_where_it_fails(alloc, file, kind, number)?;
@@ -167,8 +169,8 @@ fn calls_that_fail(rt: HostRuntime) -> Result<(), Fail> {
     Ok(())
 }
 
-/// The length with which a file is found, its bytes, the fault, and how many reads there are: of 65,536 bytes at most, up to one that
-/// gives none.
+/// The length with which a file is found, its bytes, the fault, and how many reads there are: each of at most 65,536 bytes, up to one
+/// that gives none.
 struct Ending {
     found: u64,
     file: &'static [Stretch],
@@ -182,11 +184,11 @@ static ENDINGS: [Ending; 5] = table! {
     (1, &[], SurveyFault::Shrunk(1, 0), 1)
     (200_000, &[Fill(0, 150_000)], SurveyFault::Shrunk(200_000, 150_000), 4)
     (4, &[Fill(0, 5)], SurveyFault::NoFrame(4), 1)
-    // It is too long.
+    // A file that is too long.
     (1_073_741_825, &[], SurveyFault::TooLong(1_073_741_825), 0)
 };
 
-/// Whether the survey finds its fault with so many reads.
+/// Whether the survey finds its fault after the wanted number of reads.
 fn ends_early(alloc: Global, ending: &Ending) -> Result<bool, AllocError> {
     let file = bytes_of(alloc, ending.file)?;
     let mut folder = Untold::new(ending.found, &file, &file);

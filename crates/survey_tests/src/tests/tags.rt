@@ -29,10 +29,10 @@ const TITLE: &[u8] =
 const EMPTY: &[u8] =
     b"APETAGEX\xd0\x07\0\0\x20\0\0\0\0\0\0\0\0\0\0\xa0\0\0\0\0\0\0\0\0APETAGEX\xd0\x07\0\0\x20\0\0\0\0\0\0\0\0\0\0\x80\0\0\0\0\0\0\0\0";
 
-/// The same as a stretch.
+/// `EMPTY` as a stretch.
 const EMPTY_BLOCK: Stretch = Bytes(EMPTY);
 
-/// `TITLE`, with two items by its header.
+/// `TITLE` with a header that says two items.
 const TWO_ITEMS: Stretch = Bytes(
     b"APETAGEX\xd0\x07\0\0\x2f\0\0\0\x02\0\0\0\0\0\0\xa0\0\0\0\0\0\0\0\0\x01\0\0\0\0\0\0\0Title\0xAPETAGEX\xd0\x07\0\0\x2f\0\0\0\x01\0\0\0\0\0\0\x80\0\0\0\0\0\0\0\0",
 );
@@ -76,7 +76,7 @@ fn tag_of<D: Folder>(alloc: Global, folder: &mut D) -> Result<Found, NoTag> {
     }
 }
 
-/// Why no tag of the file `a` is read, where none is.
+/// Why no tag of the file `a` is read; `None` where one is.
 fn no_tag_of<D: Folder>(alloc: Global, folder: &mut D) -> Option<NoTag> {
     match tag_of(alloc, folder) {
         Ok(_) => None,
@@ -84,8 +84,8 @@ fn no_tag_of<D: Folder>(alloc: Global, folder: &mut D) -> Option<NoTag> {
     }
 }
 
-/// APEv2 without items by its header, of the longest size that may be, and of one byte more: 1,048,544 and 1,048,545 bytes
-/// after the header's 32.
+/// APEv2 without items by its header, with the greatest size that is allowed, and with one byte more: 1,048,544 and
+/// 1,048,545 bytes after the header's 32.
 const LONGEST_HEADER: Stretch = Bytes(
     b"APETAGEX\xd0\x07\0\0\xe0\xff\x0f\0\0\0\0\0\0\0\0\xa0\0\0\0\0\0\0\0\0",
 );
@@ -97,7 +97,7 @@ const TOO_LONG_HEADER: Stretch = Bytes(
 /// Where the tag of a file is, its length, and its bytes.
 type Tagged = (u64, u64, &'static [u8]);
 
-/// A file, and its tag, or why that isn't read.
+/// A file, and its tag, or why the tag isn't read.
 struct Case {
     name: &'static str,
     parts: &'static [Stretch],
@@ -142,7 +142,7 @@ fn is_answer<D: Folder>(
     }
 }
 
-/// The name of the first case that is answered otherwise.
+/// The name of the first case with another result.
 fn first_wrong(alloc: Global, folder: &mut MemFolder) -> Result<&'static str, AllocError> {
     for case in &CASES {
         put_parts(alloc, folder, case.parts)?;
@@ -209,7 +209,7 @@ fn reason_where_it_fails(alloc: Global, number: u64) -> Result<Option<NoTag>, Al
     reason_in(alloc, &mut folder, number)
 }
 
-/// The survey makes the first read, the tag is read by the second, and there are no more.
+/// The survey makes the first read, the second reads the tag, and there are no more.
 fn reason_of(number: u64) -> Option<NoTag> {
     match number {
         1 => Some(NoTag::Survey(SurveyFault::Read)),
@@ -218,7 +218,7 @@ fn reason_of(number: u64) -> Option<NoTag> {
     }
 }
 
-/// Lets each read fail in turn.
+/// Makes each read fail in order.
 #[test]
 fn reads_that_fail(rt: HostRuntime) -> Result<(), Fail> {
     for number in 1..10 {

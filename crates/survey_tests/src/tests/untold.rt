@@ -1,11 +1,11 @@
-//! A folder that tells nothing.
+//! A folder whose contents aren't known.
 ghost use Rattle.std.specs.Prelude.{◌≡◌, ◌-◌, length, drop, min};
 ghost use Rattle.outside.specs.Files.{untold_files, Untold};
 
 use outside::{Failed, FindFault, Folder, Tally};
 
-/// A folder that tells nothing. Its one file is found with a length of its own, has these bytes at the first read, and
-/// others later.
+/// A folder whose contents aren't known. Its one file is found with any given length, has one list of bytes at the
+/// first read, and another list later.
 #[derive(Drop)]
 pub struct Untold<'a> {
     pub found: u64,
@@ -31,7 +31,7 @@ impl<'a> Untold<'a> {
     }
 }
 
-/// Copies the bytes from a place on, as many as there are and fit, and says how many.
+/// Copies the bytes from a place on, as many as there are and fit, and returns how many.
 fn copy_from(content: &[u8], at: u64, into: &mut [u8]) -> usize
     ensures count { result ≡ min (length into.old) (length content.now - at) }
     ensures rest { drop result into.new ≡ drop result into.old }

@@ -1,5 +1,5 @@
-//! Info frames whose extension has delay, padding, music length and tag CRC. The CRCs are those of a program in Python that follows
-//! the description of LAME's tag.
+//! Info frames whose extension has delay, padding, music length and tag CRC. The CRCs are from a program in Python that follows the
+//! description of LAME's tag.
 
 use arrayvec::ArrayVec;
 use exact_span::{arc, extension, seal};
@@ -56,7 +56,7 @@ fn slots_of(frames: &[[u8; 4]]) -> Result<ArrayVec<Slot, 4>, NotHeader> {
     Ok(slots)
 }
 
-/// The head of the input, of which only the extension matters.
+/// The head of the input, where only the extension matters.
 fn old_of(extension: [u8; 36]) -> Info {
     Info {
         vbr: false,
@@ -97,7 +97,7 @@ fn frame_of(case: &Case) -> Result<ArrayVec<u8, 1441>, NotHeader> {
     Ok(frame)
 }
 
-/// Whether the frame has the extension that is wanted, at its place, and what is read of it is the same.
+/// Whether the frame has the wanted extension at its place, and is read back the same.
 fn is_sealed(case: &Case) -> bool {
     match frame_of(case) {
         Ok(frame) => match frame.as_slice().get(case.text..) {
@@ -127,7 +127,7 @@ fn an_extension_of_another_encoder(rt: HostRuntime) -> Result<(), Fail> {
     Ok(())
 }
 
-/// The check value that is given for CRC-16/ARC.
+/// The check value that is published for CRC-16/ARC.
 #[test]
 fn the_word_of_nine_digits(rt: HostRuntime) -> Result<(), Fail> {
     assert!(rt; arc(0, b"123456789") == 0xbb3d);

@@ -1,4 +1,5 @@
-//! The frames that files share which go on where others end, worked out by hand: sums by the numbers of the heads, frames by division.
+//! The frames shared by files where one continues where the other ends, worked out by hand: sums of the numbers in the heads, frames
+//! by division.
 
 use exact_span::{Overlap, Played, shared};
 use frame_header::{Class, Version};
@@ -7,8 +8,8 @@ use std::process::Abort;
 use std::test::Fail;
 use test_files::table;
 
-/// How many positions are after the end of the file before, where a file begins, and how many frames it has; how many it shares, and the
-/// first that has to be alike.
+/// How many positions are after the end of the file before, where a file begins, and how many frames it has; how many frames it shares,
+/// and the first that has to be alike.
 struct Row {
     version: Version,
     rest: u64,
@@ -22,7 +23,7 @@ static ROWS: [Row; 12] = table! {
     (Version::One, 47, 1105, 4, Some((1, 0)))
     // Pieces: the samples up to 5,733, and those from there on, in frame 4 after a lead-in.
     (Version::One, 27, 2277, 3, Some((2, 1)))
-    // No played position is in the frames that are shared, so the last is to be alike.
+    // No played position is in the frames that are shared, so the last one has to be alike.
     (Version::One, 0, 1152, 4, Some((1, 0)))
     (Version::One, 191, 1634, 4, None)
     (Version::One, 1199, 1105, 2, Some((2, 0)))
@@ -30,7 +31,7 @@ static ROWS: [Row; 12] = table! {
     // Pieces of MPEG-2.5: the samples up to 2,400, and those from there on, in frame 4.
     (Version::TwoFive, 480, 1248, 6, Some((3, 2)))
     (Version::Two, 0, 576, 1, Some((1, 0)))
-    // The most that are shared, and the most that are to be alike.
+    // The most frames that are shared, and the most that have to be alike.
     (Version::One, 3457, 4607, 7, Some((7, 3)))
     (Version::Two, 3457, 4607, 14, Some((14, 7)))
     (Version::One, 18_446_744_073_709_551_615, 529, 4_294_967_295, None)
@@ -59,8 +60,8 @@ fn shared_frames(rt: HostRuntime) -> Result<(), Fail> {
     Ok(())
 }
 
-/// Four frames of MPEG-1 after a head of a number of frames, with these bytes of delay and padding: whether they are counted, and how many
-/// positions are after the last played one.
+/// Four frames of MPEG-1 after a head with a number of frames, and with these bytes of delay and padding: whether they are counted, and
+/// how many positions are after the last played one.
 struct Ended {
     frames: u32,
     numbers: [u8; 3],
@@ -79,7 +80,7 @@ static ENDED: [Ended; 6] = table! {
     (0, [0x24, 0x02, 0xd0], false, 0)
 };
 
-/// The fields of its head.
+/// The fields of the head of these frames.
 fn info_of(ended: &Ended) -> Info {
     let mut extension = [0; 36];
     extension[..4].copy_from_slice(b"LAME");

@@ -84,7 +84,7 @@ fn words_that_say_no_place(rt: HostRuntime) {
     }
 }
 
-/// A word, and the sample that it names in a file that plays 2,304.
+/// A word, and the sample that it names in a file with 2,304 played samples.
 struct At {
     version: Version,
     frequency_index: u8,

@@ -8,25 +8,29 @@ use std::process::Abort;
 use std::test::Fail;
 use test_files::table;
 
-/// A head of a number of frames, with the first bytes of its extension and those of delay and padding.
+/// A head with a number of frames, with the first bytes of its extension and the bytes of delay and
+/// padding.
 struct Head {
     frames: u32,
     text: [u8; 9],
     numbers: [u8; 3],
 }
 
-/// What is made of two words.
+/// What two words give.
 #[derive(Clone, Copy, Debug, PartialEq, Eq)]
 enum Answer {
-    /// The numbers of two samples, of so many, that aren't in order.
+    /// The numbers of two samples that aren't in order or go past the end, and how many samples
+    /// there are.
     Range(u64, u64, u64),
-    /// The frames from one to before another, after so many lead-ins, with this delay and padding.
+    /// The frames from one to before another, after this many lead-ins, with this delay and
+    /// padding.
     Piece(u32, u32, u32, u16, u16),
 }
 
 use Answer::{Piece, Range};
 
-/// A file without a head, or with one, of so many frames; two words; and whether the first frame's main data want a lead-in.
+/// A file without a head, or with one, and with this many frames; two words; and whether the first frame's main data need a
+/// lead-in.
 struct Row {
     version: Version,
     index: u8,
@@ -55,7 +59,7 @@ static TWO_FRAMES: [Row; 10] = table! {
 /// More frames, and the other versions.
 static OTHERS: [Row; 10] = table! {
     Row { version, index, head, frames, words, own, answer }
-    // The last of five frames, whose main data want a lead-in.
+    // The last of five frames, whose main data need a lead-in.
     (Version::One, 0, None, 5, ["0.00.13", "EOF"], true, Piece(4, 5, 1, 1748, 529))
     (Version::One, 0, None, 4, ["0.0", "0.00.05"], false, Piece(0, 2, 1, 623, 628))
     (Version::One, 0, None, 4, ["2205s", "EOF"], false, Piece(0, 4, 0, 1676, 529))
@@ -92,7 +96,7 @@ static COUNTING: [Row; 8] = table! {
         Range(3312, 3312, 3312))
 };
 
-/// The same with another number of frames, and other encoders.
+/// The same with another number of frames, and with other encoders.
 static MISCOUNTING: [Row; 5] = table! {
     Row { version, index, head, frames, words, own, answer }
     (Version::One, 0, Some(Head { frames: 5, text: *b"LAME3.100", numbers: [0x24, 0x02, 0xd0] }), 4, ["EOF", "EOF"], false,
@@ -107,7 +111,7 @@ static MISCOUNTING: [Row; 5] = table! {
         Piece(0, 4, 0, 623, 529))
 };
 
-/// The fields of a head: bytes that are neither the text nor the numbers are 11 (hex).
+/// The fields of a head: all bytes that are neither the text nor the numbers are 11 (hex).
 fn info_of(head: &Head) -> Info {
     let mut extension = [0x11; 36];
     extension[..9].copy_from_slice(&head.text);
@@ -148,7 +152,7 @@ fn piece_of(class: Class, p: u64, q: u64, own: bool) -> Option<Answer> {
     Some(Piece(span.first, span.last, leads, delay, padding))
 }
 
-/// What is made of the row's words; `None` where one says no place.
+/// What the row's words give; `None` where one of them names no place.
 fn answer_of(row: &Row) -> Option<Answer> {
     if row.index > 2 {
         return None;
@@ -169,7 +173,7 @@ fn answer_of(row: &Row) -> Option<Answer> {
     }
 }
 
-/// The place of the first row whose answer is another, or how many they are.
+/// The place of the first row with another result, or the number of rows.
 fn first_wrong(rows: &[Row]) -> usize {
     for (place, row) in rows.iter().enumerate() {
         if answer_of(row) != Some(row.answer) {

@@ -37,7 +37,7 @@ static SHEETS: [Sheet; 8] = table! {
         Ok(&[Place::Time(0, 75)]))
 };
 
-// Sheets at fault.
+// Sheets with a fault.
 static REFUSED: [Sheet; 18] = table! {
     Sheet { what, text, answer }
     ("60 seconds", b"TRACK 01 AUDIO\nREM\nINDEX 01 00:60:00", Err(CueFault::Line(3)))
@@ -61,7 +61,7 @@ static REFUSED: [Sheet; 18] = table! {
     ("nothing", b"", Err(CueFault::NoTracks))
 };
 
-/// Whether the sheet is read so: its tracks begin there, or this is its first fault.
+/// Whether the sheet is read as wanted: its tracks begin there, or this is its first fault.
 fn is_read(alloc: Global, text: &[u8], answer: Result<&[Place], CueFault>) -> bool {
     if text.len() > 65_536 {
         return false;

@@ -1,5 +1,5 @@
-//! Tags written out from the layout of APEv2, apart from this crate: exact bytes, what changes in them, and each fault
-//! with its place, which was counted by hand.
+//! Tags written out from the layout of APEv2, independently of the crate that is tested: exact bytes, what changes in
+//! them, and each fault with its place, which was counted by hand.
 
 use std::alloc::Global;
 use std::process::Abort;
@@ -7,8 +7,8 @@ use std::test::Fail;
 use tag_blocks::{Block, Kind, Tag, TagFault, Undo, UndoItem, block_at};
 use test_files::texts::{TextFault, bytes_of_words, define};
 
-/// The parts of tags. An end has a text, a version, the size of all items and the footer, the count of items, flags, and 8 zero
-/// bytes; an item has the size of its value, flags, and its key with a zero byte behind it.
+/// The parts of tags. A header or footer has a text, a version, the size of all items and the footer, the count of items,
+/// flags, and 8 zero bytes; an item has the size of its value, flags, and its key followed by a zero byte.
 static NAMES: &str = "\
 HEAD = 'APETAGEX' d0070000 2f000000 01000000 000000a0 0000000000000000
 FOOT = 'APETAGEX' d0070000 2f000000 01000000 00000080 0000000000000000
@@ -27,11 +27,11 @@ MINMAX = 07000000 00000000 'MP3GAIN' 5f 'MINMAX' 00 '089,210'
 UNDO = 0b000000 00000000 'MP3GAIN' 5f 'UNDO' 00
 OTHER_UNDO = 0b000000 02000000 'mp3gain' 5f 'Undo' 00";
 
-/// A tag that has only the undo item: -1 step left and right, with `W`. Header, item of 32 bytes and footer.
+/// A tag with only the undo item: -1 step left and right, with `W`. Header, item of 32 bytes and footer.
 const ALONE: &str = "HEAD@12=40 UNDO '-001,-001,W' FOOT@12=40";
 
-/// A tag whose undo item has its key in another case and flags of its own, with an item before it (15 bytes) and one
-/// after it (30 bytes), and other flags of header and footer.
+/// A tag whose undo item has its key in another case and other flags, with an item before it (15 bytes) and one
+/// after it (30 bytes), and other flags in the header and footer.
 const AMID: &str = "AMID_HEAD TITLE OTHER_UNDO '+003,-004,N' MINMAX AMID_FOOT";
 
 /// The same with -997 left, 999 right and `W`.
@@ -91,7 +91,7 @@ fn read(rt: &impl Abort, alloc: Global, words: &'static str) -> Result<Tag, Fail
     Ok(tag_of(rt, alloc, &block)?)
 }
 
-/// The same without its undo item.
+/// The tag of these words without its undo item.
 fn read_and_drop(rt: &impl Abort, alloc: Global, words: &'static str) -> Result<Tag, Fail> {
     let mut tag = read(rt, alloc, words)?;
     tag.drop_undo();
@@ -180,7 +180,7 @@ fn a_bad_undo_item(rt: HostRuntime) -> Result<(), Fail> {
     Ok(())
 }
 
-/// Whether the place of the row is that of the first fault of its block.
+/// Whether the first fault of the row's block is at the row's place.
 fn has_fault(rt: &impl Abort, alloc: Global, row: &'static str) -> Result<bool, Fail> {
     let (place, words) = row.split_once(": ").ok_or("no place")?;
     let block = bytes_of(alloc, words)?;

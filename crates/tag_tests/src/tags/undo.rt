@@ -27,7 +27,7 @@ static VALUES: [Value; 14] = table! {
     (b"+001,+001,n", None)
 };
 
-/// Whether the value says this, and is written as it was read.
+/// Whether the value has this meaning, and is written as it was read.
 fn says(case: &Value) -> bool {
     match (Undo::read(case.text), case.says) {
         (Some(undo), Some(says)) => undo == says && undo.text().as_slice() == case.text,

@@ -1,4 +1,4 @@
--- The frames are one part of the survey's.
+-- The frames are one part of the survey's frames.
 use Rattle.std.{proofs.Common.{ap, List, subst, sym, [], ◌∙◌, ◌∷◌}, specs.Prelude.slice_range}
 use Rattle.laying.specs.Needs.{plan_input, PlanInput}
 use Rattle.slot_plan.specs.Parts.{CanBePlanned}

@@ -1,4 +1,4 @@
--- The files that are there, and the frame, which is one of the survey's.
+-- The files that are there, and the frame, which is one of the survey's frames.
 use Rattle.std.proofs.Common.{ap, arith, get_or, length, List, subst, sym, ℕ, [], ◌∙◌, ◌∷◌, ◌≡◌}
 use Rattle.laying.{proofs.SurveyFrameLemmas.survey-had, specs.Surveys.CanBeRelaid}
 use Rattle.outside.{proofs.FilesLemmas.emptied_there, specs.Files.{Holds, IsFileThere}}

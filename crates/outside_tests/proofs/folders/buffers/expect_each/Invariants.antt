@@ -1,4 +1,4 @@
--- What is held is the file's, of which nothing is told.
+-- What is held is the file's bytes, in a folder whose contents aren't known.
 use Rattle.outside.specs.{Feed.IsFedFrom, Files.untold_files}
 use Rattle.outside_tests.proofs.folders.buffers.expect_each.Given as goal
 

@@ -1,4 +1,4 @@
--- The channel is one of the survey's.
+-- The channel is one of the survey's channels.
 use Rattle.std.proofs.Common.{ap, arith, subst, sym, ◌<◌, ◌∙◌}
 use Rattle.frame_header.specs.Fields.{ClassFields}
 use Rattle.moved_gains.{proofs.ExtremesLemmas.has_channel, specs.GainExtremes.HasChannel}
