@@ -40,7 +40,7 @@ fn takes_the_first_fields_of_a_side_information(rt: HostRuntime) {
 
 #[test]
 fn reads_a_gain_among_few_bytes(rt: HostRuntime) {
-    // By eight bytes, and by the few that there are.
+    // By reading eight bytes, and by reading the few that there are.
     assert!(rt; number_at(&SIDE, 41, 8) == 100);
     assert!(rt; number_at(&SIDE[5..], 1, 8) == 100);
     assert!(rt; number_at(&SIDE[3..7], 17, 8) == 100);

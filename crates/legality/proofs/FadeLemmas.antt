@@ -80,7 +80,7 @@ module _ (class : ClassFields) (frames : ℕ) where
       (map (curve_point class frames) points) curve e in
       (rises points parts.0, parts.1)
 
-  -- and points that rise have a curve
+  -- points that rise have a curve
   pub rising-curve : (points : List EnvelopePoint) → HoldsOfEachNext points Rise
       → curve_of class frames points ≡ Ok (map (curve_point class frames) points)
   unfolding curve_of

@@ -242,7 +242,7 @@ module _ (file : List ℕ) (s : SurveyFields) (is : survey_of file most_frames �
 
   -- ---- no room in slots of one bit rate
 
-  -- a packing without room in slots of one bit rate is refused with the first frame that has none
+  -- a packing with a bit rate of the class is refused with the first frame that has no room
   pub unfit-made : (rate i : ℕ) → no_rate (Constant rate) s.class ≡ None → IsFirstUnfit rate s i
       → laying_making all_choice (rates_plan (Constant rate)) file s ≡ Err (Refused (Unfit i))
   unfit-made rate i none unfit =
@@ -276,7 +276,7 @@ module _ (file : List ℕ) (s : SurveyFields) (is : survey_of file most_frames �
       )
       at false is e = absurd cc
 
-  -- a packing is refused with that frame only
+  -- a packing that is refused with `Unfit` has a bit rate of the class, and names that frame
   pub made-unfit : (rate i : ℕ)
       → laying_making all_choice (rates_plan (Constant rate)) file s ≡ Err (Refused (Unfit i))
       → IsRate rate s.class × IsFirstUnfit rate s i

@@ -23,7 +23,7 @@ module _ (files : Contents) (rate i : ℕ) (input output : List ℕ) where
   abbrev task : Task
   task = pack_task (Constant rate) input
 
-  -- this is what it is refused with
+  -- it is refused with `Unfit`
   abbrev unfit : {A : Type 0} → Result A EditFault
   unfit = Err (Refused (Unfit i))
 
@@ -76,7 +76,7 @@ module _ (files : Contents) (rate i : ℕ) (input output : List ℕ) where
         unfit = legal.1;
       }
 
--- a packing with one bit rate is refused for want of room exactly where no list of its slots has it
+-- a packing with one bit rate is refused with `Unfit` exactly where no list of its slots has room
 pub unfit-is-refused : UnfitIsRefused
 unfit-is-refused = λ files rate i input output.
     (unfit-refused files rate i input output, refused-unfit files rate i input output)

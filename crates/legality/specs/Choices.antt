@@ -126,7 +126,7 @@ IsRange s from to =
     (frame_at s.class (length s.frames) from < frame_at s.class (length s.frames) to)
     × (frame_at s.class (length s.frames) to ≤ length s.frames)
 
--- between each position and the next there is a frame, and none is after the end
+-- between each position and the next there is a frame, and no position is after the end
 abbrev pub ArePieceRanges : SurveyFields → List Place → Type 0
 ArePieceRanges s places = HoldsOfEachNext places (IsRange s)
 
@@ -159,11 +159,12 @@ IsSampleRange from to input = (sample_number input from < sample_number input to
 
 -- ---- split --exact
 
--- between each place and the next there is a sample, and none is after the last that is played
+-- between each place and the next there is a sample, and no place is after the last that is played
 abbrev pub AreSamplePieces : FileInput → List ExactPlace → Type 0
 AreSamplePieces input places = HoldsOfEachNext places (λ from to. IsSampleRange from to input)
 
--- the sheet is a legal cue sheet, and the same holds of its starts and the end
+-- The sheet is there, has at most 65,536 bytes, and is a cue sheet without fault (`cue_of`); from
+-- each start to the next, and from the last to the end, there is such a sample.
 pub record IsLegalExactSheet (sheet : List ℕ) (files : Contents) (input : FileInput) : Type 0 where
   pub bytes : List ℕ
   pub there : files sheet ≡ Some bytes

@@ -79,14 +79,14 @@ sheet_parts (Line number) = Text (codes ": bad line ") ∷ Number number ∷ Tex
 sheet_parts (NotRising number) =
     Text (codes ": not rising at line ") ∷ Number number ∷ Text (codes "\n") ∷ []
 sheet_parts NoTracks = Text (codes ": no tracks\n") ∷ []
--- nor is it a fault of a cue sheet
+-- running out of memory isn't a fault of a cue sheet either
 sheet_parts NoSheetMemory = []
 
 -- the parts of the line of a fault of the sheet of a fade, after its name
 abbrev pub curve_parts : EnvelopeFault → List LinePart
 curve_parts (BadLine number) = Text (codes ": bad line ") ∷ Number number ∷ Text (codes "\n") ∷ []
 curve_parts NoPoints = Text (codes ": no points\n") ∷ []
--- nor is it a fault of this sheet
+-- running out of memory isn't a fault of this sheet either
 curve_parts NoCurveMemory = []
 
 -- the parts of the line of a refusal, by the names of the inputs; a sheet is input 1

@@ -119,7 +119,7 @@ lead-header window first needs h is =
         let same : record first.header { protected = false; slot = slot } ≡ h = cc in
         ap info_header_of (sym same)
 
--- ---- the plan after a lead-in in any case
+-- ---- the plan after an unconditional lead-in
 
 -- what the plan of frames after an unconditional lead-in is, and the plan of the lead-in and the
 -- frames
@@ -419,7 +419,7 @@ module _ (file : List ℕ) (s : SurveyFields) (has : CanBeRelaid file s)
         (slice_range (st file s has few) piece.0.first piece.0.last)
     brought = brings file s has few known place next places first parts inputs files ways
 
-    -- where the lead-in leaves the run, it gets it again
+    -- where the lead-in leaves the run, the run gets it again
     same-again : front ≡ 1 → IsSame
     same-again out =
         let run_is : needs_of (run first parts inputs) ≡ needs =
@@ -443,7 +443,7 @@ module _ (file : List ℕ) (s : SurveyFields) (has : CanBeRelaid file s)
               ∙ first-needs));
         }
 
-    -- ---- where it stays
+    -- ---- where the lead-in stays
 
     module _ (stays : front ≡ 0) where
       abbrev begin_at : ℕ

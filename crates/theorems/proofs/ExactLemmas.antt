@@ -147,7 +147,7 @@ module _ (choices : HeaderFields → List SlotFields) (needs : List Need) where
   own-exact fs placed sized for_items =
       let on = own-on choices needs fs placed sized.same for_items in ([], on.0, tt, on.1, on.2)
 
-  -- the stream of places after a lead-in is exactly the frames after it
+  -- the stream of places that begin with a lead-in is exactly the frames, after that lead-in
   pub led-exact : (lead : PlanItem) → lead.lead_in ≡ true → (fs : List StreamFrame)
       (placed : List Placed) → IsSized needs fs
       → AreItemSlots (lead ∷ map (need_item choices) needs) placed

@@ -65,7 +65,7 @@ frames-same (x ∷ xs) (y ∷ ys) needs sounding =
     (ap₂ (λ (n : Need) (s : List ℕ). record { need = n; sound = s }) need sound)
     (frames-same xs ys more_needs more_sounds)
 
--- rows of which none is lost stay when lost ones are emptied
+-- emptying the lost rows leaves the rows as they are, if none is lost
 pub none-emptied : (rows : List Row)
     → ((i : ℕ) (r : Row) → slice_get rows i ≡ Some r → r.lost ≡ false) → map emptied_row rows ≡ rows
 none-emptied [] kept = refl

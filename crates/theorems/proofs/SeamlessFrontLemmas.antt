@@ -77,7 +77,7 @@ zero-side c s known is fits zeros =
 
 -- ---- the first frame of an input
 
--- rows begin blank just where the first of them is blank
+-- rows begin blank exactly where the first of them is blank
 pub begins-first : (rows : List Row) (r : Row) → slice_get rows 0 ≡ Some r
     → begins_blank rows ≡ is_side_blank r
 begins-first [] r is = absurd cc

@@ -104,7 +104,7 @@ placed-by TwoFive x n front leads ends enough = record {
   offset = omega arith;
 }
 
--- where the positions of one file end, those of the next begin
+-- the positions of the next file begin where the positions of one file end
 meets-at : (v : Version) (place start end n m front leads old new out : ℕ)
     → place + (n + front) * samples_of v ≡ start + (leads + new) * samples_of v
     → start + (m * samples_of v - end) ≡ out * samples_of v → end ≤ m * samples_of v

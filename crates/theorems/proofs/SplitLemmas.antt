@@ -25,7 +25,7 @@ use Rattle.theorems.specs.SeamlessLaws.{JoinsTheFrames, last_place, SplitThenSea
 
 -- pieces that were laid, as inputs
 module _ (file : List ℕ) (s : SurveyFields) (has : CanBeRelaid file s) where
-  -- parts whose files are those of the pieces laid are files from each number to the next
+  -- parts whose files are the files of pieces laid are files from each number to the next
   pub laid-files : (a : ℕ) (bs : List ℕ) (laid : List LaidPart) (parts : List FilePart)
       → Rise file s a bs → AreLaid file s a bs laid → map (λ (p : FilePart). Some p.file) parts
       ≡ map (λ (l : LaidPart). Some (file_laid l file s)) laid → AreFiles file s a bs parts

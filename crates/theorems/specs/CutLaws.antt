@@ -1,4 +1,4 @@
--- What is at fault in a file that was cut short.
+-- The faults of a file that was cut short.
 use Rattle.std.specs.Prelude.{Err, length, List, Ok, Result, take, ℕ, ◌++◌, ◌≡◌, ◌≤◌}
 use Rattle.sync_survey.specs.Faults.{IsWellFormed, stream_of, survey_fields, SurveyFields}
 use Rattle.sync_survey.specs.{MainData.StreamFrame, declared.survey_fault.SurveyFault.SurveyFault}

@@ -16,7 +16,7 @@ use test_files::{end_to_end, table};
 const OLD: &[Stretch] = &[Bytes(b"old")];
 
 /// A lead-in and two frames of 313 bytes with areas of 277: without the lead-in there is no room for the main data. The
-/// main data of the first frame begin with the lead-in's area, those of the second 254 bytes before its own area.
+/// main data of the first frame begin with the lead-in's area, the second frame's 254 bytes before its own area.
 const ALL_OF_96: &[Stretch] = &end_to_end! {
     INFO_FRONT, Bytes(b"Info\0\0\0\x0f\0\0\0\x03\0\0\x04\x7b"), Fill(46, 34), Fill(116, 33), Fill(186, 33),
     Fill(0, 56),

@@ -221,7 +221,7 @@ static MPEG_2_5: Case = Case {
     head: None,
 };
 
-/// Files of which nothing is read, and the offset at which their front ends.
+/// Files that nothing is read of, and the offset at which their front ends.
 static NOTHING: [(&[Stretch], u64); 4] = [
     (&[], 0),
     (&[Fill(0x55, 70_000)], 0),

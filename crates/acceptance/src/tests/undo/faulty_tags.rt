@@ -1,4 +1,4 @@
-//! Tags at fault, each in one place.
+//! Faulty tags, each with one fault.
 
 pub static ROWS: &str = "
 # undo/faulty_tags

@@ -1,4 +1,4 @@
--- They have one plan.
+-- The frames that are left have one plan.
 use Rattle.theorems.proofs.SalvageCaseLemmas.{salvaged-first}
 use Rattle.theorems.proofs.laws.salvaged_plans_are_first.Goals as goal
 
