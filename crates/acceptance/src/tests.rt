@@ -1,6 +1,6 @@
-//! Rows of each command, in a text or a folder of texts with its name; rows of all commands; and tests that no row can
-//! express. The texts of `drill` and `salvage` are called `drill_rows` and `salvage_rows`, since crates have the plain
-//! names.
+//! Rows of each command, in a text or a folder of texts with its name; rows of all
+//! commands; and tests that no row can express. The texts of `drill` and `salvage`
+//! are called `drill_rows` and `salvage_rows`, since crates have the plain names.
 
 mod cut;
 mod drill_rows;

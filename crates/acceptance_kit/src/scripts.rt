@@ -137,8 +137,8 @@ fn is_known(line: &str) -> bool {
     line.is_empty()
 }
 
-/// Reads a line that defines bytes. A line that defines nothing is a fault, so that no line is passed
-/// over.
+/// Reads a line that defines bytes. A line that defines
+/// nothing is a fault, so that no line is passed over.
 fn read_line(alloc: Global, names: &mut Vec<Named>, line: &'static str) -> Result<(), Stop> {
     if is_known(line) {
         return Ok(());

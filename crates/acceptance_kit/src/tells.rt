@@ -66,8 +66,8 @@ fn run_once<P: Program>(
     run_over::<P>(alloc, &mut folder, names, row, number, tried)
 }
 
-/// Runs the command of the row with each write to standard error failing in order, where the row says
-/// so.
+/// Runs the command of the row with each write to standard
+/// error failing in order, where the row says so.
 pub(crate) fn run_tells<P: Program>(
     alloc: Global,
     names: &[Named],

@@ -158,8 +158,8 @@ fn run_over<P: Program>(
     compare_failed(alloc, folder, names, row, failing, &ended)
 }
 
-/// How many bytes were written when the call failed, or `None` where there is no call of its
-/// number.
+/// How many bytes were written when the call failed,
+/// or `None` where there is no call of its number.
 fn run_once<P: Program>(
     alloc: Global,
     names: &[Named],
@@ -179,8 +179,8 @@ fn expect_enough(calls: &Calls, number: usize, written: usize) -> Result<(), Sto
     Ok(())
 }
 
-/// Expects that enough bytes were written: the call of this number failed when `written` bytes
-/// were.
+/// Expects that enough bytes were written: the call
+/// of this number failed when `written` bytes were.
 fn expect_far(calls: &Calls, number: usize, written: usize) -> Result<usize, Stop> {
     if written < number.saturating_sub(1).saturating_mul(calls.by) {
         return Err(Stop::Found(Found::number("no more calls, or no more bytes", written)));
@@ -228,8 +228,8 @@ fn expect_calls_alone(row: &'static str) -> Result<(), Stop> {
     Ok(())
 }
 
-/// Runs the command of the row with each call of its kinds failing in order. `text` is sent where none
-/// fails.
+/// Runs the command of the row with each call of its kinds
+/// failing in order. `text` is sent where none fails.
 pub(crate) fn run_turns<P: Program>(
     alloc: Global,
     names: &[Named],

@@ -53,8 +53,8 @@ pub fn prepare(
     reserve_outputs(folder, row)
 }
 
-/// The call of the folder that is of this kind, or `None` for a write to standard output. `Found` where there is no such
-/// kind.
+/// The call of the folder that is of this kind, or `None` for a
+/// write to standard output. `Found` where there is no such kind.
 pub fn call_of(kind: &'static str) -> Result<Option<Call>, Stop> {
     match kind {
         "Find" => Ok(Some(Call::Find)),
@@ -66,8 +66,8 @@ pub fn call_of(kind: &'static str) -> Result<Option<Call>, Stop> {
     }
 }
 
-/// Makes a call of the folder fail. For a write to standard output it returns which of them is to
-/// fail.
+/// Makes a call of the folder fail. For a write to
+/// standard output it returns which of them is to fail.
 pub fn fail_call(
     folder: &mut MemFolder,
     call: Option<Call>,

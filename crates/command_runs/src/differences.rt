@@ -4,8 +4,8 @@ use crate::running::{Ended, Program, run_with_room};
 use outside::Folder;
 use std::alloc::{AllocError, Global};
 
-/// What was found instead of what was expected. One struct for all kinds costs the check less than an enum of
-/// them.
+/// What was found instead of what was expected. One struct
+/// for all kinds costs the check less than an enum of them.
 #[derive(Debug, PartialEq, Eq, Drop)]
 pub struct Found {
     pub what: &'static str,

@@ -108,8 +108,8 @@ pub fn compare_outputs(folder: &MemFolder, row: &'static str, front: &str) -> Re
     Ok(())
 }
 
-/// Compares the folder with the folder before the command. The prefix is one that no line has, so that every file has to
-/// stay.
+/// Compares the folder with the folder before the command. The
+/// prefix is one that no line has, so that every file has to stay.
 pub fn compare_before(
     alloc: Global,
     folder: &MemFolder,

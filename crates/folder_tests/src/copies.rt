@@ -1,7 +1,7 @@
 //! A copy by calls of a folder, over one in memory and over real files.
 //!
-//! A test owns its folder and ends in one place, and what it asserts is in small functions that borrow the folder: that costs the
-//! check least.
+//! A test owns its folder and ends in one place, and what it asserts is
+//! in small functions that borrow the folder: that costs the check least.
 mod real;
 
 use outside::{Call, Failed, Folder, MemFolder, read_full, write_all};

@@ -11,8 +11,8 @@ const MPEG_2: Version = Version::Two;
 
 const MPEG_2_5: Version = Version::TwoFive;
 
-/// Four bytes, and the version, the channels, the frequency in Hz, and the length and the area in bytes that they
-/// give.
+/// Four bytes, and the version, the channels, the frequency in
+/// Hz, and the length and the area in bytes that they give.
 struct Says {
     bytes: [u8; 4],
     version: Version,

@@ -1,5 +1,5 @@
--- The order of a form's flags: of all orders, the words go furthest with the flags that they begin
--- with.
+-- The order of a form's flags: of all orders, the words
+-- go furthest with the flags that they begin with.
 use Rattle.std.proofs.Common.{ap, append_assoc, arith, cond, drop, false, length, length-append}
 use Rattle.std.proofs.Common.{List, map, None, not, refl, Some, subst, suc, sym, true, zero, ℕ, []}
 use Rattle.std.proofs.{Common.{◌&&◌, ◌++◌, ◌+◌, ◌-◌, ◌∷◌, ◌≡◌, ◌≤◌}, lemmas.Bool.both_ways}
@@ -23,8 +23,8 @@ abbrev pub IsNowhere : List Kind → List (List ℕ) → Type 0
 IsNowhere kinds words =
     (common_prefix_len fits_kind kinds words ≡ 0) × (pointwise fits_kind kinds words ≡ false)
 
--- the words go no further with these kinds than with the best, and have all of these only under
--- this condition
+-- the words go no further with these kinds than with the
+-- best, and have all of these only under this condition
 abbrev pub IsNoBetter : Type 0 → List Kind → List Kind → List (List ℕ) → Type 0
 IsNoBetter Only best kinds words =
     (common_prefix_len fits_kind kinds words ≤ common_prefix_len fits_kind best words)

@@ -99,8 +99,8 @@ reading_of form clear words b is =
     ∙ ap (λ b. cond b (Some best) None) is)
     ∙ ap (shape_reading (cond b (Some best) None) words) far-is
 
--- what the code finds of a form: the flags, the kinds, how many of the kinds come before those
--- after the flags, and what the words say
+-- what the code finds of a form: the flags, the kinds, how many of
+-- the kinds come before those after the flags, and what the words say
 pub record Found (form : Form) (words : List (List ℕ)) (given : List Flag) (front : ℕ)
     (kinds : List Kind) (values : List Said) : Type 0 where
   pub given-is : given ≡ leading_flags form.flags (drop 1 words)

@@ -260,8 +260,8 @@ shapes table = flat_map shapes_of table
 abbrev pub last_kind : List Kind → Kind
 last_kind kinds = slice_index_or kinds (length kinds - 1) Name
 
--- the kinds of `count` words after the flags: the last is repeated for the words that are left, as
--- often as it may be
+-- the kinds of `count` words after the flags: the last is
+-- repeated for the words that are left, as often as it may be
 abbrev pub form_kinds : Form → ℕ → List Kind
 form_kinds form count =
     form.kinds ++ replicate (min form.more (count - length form.kinds)) (last_kind form.kinds)
@@ -302,8 +302,8 @@ abbrev pub sheet_request : Bool → List Said → ℕ → Request
 sheet_request exact values place =
     SplitBy exact (name_at values place) (name_at values (place + 1)) (name_at values (place + 3))
 
--- what is asked for by the flags that are given, by what the words after them say, and by these
--- words themselves
+-- what is asked for by the flags that are given, by what
+-- the words after them say, and by these words themselves
 abbrev pub form_request : FormKind → List Flag → List Said → List (List ℕ) → Request
 form_request asks.Help given values words = Help
 form_request asks.Version given values words = Version
@@ -348,8 +348,8 @@ shape_request shape words =
 
 -- ---- what holds of each form
 
--- the most words after the flags that may be read for what is asked: 100 places, and the words
--- before them
+-- the most words after the flags that may be read for
+-- what is asked: 100 places, and the words before them
 abbrev pub most_values : FormKind → ℕ
 most_values asks.SplitExact = 103
 most_values _ = 102

@@ -15,11 +15,11 @@ pub data Request : Type 0 where
   Gain : Shift → Bool → List ℕ → List ℕ → Request
   -- the names of the input and of the output
   Undo : List ℕ → List ℕ → Request
-  -- the position of the first frame and of the first frame after them, whether each has the least
-  -- slot, the names of the input and of the output
+  -- the position of the first frame and of the first frame after them,
+  -- whether each has the least slot, the names of the input and of the output
   Cut : Place → Place → Bool → List ℕ → List ℕ → Request
-  -- the name of the input, the place of the first sample and of the first sample after them, and
-  -- the name of the output
+  -- the name of the input, the place of the first sample and
+  -- of the first sample after them, and the name of the output
   CutExact : List ℕ → ExactPlace → ExactPlace → List ℕ → Request
   -- how the bit rates are chosen, the names of the input and of the output
   Pack : PackMode → List ℕ → List ℕ → Request
@@ -28,8 +28,8 @@ pub data Request : Type 0 where
   -- the name of the input, what the names of the outputs
   -- begin with, and the places among the samples
   SplitExact : List ℕ → List ℕ → List ExactPlace → Request
-  -- whether it is split at samples, the name of the input, what the names of the outputs begin
-  -- with, and the name of the cue sheet
+  -- whether it is split at samples, the name of the input, what the
+  -- names of the outputs begin with, and the name of the cue sheet
   SplitBy : Bool → List ℕ → List ℕ → List ℕ → Request
   -- whether frames that only a piece needs are left out, the names of the output and of the inputs
   Join : Bool → List ℕ → List (List ℕ) → Request

@@ -54,8 +54,8 @@ pub record IsShapePrefix (n : ℕ) (shape : Shape) (words : List (List ℕ)) : T
   pub enough_kinds : n ≤ length (shape_kinds words shape)
   pub fit : IsTrue (have_kinds (take n (shape_kinds words shape)) (take n words))
 
--- the words have the kinds of a form with some of its flags, each at most once and in any order,
--- and ask for what it says
+-- the words have the kinds of a form with some of its flags,
+-- each at most once and in any order, and ask for what it says
 pub record IsReadingOf (words : List (List ℕ)) (asked : Request) : Type 0 where
   pub shape : Shape
   pub listed : Contains (shapes forms) shape

@@ -112,8 +112,8 @@ pub(crate) static FORMS: [Form; 22] = [
     form!(Salvage: "salvage" [] [Name Name] 0),
 ];
 
-/// The most kinds that a form has for its words: the command's, four flags of two words each, five kinds, and the last kind 98
-/// times more.
+/// The most kinds that a form has for its words: the command's, four
+/// flags of two words each, five kinds, and the last kind 98 times more.
 pub(crate) const MOST_KINDS: usize = 112;
 
 /// The kinds of a form's words.

@@ -107,8 +107,8 @@ pub enum Job<'a> {
     },
     /// Write the frames of all inputs, joined in order, to the file `output`.
     Join {
-        /// Whether the frames that only a piece needs are left out, and a line says so for each input after the
-        /// first.
+        /// Whether the frames that only a piece needs are left
+        /// out, and a line says so for each input after the first.
         seamless: bool,
         /// The name of the file to write.
         output: &'a str,
@@ -124,8 +124,8 @@ pub enum Job<'a> {
     },
     /// Write the file `input` to `output`, each frame louder or quieter by the steps that a sheet gives for its number.
     Fade {
-        /// Whether it moves them by as many steps the other way, which undoes a fade by the same
-        /// sheet.
+        /// Whether it moves them by as many steps the other
+        /// way, which undoes a fade by the same sheet.
         back: bool,
         /// The name of the file to read.
         input: &'a str,

@@ -7,8 +7,8 @@ ghost use Rattle.job_words.specs.Code.{form_given, job_request, request_result};
 use crate::forms::{FORMS, Form};
 use crate::jobs::Job;
 
-// What the words ask for by the first of these forms that they have, or the place, counted from 1, of the first word that no form
-// takes.
+// What the words ask for by the first of these forms that they have,
+// or the place, counted from 1, of the first word that no form takes.
 fn read_by<'a>(forms: &[Form], words: &'a [String]) -> Result<Job<'a>, u32>
     requires { All IsReadable (map form_given forms.now) }
     ensures { request_result result ≡ table_reading (shapes (map form_given forms.now))

@@ -194,8 +194,8 @@ module _ (make : Making) (Choice : FileInput → Type 0)
         of-made make files input one.input.bytes one.input.survey one.is.there surveyed ∙ made.1,
       )
 
--- the command succeeds exactly with one input that the choice is legal for, where no output is one
--- of its inputs
+-- the command succeeds exactly with one input that the
+-- choice is legal for, where no output is one of its inputs
 module _ (files : Contents) (input : List ℕ) (others : List (List ℕ)) (output : List ℕ) (most : ℕ)
     (Choice : FileInput → Type 0) (task : Task) (names : task.inputs ≡ input ∷ others)
     (makes : IsOne Choice files input most → (bytes : List ℕ) × (task.makes files ≡ Ok bytes))

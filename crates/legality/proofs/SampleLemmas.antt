@@ -1,5 +1,5 @@
--- Samples between two places: a span of frames is found exactly where there is one, and all of its
--- samples are played.
+-- Samples between two places: a span of frames is found exactly
+-- where there is one, and all of its samples are played.
 use Rattle.std.proofs.Common.{ap, ap₂, Bool, cond, length, List, None, Ok, Option, refl, Some, ℕ}
 use Rattle.std.proofs.{Common.{◌&&◌, ◌+◌, ◌<◌, ◌≡◌, ◌≤◌}, lemmas.Bool.{le-leb, lt-ltb}}
 use Rattle.std.specs.Prelude.{nat_le, nat_lt}

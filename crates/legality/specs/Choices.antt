@@ -142,8 +142,8 @@ pub record IsLegalSheet (sheet : List ℕ) (files : Contents) (input : FileInput
 
 -- ---- cut --exact
 
--- how many samples of a file players play: the samples of all frames but for the encoder delay and
--- the padding that its head gives
+-- how many samples of a file players play: the samples of all frames
+-- but for the encoder delay and the padding that its head gives
 abbrev pub samples_played : FileInput → ℕ
 samples_played input = length_of_played (played_of (fields_of_head input.bytes input.survey.head)
     input.survey.class (length input.survey.frames))
@@ -185,15 +185,15 @@ abbrev pub HasRateRoom : ℕ → SurveyFields → Type 0
 HasRateRoom rate s = (lead_in : Bool) × CanBeLaidFromMenu (window_of s.class.version) lead_in
     (menu_in (Constant rate) s.class) (map need_of s.frames)
 
--- No such list has room, and this is the first frame, counted from 0, up to which none has, even
--- after a lead-in.
+-- No such list has room, and this is the first frame, counted
+-- from 0, up to which none has, even after a lead-in.
 abbrev pub IsFirstUnfit : ℕ → SurveyFields → ℕ → Type 0
 IsFirstUnfit rate s i =
     IsFirstUnfitFrame (window_of s.class.version) (menu_in (Constant rate) s.class)
     (map need_of s.frames) i
 
--- with the least slots, with the fewest bytes, and with all slots from a bit rate on there is
--- always room
+-- with the least slots, with the fewest bytes, and with
+-- all slots from a bit rate on there is always room
 abbrev pub IsLegalPack : PackMode → SurveyFields → Type 0
 IsLegalPack Least s = Unit {0}
 IsLegalPack Best s = Unit {0}
@@ -209,9 +209,9 @@ AreInputsOfOneClass inputs = (i j : ℕ) (p q : FileInput) → slice_get inputs 
 
 -- ---- salvage
 
--- The input needn't be well-formed: it is there, has at most 1,073,741,824 bytes, and a usable
--- frame where its front ends or, anchored, after that, and from that first frame on 1 to 2,900,000
--- frames are found, not counting a Xing or Info frame.
+-- The input needn't be well-formed: it is there, has at most 1,073,741,824 bytes,
+-- and a usable frame where its front ends or, anchored, after that, and from that
+-- first frame on 1 to 2,900,000 frames are found, not counting a Xing or Info frame.
 pub record IsLegalSalvage (input : List ℕ) (files : Contents) : Type 0 where
   pub bytes : List ℕ
   pub there : files input ≡ Some bytes

@@ -255,8 +255,8 @@ module _ (command : Command) (old new : Seen) (out_old out_new err_old err_new :
     pub made_where_done : status ≡ 0 → (made : Made) × (command.makes f ≡ Ok made)
     made_where_done zero_is = let made = files_where_done zero_is in (made.0, made.1)
 
-    -- where no call failed and memory didn't run out, a command that makes something ends with
-    -- status 0
+    -- where no call failed and memory didn't run out, a
+    -- command that makes something ends with status 0
     pub done_where_made : (Rose old.counts.read_faults.times new.counts.read_faults.times → ⊥)
         → (Rose old.counts.write_faults.times new.counts.write_faults.times → ⊥)
         → (Rose out_old.faults out_new.faults → ⊥) → status ≢ 4
@@ -306,8 +306,8 @@ module _ (words : List (List ℕ)) (asked : Request) (is : job_of words ≡ Ok a
       (sym (outcome-words words f (Ok asked) is))
       (as_defined (command_of asked) old new out_old out_new err_old err_new status all f told low))
 
-  -- where no call failed and memory didn't run out, status 0 comes exactly if words and files are
-  -- legal
+  -- where no call failed and memory didn't run out,
+  -- status 0 comes exactly if words and files are legal
   pub is_accepted : (f : Contents) → old.files ≡ Told f
       → (Rose old.counts.read_faults.times new.counts.read_faults.times → ⊥)
       → (Rose old.counts.write_faults.times new.counts.write_faults.times → ⊥)

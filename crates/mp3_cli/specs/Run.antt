@@ -77,9 +77,9 @@ pub record World : Type 0 where
 abbrev pub world : Seen → Heard → Heard → World
 world folder out err = record { folder = folder; out = out; err = err }
 
--- How a command ended, with this fault or none: it was done, and its text was sent, or the fault
--- has its cause, its numbers and what it leaves. Equal names are found no matter what else is at
--- fault.
+-- How a command ended, with this fault or none: it was done, and its
+-- text was sent, or the fault has its cause, its numbers and what it
+-- leaves. Equal names are found no matter what else is at fault.
 pub record CommandEnds (command : Command) (old new : Seen) (out_old out_new : Heard)
     (fault : Option EditFault) : Type 0 where
   pub says : SaysText command old.files out_old out_new fault
@@ -120,8 +120,8 @@ always_of (Err place) = None
 
 -- ---- the result, where the folder's contents are known
 
--- the status that the program ends with, what it writes to standard output and to standard error,
--- and the files afterwards
+-- the status that the program ends with, what it writes to
+-- standard output and to standard error, and the files afterwards
 pub record Outcome : Type 0 where
   pub status : ℕ
   pub text : List ℕ
@@ -240,26 +240,26 @@ pub record ProgramRun (words : List (List ℕ)) (old new : World) (status : ℕ)
   -- with status 0, 1 or 2 all is as defined, whether or not a call failed
   pub defined : status ≤ 2
       → IfTold old.folder.files (λ files. IsOutcome (outcome words files) old new status)
-  -- Where no call of the folder and no write to standard output failed, and memory didn't run out,
-  -- exactly what is legal is done: the words ask for a command, no input is an output, each input
-  -- that is read as a stream is there, no longer than allowed and well-formed, and the choices are
-  -- legal.
+  -- Where no call of the folder and no write to standard output failed, and
+  -- memory didn't run out, exactly what is legal is done: the words ask for a
+  -- command, no input is an output, each input that is read as a stream is
+  -- there, no longer than allowed and well-formed, and the choices are legal.
   pub accepted : (files : Contents) → old.folder.files ≡ Told files → NoCallFailed old new
       → status ≢ 4 → ((status ≡ 0) ↔ IsLegal words files)
-  -- each output is there, with its name, well-formed, and its stream is exactly the frames that the
-  -- job chooses from its inputs: part by part at most one silent lead-in and then the frames, or
-  -- the input's frames alone where only gains move
+  -- each output is there, with its name, well-formed, and its stream is exactly the
+  -- frames that the job chooses from its inputs: part by part at most one silent
+  -- lead-in and then the frames, or the input's frames alone where only gains move
   pub streams : status ≡ 0 → HoldsAllStreams words old.folder.files new.folder.files
   -- with `pack --best`, and where the folder's contents are known, no file of the same frames in
   -- other slots, with a lead-in where this one has one or with none, has fewer bytes
   pub fewest : status ≡ 0 → HasFewestBytes words old.folder.files new.folder.files
-  -- over every folder, even one whose contents aren't known, no name but the names of the outputs
-  -- was touched: created, or written to
+  -- over every folder, even one whose contents aren't known, no name
+  -- but the names of the outputs was touched: created, or written to
   pub touches : OnlyTouches (outputs_asked (job_of words)) old.folder.files new.folder.files
   -- a refusal and running out of memory leave the files, and touch no name
   pub kept : status ≢ 0 → status ≢ 3 → new.folder.files ≡ old.folder.files
-  -- no status but 3 hides an absent input, a failed call of the folder or a file that became
-  -- shorter
+  -- no status but 3 hides an absent input, a failed
+  -- call of the folder or a file that became shorter
   pub failed : status ≢ 3 → new.folder.counts ≡ old.folder.counts
   -- a command that was done sends no line
   pub quiet : status ≡ 0 → new.err.sent ≡ old.err.sent

@@ -1,7 +1,7 @@
 //! What no clause says: that calls succeed.
 //!
-//! A test owns its folder and ends in one place, and what it asserts is in small functions that borrow the folder: that costs the
-//! check least.
+//! A test owns its folder and ends in one place, and what it asserts is
+//! in small functions that borrow the folder: that costs the check least.
 mod buffers;
 mod exact;
 mod sending;

@@ -65,8 +65,8 @@ fn word_said(bytes: &[u8]) -> u16 {
     }
 }
 
-/// The right check word, over the second half of the header and the side information, starting from
-/// all ones.
+/// The right check word, over the second half of the header
+/// and the side information, starting from all ones.
 fn word_right(frame: &Frame, bytes: &[u8]) -> u16 {
     let header = remainder_behind(0xffff, bytes, 16, 32);
     let side_at = frame.side_at.saturating_mul(8);
@@ -140,8 +140,8 @@ impl<'a> Numbered<'a> {
     }
 }
 
-/// Whether the frame is lost: its main data begin before the main data of the whole file, and each frame before it is silent
-/// or lost.
+/// Whether the frame is lost: its main data begin before the main data
+/// of the whole file, and each frame before it is silent or lost.
 fn is_lost(
     alloc: Global,
     file: &[u8],

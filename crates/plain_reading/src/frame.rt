@@ -64,8 +64,8 @@ fn class_at(bytes: &[u8]) -> Option<Class> {
     })
 }
 
-/// The length in bytes of a frame with this bit rate in kbit/s, without padding: 1,152 or 576
-/// samples' worth.
+/// The length in bytes of a frame with this bit rate in
+/// kbit/s, without padding: 1,152 or 576 samples' worth.
 fn length_of(class: &Class, rate: u16) -> usize {
     let samples_in_bytes = if class.is_mpeg_1 { 144 } else { 72 };
     let bits_a_second = 1000 * u64::from(rate);

@@ -107,8 +107,8 @@ pub(crate) fn start(file: &[u8]) -> Result<usize, SurveyFault> {
     }
 }
 
-/// What is found from the first frame on: all whole frames, and the fault where the stream ends too
-/// early.
+/// What is found from the first frame on: all whole
+/// frames, and the fault where the stream ends too early.
 #[derive(Drop)]
 pub(crate) struct Stream {
     pub(crate) frames: Vec<Frame>,

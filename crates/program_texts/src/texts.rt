@@ -16,8 +16,8 @@ use fade_plan::EnvelopeFault;
 use outside::{Failed, Sink};
 use sync_survey::SurveyFault;
 
-/// The status of a fault of an input: 3 where it isn't there, can't be read or became shorter,
-/// otherwise 1.
+/// The status of a fault of an input: 3 where it isn't
+/// there, can't be read or became shorter, otherwise 1.
 fn input_status(fault: &SurveyFault) -> u8
     ensures { result ≡ status_of (EditFault.Input 0 fault.now) }
 {
@@ -199,8 +199,8 @@ fn shrunk_line(name: &str, first: u64, second: u64) -> LineParts<'_>
     ])
 }
 
-// The parts of the line of a fault of the input with this name. Running out of memory isn't a fault of an input and never
-// comes here.
+// The parts of the line of a fault of the input with this name. Running
+// out of memory isn't a fault of an input and never comes here.
 fn input_parts<'a>(name: &'a str, fault: &SurveyFault) -> LineParts<'a>
     ensures { map line_part_of result.items ≡ Name name.now ∷ input_parts fault.now }
 {
@@ -291,8 +291,8 @@ fn span_line<'a>(from: u64, to: u64, samples: u64) -> LineParts<'a>
     ])
 }
 
-// The parts of the line of a fault of the cue sheet with this name. Running out of memory isn't a fault of a sheet and never
-// comes here.
+// The parts of the line of a fault of the cue sheet with this name.
+// Running out of memory isn't a fault of a sheet and never comes here.
 fn sheet_parts<'a>(name: &'a str, fault: &CueFault) -> LineParts<'a>
     ensures { map line_part_of result.items ≡ Name name.now ∷ sheet_parts fault.now }
 {

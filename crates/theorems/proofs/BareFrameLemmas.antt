@@ -1,5 +1,5 @@
--- What a frame with all main data is in a stream determines the frame, but for its slot and its
--- begin.
+-- What a frame with all main data is in a stream
+-- determines the frame, but for its slot and its begin.
 use Rattle.std.proofs.Common.{ap, ap₂, arith, Bool, drop, false, length, List, map, refl, subst}
 use Rattle.std.proofs.Common.{sum, sym, take, true, ℕ, [], ◌*◌, ◌++◌, ◌+◌, ◌-◌, ◌/◌, ◌∙◌, ◌∷◌, ◌≡◌}
 use Rattle.std.proofs.lemmas.List.{length-drop, length-take-le, take-append-drop, Sums.sum_by-cons}

@@ -1,5 +1,5 @@
--- The stream of a file that was cut short: the first frames of the file's stream, with the same
--- main data.
+-- The stream of a file that was cut short: the first
+-- frames of the file's stream, with the same main data.
 use Rattle.std.proofs.Common.{ap, append_assoc, ap₂, arith, Bool, cond, drop, false, length}
 use Rattle.std.proofs.Common.{length-append, length-drop, List, map, None, Option, refl, Some}
 use Rattle.std.proofs.Common.{subst, suc, sym, take, true, zero, ℕ, [], ◌*◌, ◌++◌, ◌+◌, ◌-◌, ◌∙◌}

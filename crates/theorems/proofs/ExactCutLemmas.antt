@@ -84,8 +84,8 @@ find-same f g (x ∷ xs) same =
 
 -- ---- lead-ins
 
--- frames that fit with no free bytes before them and begin with the same frame have the same
--- lead-in
+-- frames that fit with no free bytes before them and
+-- begin with the same frame have the same lead-in
 same-lead : (window : ℕ) (first : Need) (xs ys : List Need)
     → fits_behind window 0 (first ∷ xs) ≡ true → fits_behind window 0 (first ∷ ys) ≡ true
     → lead_in_header window (first ∷ xs) ≡ lead_in_header window (first ∷ ys)
@@ -121,8 +121,8 @@ lead-header window first needs h is =
 
 -- ---- the plan after an unconditional lead-in
 
--- what the plan of frames after an unconditional lead-in is, and the plan of the lead-in and the
--- frames
+-- what the plan of frames after an unconditional lead-in
+-- is, and the plan of the lead-in and the frames
 record IsLedRun (window : ℕ) (first : Need) (needs : List Need) (led run : List Placed) : Type 0
   where
     lead : Placed
@@ -352,8 +352,8 @@ module _ (file : List ℕ) (s : SurveyFields) (has : CanBeRelaid file s)
       ap₂ (λ (d : ClassFields) (ns : List Need).
       least_plan (window_of d.version) own_choice (ns ∷ [])) class-same same
 
-  -- if the run has the stream and the plan of the cut, the frames of the join are the frames that
-  -- are cut
+  -- if the run has the stream and the plan of the cut,
+  -- the frames of the join are the frames that are cut
   bare-frames : stream first parts inputs ≡ stream_all → run_plan first parts ≡ placed
       → seamless_frames first parts ≡ relaid_frames (part_frames part) placed
   bare-frames streams plans =

@@ -271,9 +271,9 @@ module _ (file : List ℕ) (s : SurveyFields) (has : CanBeRelaid file s) where
         ∙ length-take-le (span.last - span.first) (drop span.first own.frames)
         (omega (arith, length-drop span.first own.frames, inside.within))
 
-    -- Either its frames are in their own slots without a lead-in, where the span doesn't have to
-    -- have one and they fit with no free bytes before them; or they are after their lead-in, where
-    -- one of these doesn't hold.
+    -- Either its frames are in their own slots without a lead-in, where the
+    -- span doesn't have to have one and they fit with no free bytes before
+    -- them; or they are after their lead-in, where one of these doesn't hold.
     abbrev pub IsLaidOwn : Type 0
     IsLaidOwn =
         AreInOwnSlots needs placed × (span.led ≡ false) × (fits_behind window 0 needs ≡ true)

@@ -1,5 +1,5 @@
--- The numbers in the Info frame of exact pieces that are joined in order: the numbers of the span
--- from the first place to the last.
+-- The numbers in the Info frame of exact pieces that are joined in
+-- order: the numbers of the span from the first place to the last.
 use Rattle.std.proofs.Common.{ap, ap₂, arith, Bool, cond, drop, false, get_or, IsTrue, length, List}
 use Rattle.std.proofs.Common.{None, Ok, refl, replicate, Some, subst, sym, take, true, ℕ, [], ◌%◌}
 use Rattle.std.proofs.Common.{◌*◌, ◌++◌, ◌+◌, ◌-◌, ◌/◌, ◌<◌, ◌∙◌, ◌∷◌, ◌≡◌, ◌≤◌}

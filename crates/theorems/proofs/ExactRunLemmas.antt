@@ -1,6 +1,6 @@
--- Exact pieces, joined in order: each follows the one before it, and the stream is at most one
--- empty frame and then the recording's frames from the first frame of the first piece to the last
--- frame of the last.
+-- Exact pieces, joined in order: each follows the one before it, and the
+-- stream is at most one empty frame and then the recording's frames from
+-- the first frame of the first piece to the last frame of the last.
 use Rattle.std.proofs.Common.{ap, append_assoc, ap₂, arith, Bool, cond, drop, false, flat_map, inl}
 use Rattle.std.proofs.Common.{inr, length, List, map, not, refl, Some, subst, suc, sym, take, true}
 use Rattle.std.proofs.Common.{zero, ℕ, [], ◌&&◌, ◌*◌, ◌++◌, ◌+◌, ◌-◌, ◌<◌, ◌∙◌, ◌∷◌, ◌≡◌, ◌≤◌}
@@ -320,8 +320,8 @@ not-both true true is first = refl
 not-both true false is first = absurd cc
 not-both false y is first = absurd cc
 
--- a frame without main data, followed by frames that fit with no free bytes before them, fits so
--- too
+-- a frame without main data, followed by frames that
+-- fit with no free bytes before them, fits so too
 empty-before : (window : ℕ) (need : Need) (needs : List Need) → need.bytes ≡ 0
     → FitsBehind window 0 needs → FitsBehind window 0 (need ∷ needs)
 empty-before window need needs empty fits =
@@ -378,8 +378,8 @@ module _ (file : List ℕ) (s : SurveyFields) (has : CanBeRelaid file s)
       joints-are first parts inputs
       ∙ ap (λ (d : ClassFields). joints_of d (part_brought first) (map part_brought parts)) class-is
 
-  -- by the span of the first piece, each later one follows, and the run is the lead-ins of the
-  -- first and the frames of the recording
+  -- by the span of the first piece, each later one follows, and the
+  -- run is the lead-ins of the first and the frames of the recording
   pub record IsOneRun (sp : FirstSpan) : Type 0 where
     pub follow : list_all (λ (j : JointFrames). is_following_seam j.seam) joints ≡ true
     pub run_is : run_with (part_brought first) joints
@@ -464,8 +464,8 @@ module _ (file : List ℕ) (s : SurveyFields) (has : CanBeRelaid file s)
         there.some,
       )
 
-  -- the stream of the run is the lead-ins of the first piece and the frames of the recording, but
-  -- for what leaves the run at the end
+  -- the stream of the run is the lead-ins of the first piece and the
+  -- frames of the recording, but for what leaves the run at the end
   pub run-stream : (sp : FirstSpan) → stream first parts inputs ≡ drop front (sp.leads ++ whole)
   run-stream sp =
       let one_stream : List StreamFrame = slice_range (st file s has few) low piece.0.last in

@@ -272,8 +272,8 @@ module _ (file : List ℕ) (s : SurveyFields) (has : CanBeRelaid file s)
                   (last-behind s.class.version end);
             }
 
-      -- The input is the span, and its stream is this many lead-ins and then the frames of the
-      -- span.
+      -- The input is the span, and its stream is this
+      -- many lead-ins and then the frames of the span.
       pub record HasSpan : Type 0 where
         pub spans : IsSpanOf s.class all start end (part_brought p)
         pub from_is : spans.from ≡ span.first

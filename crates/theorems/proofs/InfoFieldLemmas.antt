@@ -119,8 +119,8 @@ sealed-front first info long =
     (omega (arith, few))
     ∙ take-take 28 28 info.extension (omega arith)
 
--- this extension has the bytes that are kept from a head's extension (the first 21, and 24 to 27),
--- and the name of an encoder that counts
+-- this extension has the bytes that are kept from a head's extension
+-- (the first 21, and 24 to 27), and the name of an encoder that counts
 pub record Keeps (head : Option Info) (extension : List ℕ) : Type 0 where
   pub front : take 21 extension ≡ take 21 (kept_extension head)
   pub mid : take 4 (drop 24 extension) ≡ take 4 (drop 24 (kept_extension head))

@@ -75,8 +75,8 @@ leads-begins window needs (lead_in ∷ lead_ins) placed alone plan fits =
     (subst (λ items. IsPlanFor window items placed)
     (append-nil (part_items own_choice needs lead_in)) plan) fits
 
--- in the plan of frames that fit with no free bytes before them, main data begin as early as they
--- may
+-- in the plan of frames that fit with no free bytes
+-- before them, main data begin as early as they may
 pub plan-begins : (window : ℕ) (needs : List Need) (placed : List Placed)
     → IsPlan window own_choice (needs ∷ []) placed → FitsBehind window 0 needs
     → OwnBegins window needs placed
@@ -218,8 +218,8 @@ module _ (window : ℕ) (first : Need) (needs : List Need) where
             ∙ ap (begins_of window 0 0) (led-laid p.slot);
       }
 
-  -- the plan of a part after an unconditional lead-in: the lead-in has the least slot whose area
-  -- the frames fit after
+  -- the plan of a part after an unconditional lead-in: the
+  -- lead-in has the least slot whose area the frames fit after
   pub led-as : (placed : List Placed) → IsLedPlan window own_choice all placed → IsLedAs placed
   unfolding AreItemSlots led_items
   led-as [] plan = absurd plan.slots

@@ -1,5 +1,5 @@
--- The head of a written file has the extension of its Info frame. An extension of zeros counts
--- nothing.
+-- The head of a written file has the extension of its
+-- Info frame. An extension of zeros counts nothing.
 use Rattle.std.proofs.Common.{ap, append_assoc, arith, Bool, cond, drop, false, length, List, None}
 use Rattle.std.proofs.Common.{Option, refl, replicate, Some, sym, take, true, ℕ, [], ◌%◌, ◌++◌, ◌-◌}
 use Rattle.std.proofs.{Common.{◌<◌, ◌^◌, ◌∙◌, ◌≡◌, ◌≤◌}, lemmas.Bool.{and_right, le-leb}}

@@ -1,5 +1,5 @@
--- The file of chosen frames as an input of a seamless join: it brings these frames, after the
--- lead-in that they need.
+-- The file of chosen frames as an input of a seamless join:
+-- it brings these frames, after the lead-in that they need.
 use Rattle.std.proofs.Common.{ap, Bool, drop, false, inl, length, List, map, None, Ok, Option, refl}
 use Rattle.std.proofs.Common.{replicate, Some, subst, sym, true, zip, ℕ, [], ◌++◌, ◌<◌, ◌∙◌, ◌∷◌}
 use Rattle.std.proofs.{Common.{◌≡◌, ◌≤◌}, lemmas.Bool.both_ways}

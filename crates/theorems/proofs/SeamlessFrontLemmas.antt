@@ -260,8 +260,8 @@ stream-two file s r q rows are =
 -- an input that begins with side information that is all 0
 module _ (c : ClassFields) (p : FilePart) (is : IsInput c p)
     (blank : begins_blank p.survey.frames ≡ true) where
-  -- when the head is set apart, the first frame of the input has side information with nothing in
-  -- it
+  -- when the head is set apart, the first frame of
+  -- the input has side information with nothing in it
   pub blank-side : (r : Row) → slice_get (survey_without_head p.survey).frames 0 ≡ Some r
       → row_side r ≡ no_side
   blank-side r found =

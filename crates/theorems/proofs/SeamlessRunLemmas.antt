@@ -207,8 +207,8 @@ module _ (first : FilePart) (parts : List FilePart)
         (cond-few (has_lead_in window brought
         && not (fits_behind window 0 (needs_of (drop 1 all)))))
 
-    -- where a frame leaves the run, the first input has a lead-in at its front, and the frames that
-    -- stay need one
+    -- where a frame leaves the run, the first input has a
+    -- lead-in at its front, and the frames that stay need one
     pub front-parts : 0 < joined.front
         → (has_lead_in window brought ≡ true) × (fits_behind window 0 (needs_of run) ≡ false)
     unfolding front_left_out_count

@@ -1,5 +1,5 @@
--- The pieces of a split, joined in order, are the file that was cut, but for its blocks after the
--- frames.
+-- The pieces of a split, joined in order, are the file
+-- that was cut, but for its blocks after the frames.
 use Rattle.std.proofs.Common.{ap, ap₂, arith, drop, flat_map, length, List, map, None, Ok, refl}
 use Rattle.std.proofs.Common.{replicate, Some, subst, suc, sym, take, zero, ℕ, [], ◌++◌, ◌-◌, ◌<◌}
 use Rattle.std.proofs.{Common.{◌∙◌, ◌∷◌, ◌≡◌, ◌≤◌}, lemmas.List.{drop-map, map-append, take-map}}
@@ -54,8 +54,8 @@ pub record AreRead (c : ClassFields) (fs : List Frame) (stream : List StreamFram
     pub entries : AreStreamEntries c fs
     pub is : map stream_entry fs ≡ stream
 
--- if two lists of frames are read as two streams, both together are read as one stream after the
--- other
+-- if two lists of frames are read as two streams, both
+-- together are read as one stream after the other
 pub read-append : (c : ClassFields) (fs gs : List Frame) (xs ys : List StreamFrame)
     → AreRead c fs xs → AreRead c gs ys → AreRead c (fs ++ gs) (xs ++ ys)
 read-append c fs gs xs ys first second = record {

@@ -297,8 +297,8 @@ module _ (file : List ℕ) (s : SurveyFields) where
           (is.of_class ∙ piece-class)
           (one-alike (laid_between a b) p none (laid-many a b some within fits)))
 
-      -- without the lead-in that it was given, its stream is the stream of the file between the
-      -- numbers
+      -- without the lead-in that it was given, its stream
+      -- is the stream of the file between the numbers
       pub piece-left : part_stream
           (part_from (if fits_behind window 0 (needs_of (run_between a b)) then 0 else 1) p)
           ≡ slice_range all_stream a b

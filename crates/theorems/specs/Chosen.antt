@@ -1,5 +1,5 @@
--- The frames that a job chooses, for each file that it writes: the headline's words, without plans,
--- slots or bytes.
+-- The frames that a job chooses, for each file that it writes:
+-- the headline's words, without plans, slots or bytes.
 use Rattle.std.specs.Prelude.{Err, false, flat_map, length, List, map, Ok, Result, slice_range}
 use Rattle.std.specs.Prelude.{true, unwrap_or, ℕ, [], ◌++◌, ◌+◌, ◌∷◌, ◌≡◌}
 use Rattle.commands.specs.declared.fault.EditFault.{EditFault}

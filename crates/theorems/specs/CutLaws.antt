@@ -16,8 +16,8 @@ IsCutFault (LostSync at) = Unit {0}
 IsCutFault (Truncated at) = Unit {0}
 IsCutFault _ = ⊥
 
--- what a survey finds in a prefix of a file: one of these faults, or none, and then the prefix's
--- stream is the first frames of the file's stream
+-- what a survey finds in a prefix of a file: one of these faults, or none,
+-- and then the prefix's stream is the first frames of the file's stream
 abbrev pub IsCutAnswer : List ℕ → List ℕ → Result SurveyFields SurveyFault → Type 0
 IsCutAnswer file front (Ok s) =
     IsWellFormed front × IsStreamPrefix (stream_of front) (stream_of file)

@@ -3,8 +3,8 @@ use Rattle.std.specs.Prelude.{List, [], ◌++◌, ◌∷◌, ◌≡◌}
 use Rattle.laying.specs.Relaid.{silent_lead_in}
 use Rattle.sync_survey.specs.MainData.{StreamFrame}
 
--- no frame, or one without main data, whose header is the header of the part's first frame without
--- a check word
+-- no frame, or one without main data, whose header is the
+-- header of the part's first frame without a check word
 abbrev pub IsAtMostALeadIn : List StreamFrame → List StreamFrame → Type 0
 IsAtMostALeadIn [] part = Unit {0}
 IsAtMostALeadIn (frame ∷ []) (first ∷ part) = frame ≡ silent_lead_in first

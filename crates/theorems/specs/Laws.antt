@@ -81,9 +81,9 @@ JoinedPlansAreFirst =
     → IsPlan (window_of first.survey.class.version) own_choice (map part_needs (first ∷ parts))
     (joined_plan first.survey.class (first ∷ parts))
 
--- The plan of a join without seams is the plan of one part: the first of all lists of the slots of
--- the run's frames, which are their own slots, except for first frames of inputs that joined in
--- greater ones.
+-- The plan of a join without seams is the plan of one part: the first
+-- of all lists of the slots of the run's frames, which are their own
+-- slots, except for first frames of inputs that joined in greater ones.
 abbrev pub SeamlessPlansAreFirst : Type 0
 SeamlessPlansAreFirst =
     (files : Contents) (inputs : List (List ℕ)) (first : FilePart) (parts : List FilePart)
@@ -91,8 +91,8 @@ SeamlessPlansAreFirst =
     → IsPlan (window_of first.survey.class.version) own_choice
     (needs_of (run_of (part_brought first) (join_of_parts first parts)) ∷ []) (run_plan first parts)
 
--- The output of a salvage holds exactly what is left of the damaged file: the frames of all runs,
--- each sound frame as it is, and each other frame empty.
+-- The output of a salvage holds exactly what is left of the damaged file: the
+-- frames of all runs, each sound frame as it is, and each other frame empty.
 abbrev pub SalvagedStreamsAreExact : Type 0
 SalvagedStreamsAreExact = (file : List ℕ) (d : DamagedFields) → damaged_of file ≡ Ok d
     → IsExactly (salvaged_stream file ∷ []) (left_stream file d)
@@ -105,8 +105,8 @@ SalvagedPlansAreFirst =
     (window_of d.survey.class.version) own_choice (map need_of (emptied_survey d.survey).frames
     ∷ []) (own_slots_plan (all_chosen (emptied_survey d.survey)) (emptied_survey d.survey))
 
--- What is left of a frame that is read: its header, and its side information, or no side
--- information and no main data if it isn't sound.
+-- What is left of a frame that is read: its header, and its side
+-- information, or no side information and no main data if it isn't sound.
 pub record IsLeftOf (r : Row) (frame : StreamFrame) : Type 0 where
   pub header : frame.header ≡ record r.header { slot = no_slot }
   pub sound : r.lost ≡ false → frame.side ≡ record r.side { main_data_begin = 0 }

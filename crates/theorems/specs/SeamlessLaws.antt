@@ -31,8 +31,8 @@ use Rattle.sync_survey.specs.{MainData.StreamFrame, Row.Row, Survey.survey_of}
 
 -- ---- positions
 
--- how many frames the run has up to where the frames of one input end in it: the input with this
--- number, counted from 0
+-- how many frames the run has up to where the frames of one
+-- input end in it: the input with this number, counted from 0
 abbrev pub run_end : FilePart → List FilePart → ℕ → ℕ
 run_end first parts number =
     length (run_after (part_brought first) (join_of_parts first parts).joints number)
@@ -45,8 +45,8 @@ IsSamePosition first parts number input x y =
     y + (length input.survey.frames + (join_of_parts first parts).front) * samples
     ≡ x + (run_lead_ins first parts + run_end first parts number) * samples
 
--- Frame j of a stream is like frame i of another: both are the same but for their gains. (Bit rate
--- and padding are no part of a stream.)
+-- Frame j of a stream is like frame i of another: both are the same
+-- but for their gains. (Bit rate and padding are no part of a stream.)
 pub record IsFrameAlike (class : ClassFields) (own : List StreamFrame) (i : ℕ)
     (all : List StreamFrame)
     (j : ℕ) : Type 0 where
@@ -112,8 +112,8 @@ pub record ArePieceInputs (laid : List LaidPart) (file : List ℕ) (s : SurveyFi
   pub are : map files inputs ≡ map (λ (l : LaidPart). Some (file_laid l file s)) laid
   pub taken : join_parts files inputs ≡ Ok (first ∷ parts)
 
--- The first frame of a piece is a look-alike if the piece was given no lead-in but has one at its
--- front all the same: it is a frame of the recording.
+-- The first frame of a piece is a look-alike if the piece was given no lead-in
+-- but has one at its front all the same: it is a frame of the recording.
 abbrev pub is_look_alike : LaidPart → FilePart → Bool
 is_look_alike laid part =
     piece_lead_ins laid == 0
@@ -143,9 +143,9 @@ is_empty_frame class f = list_all (λ bit. bit == 0) (side_bits class f.side)
 abbrev pub full_frames : ClassFields → List StreamFrame → List StreamFrame
 full_frames class stream = filter (λ f. not (is_empty_frame class f)) stream
 
--- This part is what is cut from the first place to the last. The join of the pieces is its file
--- without the blocks after the frames, and has its stream, where no first frame is a look-alike. In
--- any case their frames are the same but for empty ones.
+-- This part is what is cut from the first place to the last. The join of the pieces
+-- is its file without the blocks after the frames, and has its stream, where no first
+-- frame is a look-alike. In any case their frames are the same but for empty ones.
 pub record JoinsTheFrames (from to : Place) (laid : List LaidPart) (file : List ℕ)
     (s : SurveyFields)
     (first : FilePart) (parts : List FilePart) : Type 0 where
@@ -169,8 +169,8 @@ SplitThenSeamlessJoin =
 
 -- ---- in two steps
 
--- The file made by joining some inputs, followed by the other inputs, is a list of inputs of a join
--- that isn't refused.
+-- The file made by joining some inputs, followed by the other
+-- inputs, is a list of inputs of a join that isn't refused.
 pub record IsJoinedInSteps (first : FilePart) (parts others : List FilePart) : Type 0 where
   pub files : Contents
   pub names : List (List ℕ)
@@ -264,9 +264,9 @@ pub record IsTheCut (from to : ExactPlace) (laid : List LaidPart) (file : List �
   pub same : has_no_look_alike laid (first ∷ []) ≡ true
       → seamless_file (first ∷ parts) ≡ bare_file whole file (survey_without_head s)
 
--- The join of exact pieces has the frames of the recording that are needed, each once, plays
--- exactly the recording's samples from the first place to the last, and is what is cut from the one
--- to the other.
+-- The join of exact pieces has the frames of the recording that are
+-- needed, each once, plays exactly the recording's samples from the
+-- first place to the last, and is what is cut from the one to the other.
 pub record JoinsTheSamples (from to : ExactPlace) (laid : List LaidPart) (file : List ℕ)
     (s : SurveyFields) (first : FilePart) (parts : List FilePart) : Type 0 where
   -- the frames of the span, each once

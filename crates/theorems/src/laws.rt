@@ -26,8 +26,8 @@ pub fn packed_streams_are_exact()
     ensures { PackedStreamsAreExact }
 {}
 
-/// The output of a join holds exactly the frames of each input, in order, the frames of each input after at most one
-/// lead-in.
+/// The output of a join holds exactly the frames of each input,
+/// in order, the frames of each input after at most one lead-in.
 pub fn joined_streams_are_exact()
     ensures { JoinedStreamsAreExact }
 {}
@@ -50,8 +50,8 @@ pub fn salvaged_streams_are_exact()
     ensures { SalvagedStreamsAreExact }
 {}
 
-/// The plan of a salvage is the first of all lists too, each frame in its own slot, like the plan of a cut of all
-/// frames.
+/// The plan of a salvage is the first of all lists too, each
+/// frame in its own slot, like the plan of a cut of all frames.
 pub fn salvaged_plans_are_first()
     ensures { SalvagedPlansAreFirst }
 {}
@@ -69,9 +69,9 @@ pub fn streams_are_chosen()
     ensures { StreamsAreChosen }
 {}
 
-/// No frame is lost in a file written by a command that repacks main data, nor is any when the head of the file is set
-/// apart: no main data begin in the Info frame. If such a file is cut to a sample, all its frames therefore have their
-/// main data.
+/// No frame is lost in a file written by a command that repacks main data, nor is
+/// any when the head of the file is set apart: no main data begin in the Info frame.
+/// If such a file is cut to a sample, all its frames therefore have their main data.
 pub fn written_frames_stay()
     ensures { WrittenFramesStay }
 {}

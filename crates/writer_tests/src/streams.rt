@@ -40,8 +40,8 @@ static BLOCKS: [Piece; 2] = [
     },
 ];
 
-/// Three frames: the second is silent, and the main data of the third begin in the area of the
-/// first.
+/// Three frames: the second is silent, and the main
+/// data of the third begin in the area of the first.
 static FRAMES: [Main; 3] = [
     Main {
         begin: 0,

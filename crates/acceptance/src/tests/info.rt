@@ -1,5 +1,5 @@
-//! What a file is, in a few lines, and by how many steps its gains can move. The lines were worked out by hand from the frames'
-//! bytes.
+//! What a file is, in a few lines, and by how many steps its gains can
+//! move. The lines were worked out by hand from the frames' bytes.
 
 pub static ROWS: &str = "
 # info

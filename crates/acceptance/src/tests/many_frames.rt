@@ -1,5 +1,5 @@
-//! Files with more frames than any other file of the tests: each command finds memory for all of
-//! them.
+//! Files with more frames than any other file of the
+//! tests: each command finds memory for all of them.
 
 pub static ROWS: &str = "
 # many_frames

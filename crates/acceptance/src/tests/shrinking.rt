@@ -184,8 +184,8 @@ fn bytes_named(alloc: Global, words: &'static str) -> Result<Vec<u8>, TextFault>
     bytes_of_words(alloc, &names, words)
 }
 
-/// The bytes of these words. Where a word stands for no bytes, there are none, so that the test
-/// fails.
+/// The bytes of these words. Where a word stands for
+/// no bytes, there are none, so that the test fails.
 fn bytes_of(alloc: Global, words: &'static str) -> Result<Vec<u8>, AllocError> {
     match bytes_named(alloc, words) {
         Ok(bytes) => Ok(bytes),

@@ -79,8 +79,8 @@ fn length_of(value: u8, frequency: u32) -> u32 {
     length.saturating_add(u32::from(value / 2 % 2))
 }
 
-/// The fault where the frame has this length. Its area is 36 bytes shorter, and its main data begin 81 bytes before
-/// that.
+/// The fault where the frame has this length. Its area is 36
+/// bytes shorter, and its main data begin 81 bytes before that.
 fn of_length(length: u32) -> Option<SurveyFault> {
     match length {
         0..=364 => Some(SurveyFault::Overrun(417, 3200, 8 * (81 + length - 36))),
@@ -108,8 +108,8 @@ fn of_third_byte(value: u8) -> Option<SurveyFault> {
     }
 }
 
-/// The fault where the last byte, whose first two bits are the mode of the channels, has this
-/// value.
+/// The fault where the last byte, whose first two
+/// bits are the mode of the channels, has this value.
 fn of_last_byte(value: u8) -> Option<SurveyFault> {
     match value {
         0xc0..=0xff => Some(SurveyFault::Mixed(417)),

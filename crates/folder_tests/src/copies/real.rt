@@ -124,8 +124,8 @@ fn a_removed_file(rt: HostRuntime) -> Result<(), Fail> {
     Ok(())
 }
 
-// A name is noted before its file is made, so where making it fails, bytes may go to a file of this
-// name.
+// A name is noted before its file is made, so where
+// making it fails, bytes may go to a file of this name.
 fn expect_noted_first<R: Files + AllocGlobal + Abort>(rt: &R) -> Result<(), Fail> {
     let mut folder = DiskFolder::new(rt, rt.alloc());
     assert!(rt; folder.create("outside_noted/new/to").is_err());

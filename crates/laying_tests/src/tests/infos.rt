@@ -14,8 +14,7 @@ use test_files::files::Stretch::{Bytes, Fill};
 use test_files::files::{Stretch, bytes_of};
 use test_files::table;
 
-/// MPEG-1, 128 kbit/s at 44,100 Hz in two channels: 417 bytes, the first 4 and 32 of which are before
-/// the area.
+/// MPEG-1, 128 kbit/s at 44,100 Hz in two channels: 417 bytes, 4 + 32 of them before the area.
 const PLAIN: [u8; 4] = [0xff, 0xfb, 0x90, 0x00];
 
 /// 208 bytes at 64 kbit/s, 417 at 128 kbit/s, and 418 with padding.

@@ -93,8 +93,8 @@ fn a_feed_over_short_reads(rt: HostRuntime) -> Result<(), Fail> {
     expect_fed(&rt, rt.alloc(), &mut folder, &BY_SHORT_READS, &[])
 }
 
-// Reads of the length that is asked for: one for the first 65,536 bytes, and one for the bytes
-// after those.
+// Reads of the length that is asked for: one for the
+// first 65,536 bytes, and one for the bytes after those.
 static BY_LONG_READS: [Case; 4] = cases! {
     1 at 1: Ok(1), 1 reads;
     4096 at 61_441: Ok(4096), 1 reads;

@@ -14,8 +14,8 @@ struct Reading {
     reads: u64,
 }
 
-/// The second reading begins where 10 bytes are left, and the second read of the third reading
-/// fails.
+/// The second reading begins where 10 bytes are left,
+/// and the second read of the third reading fails.
 static READINGS: [Reading; 3] = [
     Reading {
         found: 100,
@@ -37,8 +37,8 @@ static READINGS: [Reading; 3] = [
     },
 ];
 
-/// Whether this was returned after the wanted number of reads, with the right bytes where there are
-/// any.
+/// Whether this was returned after the wanted number
+/// of reads, with the right bytes where there are any.
 fn is_read(answer: &Result<(), ReadFault>, reads: u64, bytes: &[u8], reading: &Reading) -> bool {
     *answer == reading.answer
         && reads == reading.reads

@@ -51,8 +51,8 @@ fn expect_pieces(rt: &impl Abort, alloc: Global, sink: &mut MemSink) -> Result<(
     Ok(())
 }
 
-// Bytes that fit wait. Other bytes are added once what waited was sent, or are sent too where they are more than the buffer
-// holds.
+// Bytes that fit wait. Other bytes are added once what waited was
+// sent, or are sent too where they are more than the buffer holds.
 #[test]
 fn pieces_wait_and_are_sent(rt: HostRuntime) -> Result<(), Fail> {
     let mut sink = MemSink::new(rt.alloc());

@@ -16,8 +16,8 @@ impl Calls {
     }
 }
 
-/// A folder of one file, which gives and takes at most `most` bytes at a time. Its contents aren't
-/// known.
+/// A folder of one file, which gives and takes at most
+/// `most` bytes at a time. Its contents aren't known.
 #[derive(Drop)]
 pub struct Slow {
     pub content: Vec<u8>,

@@ -31,8 +31,8 @@ fn count_of(menu: Menu<'_>, frames: usize, lead_ins: usize) -> u64 {
     count
 }
 
-/// The slot that is chosen next in the list of this number, where `behind` lists have the same slots up
-/// to it.
+/// The slot that is chosen next in the list of this number,
+/// where `behind` lists have the same slots up to it.
 fn slot_in(menu: Menu<'_>, number: u64, behind: u64) -> Option<Slot> {
     let place = number
         .checked_div(behind)?

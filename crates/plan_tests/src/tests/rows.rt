@@ -23,8 +23,8 @@ fn row_of(class: Class, placed: &Placed) -> Row {
     }
 }
 
-/// The first place where the plan has another frame than these; the number of frames of the plan where it has more or
-/// fewer.
+/// The first place where the plan has another frame than these;
+/// the number of frames of the plan where it has more or fewer.
 fn other_row(class: Class, placed: &[Placed], rows: &[Row]) -> Option<usize> {
     if placed.len() != rows.len() {
         return Some(placed.len());

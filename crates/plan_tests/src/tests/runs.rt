@@ -21,8 +21,8 @@ const LARGEST_RATE: [u8; 4] = [0xff, 0xfb, 0xe0, 0x00];
 
 /// Frames that leave nothing after a whole window of 511 bytes: the third takes them and its own area.
 const FULL: [Asked; 3] = [Asked(STEREO, 0), Asked(STEREO, 0), Asked(STEREO, 892)];
-/// Two frames that are shared with the frames before, and two more. The third has 19 bytes more than its
-/// area.
+/// Two frames that are shared with the frames before, and
+/// two more. The third has 19 bytes more than its area.
 const SHARING: [Asked; 4] = [
     Asked(STEREO, 381),
     Asked(STEREO, 100),

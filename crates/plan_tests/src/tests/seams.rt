@@ -12,8 +12,8 @@ use test_files::table;
 /// MPEG-1, 44,100 Hz, 320 kbit/s, stereo: 1,044 bytes, area 1,008.
 const LARGEST_RATE: [u8; 4] = [0xff, 0xfb, 0xe0, 0x00];
 
-/// Frames: how many free bytes they need, how many they leave after `free` bytes, and the header of their
-/// lead-in.
+/// Frames: how many free bytes they need, how many they leave
+/// after `free` bytes, and the header of their lead-in.
 struct Case {
     name: &'static str,
     frames: &'static [Asked],
@@ -35,8 +35,8 @@ static CASES: [Case; 4] = table! {
     ("with a check word", &[Asked(PROTECTED, 447)], 70, 68, 2, [0xff, 0xfb, 0x10, 0x00])
 };
 
-/// Whether they need and leave these numbers of bytes, once it is checked that this may be
-/// computed.
+/// Whether they need and leave these numbers of bytes,
+/// once it is checked that this may be computed.
 fn are_so(needs: &[Need], free: u32, wanted: u32, left: u32) -> bool {
     if needs.is_empty() || !fit_behind(needs, free) {
         return false;

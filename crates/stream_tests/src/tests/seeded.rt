@@ -119,8 +119,8 @@ fn has_bytes(folder: &MemFolder, count: usize) -> bool {
     folder.get("s").unwrap_or(&[]).len() == count
 }
 
-/// Whether writing a stream of 200 frames fails at the second write, and what the first wrote is
-/// there.
+/// Whether writing a stream of 200 frames fails at the
+/// second write, and what the first wrote is there.
 fn fails_at_the_second_write(alloc: Global, folder: &mut MemFolder) -> Result<bool, AllocError> {
     folder.fail(Call::Write, 2)?;
     let is_refused = write(alloc, folder, 1, 200)? == Err(StreamFault::Write);

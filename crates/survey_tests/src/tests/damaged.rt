@@ -23,14 +23,14 @@ struct Case {
     head: Option<u64>,
 }
 
-/// Two frames: the main data of the second begin 81 bytes before its own area, in the area of the
-/// first.
+/// Two frames: the main data of the second begin 81
+/// bytes before its own area, in the area of the first.
 const FIRST: Stretch = Stretch::Frame(0, 2400);
 
 const SECOND: Stretch = Stretch::Frame(81, 3200);
 
-/// The first frame's third byte is 00, so the main data of the second frame that are in the first
-/// are lost.
+/// The first frame's third byte is 00, so the main data
+/// of the second frame that are in the first are lost.
 static NO_FIRST: Case = Case {
     file: &[Bytes(&[0xff, 0xfb, 0x00, 0x00]), Fill(0, 413), SECOND],
     frames: &[(417, true)],

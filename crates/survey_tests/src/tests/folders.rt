@@ -1,5 +1,5 @@
-//! The survey of a file of a folder: what it finds in a well-formed file, and what a folder may do to
-//! it.
+//! The survey of a file of a folder: what it finds in
+//! a well-formed file, and what a folder may do to it.
 
 use super::untold::Untold;
 use frame_header::{Class, Version};

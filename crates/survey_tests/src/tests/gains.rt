@@ -16,8 +16,8 @@ const SOUND: Frame = frame! {
     side: b"\0\0\0\x08\0\x32\0\0\0\0\x01\0\x07\x80\0\0\0\0\x20\0\xdc\0\0\0\0\x04\0\x20\x80", ..G
 };
 
-/// The same frame with the gains 0, 255, 0, 255, and with main data that begin 81 bytes before its
-/// area.
+/// The same frame with the gains 0, 255, 0, 255, and
+/// with main data that begin 81 bytes before its area.
 const LOST: Frame = frame! {
     side: b"\x28\x80\0\x08\0\0\0\0\0\0\x01\0\x0f\xf0\0\0\0\0\x20\0\0\0\0\0\0\x04\0\x3f\xc0", ..G
 };

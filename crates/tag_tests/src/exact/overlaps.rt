@@ -1,5 +1,5 @@
-//! The frames shared by files where one continues where the other ends, worked out by hand: sums of the numbers in the heads, frames
-//! by division.
+//! The frames shared by files where one continues where the other ends,
+//! worked out by hand: sums of the numbers in the heads, frames by division.
 
 use exact_span::{Overlap, Played, shared};
 use frame_header::{Class, Version};

@@ -8,8 +8,8 @@ use std::process::Abort;
 use std::test::Fail;
 use test_files::table;
 
-/// A head with a number of frames, with the first bytes of its extension and the bytes of delay and
-/// padding.
+/// A head with a number of frames, with the first bytes
+/// of its extension and the bytes of delay and padding.
 struct Head {
     frames: u32,
     text: [u8; 9],
@@ -19,18 +19,18 @@ struct Head {
 /// What two words give.
 #[derive(Clone, Copy, Debug, PartialEq, Eq)]
 enum Answer {
-    /// The numbers of two samples that aren't in order or go past the end, and how many samples
-    /// there are.
+    /// The numbers of two samples that aren't in order or
+    /// go past the end, and how many samples there are.
     Range(u64, u64, u64),
-    /// The frames from one to before another, after this many lead-ins, with this delay and
-    /// padding.
+    /// The frames from one to before another, after
+    /// this many lead-ins, with this delay and padding.
     Piece(u32, u32, u32, u16, u16),
 }
 
 use Answer::{Piece, Range};
 
-/// A file without a head, or with one, and with this many frames; two words; and whether the first frame's main data need a
-/// lead-in.
+/// A file without a head, or with one, and with this many frames; two
+/// words; and whether the first frame's main data need a lead-in.
 struct Row {
     version: Version,
     index: u8,

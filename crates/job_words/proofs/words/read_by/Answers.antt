@@ -1,5 +1,5 @@
--- A form that the words have ends the loop; otherwise it continues, and the place of the bad word
--- stays known.
+-- A form that the words have ends the loop; otherwise it
+-- continues, and the place of the bad word stays known.
 use Rattle.std.proofs.Common.{ap, arith, Err, get_or, List, map, max, string_bytes, subst, sym}
 use Rattle.std.proofs.{Common.{take, ◌∙◌, ◌≡◌}, lemmas.Grind.common_steps}
 use Rattle.std.proofs.lemmas.List.{get_or-map, length-map, take_all}

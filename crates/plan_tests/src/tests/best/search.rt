@@ -1,5 +1,5 @@
-//! Each best plan of a short part is the list with the least sum, found by trying every list of
-//! slots.
+//! Each best plan of a short part is the list with the
+//! least sum, found by trying every list of slots.
 
 use super::planned::best_of;
 use crate::tests::asked::{Asked, needs_of};

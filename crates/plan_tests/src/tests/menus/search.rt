@@ -1,5 +1,5 @@
-//! Each plan of a short part from a menu is the first list, found by trying every list of its
-//! slots.
+//! Each plan of a short part from a menu is the first
+//! list, found by trying every list of its slots.
 
 use super::planned::plan_of;
 use crate::tests::asked::{Asked, needs_of};
@@ -13,8 +13,8 @@ use std::alloc::AllocGlobal;
 use std::process::Abort;
 use std::test::Fail;
 
-/// Whether no list is found after a lead-in up to this frame, and one is found up to each earlier
-/// frame.
+/// Whether no list is found after a lead-in up to this
+/// frame, and one is found up to each earlier frame.
 fn is_unfit(needs: &[Need], menu: Menu<'_>, i: u32) -> bool {
     for (at, _) in needs.iter().enumerate() {
         if first_list(&needs[..at + 1], menu, 1).is_some() != (at < i as usize) {
@@ -24,8 +24,8 @@ fn is_unfit(needs: &[Need], menu: Menu<'_>, i: u32) -> bool {
     (i as usize) < needs.len()
 }
 
-/// Expects that the planner's result is the one found by trying every list; returns whether it is a
-/// plan.
+/// Expects that the planner's result is the one found
+/// by trying every list; returns whether it is a plan.
 fn expect_searched<R: Abort + AllocGlobal>(
     rt: &R,
     frames: &[Asked],

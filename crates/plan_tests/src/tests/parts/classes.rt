@@ -38,8 +38,8 @@ static CLASSES: [Row; 18] = table! {
     ([0xff, 0xe3, 0x18, 0xc0], 32)
 };
 
-/// The main data of a frame in this slot that has as many as it can begin a whole window before its area, after
-/// its lead-in.
+/// The main data of a frame in this slot that has as many as it
+/// can begin a whole window before its area, after its lead-in.
 fn expect_greatest<R: Abort + AllocGlobal>(
     rt: &R,
     header: Header,

@@ -25,8 +25,8 @@ static WITHOUT: [Case; 2] = table! {
     // missing: 80 kbit/s padded has area 226, and 96 has 277, which leaves 45.
     ("two", &[Asked(STEREO, 300), Asked(STEREO, 400)], &[LeadIn(32, 0), Frame(128, 68), Frame(128, 149)],
         &[LeadIn(32, 0), Frame(96, 68), Frame(128, 45)])
-    // The lead-in has no check word, and thus 2 more bytes. No more than the window of 511 bytes is
-    // free.
+    // The lead-in has no check word, and thus 2 more
+    // bytes. No more than the window of 511 bytes is free.
     ("silent", &[Asked(PROTECTED, 0), Asked(STEREO, 0), Asked(STEREO, 0)],
         &[LeadIn(32, 0), Frame(128, 68), Frame(128, 447), Frame(128, 511)],
         &[LeadIn(32, 0), Frame(32, 68), Frame(32, 134), Frame(32, 202)])
@@ -39,8 +39,8 @@ static WITH: [Case; 3] = table! {
     ("stereo", &[Asked(STEREO, 400)], &[LeadIn(32, 0), Frame(128, 68)], &[LeadIn(32, 0), Frame(128, 68)])
     // 189 bytes are missing: 80 kbit/s has area 227. With any slot a lead-in of area 11 is enough, and 189 are missing.
     ("low", &[Asked(LOW, 200)], &[LeadIn(80, 0), Frame(8, 227)], &[LeadIn(8, 0), Frame(80, 11)])
-    // 491 bytes have to be free before the second, and thus 68 before the first: no slot is larger than
-    // theirs.
+    // 491 bytes have to be free before the second, and thus
+    // 68 before the first: no slot is larger than theirs.
     ("large", &[Asked(LARGE, 586), Asked(LARGE, 1500)], &[LeadIn(32, 0), Padded(320, 68), Padded(320, 491)],
         &[LeadIn(32, 0), Padded(320, 68), Padded(320, 491)])
 };
