@@ -222,9 +222,9 @@ pub record HasTheSpan (from to : ExactPlace) (file : List ℕ) (s : SurveyFields
       ≡ leads ++ slice_range (stream_of_survey file (survey_without_head s)) span.first span.last
 
 -- Numbers are written. By the Info frame the join plays the samples from the first place to before
--- the last, and no others: it has the number of frames and the delay and the padding of the span,
--- both in range; and sample k of the join is at the offset in its frame at which sample a + k of
--- the recording, where the first place is sample a, is in the same frame.
+-- the last, and no others: the Info frame has the number of frames and the delay and the padding of
+-- the span, both in range; and sample k of the join is at the offset in its frame at which sample
+-- a + k of the recording, where the first place is sample a, is in the same frame.
 pub record PlaysTheSpan (from to : ExactPlace) (file : List ℕ) (s : SurveyFields) (first : FilePart)
     (parts : List FilePart) (leads : ℕ) (span : Span) : Type 0 where
   -- the row of the first frame of the run, from whose header the Info frame is made
