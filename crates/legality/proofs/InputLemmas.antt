@@ -5,8 +5,7 @@ use Rattle.std.proofs.{Common.◌≤◌, lemmas.{Bool.false_from_ne_true, List.E
 use Rattle.std.proofs.lemmas.{List.Folds.list_any_at, Map.Views.Contains-from_any}
 use Rattle.std.{proofs.lemmas.Slice.Eq.bytes_eq-Decides, specs.List.list_any}
 use Rattle.commands.{proofs.MakeLemmas.no_clash, specs.Command.clash_from}
-use Rattle.legality.specs.Inputs.{AreInputs, AreNamesApart, FileInput, HoldsOfEach, HoldsOfEachNext}
-use Rattle.legality.specs.Inputs.{HoldsOfOne, input_frames, IsInput}
+use Rattle.legality.specs.Inputs.{AreNamesApart, FileInput, HoldsOfEach, HoldsOfEachNext, IsInput}
 use Rattle.outside.{proofs.FilesLemmas.bytes_eq_same, specs.Files.Contents}
 use Rattle.pack_edits.proofs.LimitLemmas.{few-rows}
 use Rattle.sync_survey.proofs.{FaultsLemmas.marked-length, FoldersLemmas.survey_of-short}
@@ -127,15 +126,6 @@ pub record IsOne (Choice : FileInput → Type 0) (files : Contents) (name : List
   pub few : length input.survey.frames ≤ most
   pub choice : Choice input
 
--- one legal input is the input of the command
-pub one-of : (Choice : FileInput → Type 0) (files : Contents) (name : List ℕ) (most : ℕ)
-    (inputs : List FileInput) → AreInputs files (name ∷ []) inputs → input_frames inputs ≤ most
-    → HoldsOfOne Choice inputs → IsOne Choice files name most
-one-of Choice files name most [] are few choice = absurd are
-one-of Choice files name most (input ∷ []) are few choice =
-    record { input = input; is = are.0; few = omega (arith, few); choice = choice }
-one-of Choice files name most (input ∷ next ∷ inputs) are few choice = absurd choice
-
 -- a legal input has its survey
 pub one-survey : (Choice : FileInput → Type 0) (files : Contents) (name : List ℕ) (most : ℕ)
     (one : IsOne Choice files name most) → survey_of one.input.bytes most ≡ Ok one.input.survey
@@ -148,3 +138,14 @@ pub survey-input : (files : Contents) (name file : List ℕ) (allowed : ℕ) (s 
     → IsInput files name (record { bytes = file; survey = s })
 survey-input files name file allowed s there e = let whole = survey-whole file allowed s e in
     record { there = there; long = whole.long; well_formed = whole.well_formed }
+
+-- a surveyed file that the choice is legal for is such an input
+pub surveyed-one : (Choice : FileInput → Type 0) (files : Contents) (name file : List ℕ) (most : ℕ)
+    (s : SurveyFields) → files name ≡ Some file → survey_of file most ≡ Ok s
+    → Choice (record { bytes = file; survey = s }) → IsOne Choice files name most
+surveyed-one Choice files name file most s there surveyed choice = record {
+  input = record { bytes = file; survey = s };
+  is = survey-input files name file most s there surveyed;
+  few = (survey-whole file most s surveyed).few;
+  choice = choice;
+}

@@ -16,20 +16,21 @@ use Rattle.cut_edits.specs.Chosen.{slot_choices}
 use Rattle.cut_edits.specs.Exact.{exact_command, exact_making, exact_refuses, exact_task}
 use Rattle.exact_span.specs.declared.exact_place.ExactPlace.{ExactPlace}
 use Rattle.exact_span.specs.declared.exact_place.ExactPlace.TheVariants.{Place as Position}
-use Rattle.gain_edits.specs.Change.{change_making, change_task, changed_or_fault}
-use Rattle.gain_edits.specs.Fade.{fade_change, fade_command, fade_task, input_sheet_change}
+use Rattle.gain_edits.specs.Change.{change_making, change_task, changed_or_fault, Changing}
+use Rattle.gain_edits.specs.Fade.{fade_change, fade_command, fade_task}
 use Rattle.gain_edits.specs.Gain.{gain_change, gain_command, gain_refuses}
 use Rattle.gain_edits.specs.Undo.{file_undo_steps, undo_change, undo_command, undo_refuses}
 use Rattle.job_words.specs.Request.{Cut, CutExact, Drill, Fade, Gain, Help, InfoFile, Join}
-use Rattle.job_words.specs.Request.{ListFile, Pack, SplitAt, SplitBy, SplitExact, Undo, Version}
+use Rattle.job_words.specs.Request.{ListFile, Pack, Request, SplitAt, SplitBy, SplitExact, Undo}
+use Rattle.job_words.specs.Request.{Version}
 use Rattle.join_edits.specs.Join.{join_command, join_parts, join_task, joined_file}
 use Rattle.join_edits.specs.Seamless.{seamless_command, seamless_file, seamless_task}
 use Rattle.join_edits.specs.Seamless.{seamless_text_or_none}
 use Rattle.laying.specs.{KeptFields.fields_of_head, Relaid.FilePart}
 use Rattle.legality.proofs.FadeLemmas.{fade-legal, legal-fade}
 use Rattle.legality.proofs.GainLemmas.{gain-legal, legal-gain, legal-undo, undo-legal, with-parts}
-use Rattle.legality.proofs.InputLemmas.{apart_no-clash, IsOne, no-clash_apart, one-of, one-survey}
-use Rattle.legality.proofs.InputLemmas.{survey-input, survey-whole, whole-survey}
+use Rattle.legality.proofs.InputLemmas.{apart_no-clash, IsOne, no-clash_apart, one-survey}
+use Rattle.legality.proofs.InputLemmas.{surveyed-one, whole-survey}
 use Rattle.legality.proofs.JoinLemmas.{joined-parts, parts-joined}
 use Rattle.legality.proofs.PackLemmas.{constant-legal, floor-legal, legal-constant, legal-floor}
 use Rattle.legality.proofs.{PackLemmas.planned-made, SalvageLemmas.salvage-law}
@@ -41,10 +42,11 @@ use Rattle.legality.specs.Choices.{IsLegalGain, IsLegalPack, IsLegalSheet, IsLeg
 use Rattle.legality.specs.Choices.{IsSampleRange}
 use Rattle.legality.specs.Inputs.{AreInputs, AreNamesApart, FileInput, HoldsOfEachNext}
 use Rattle.legality.specs.{Inputs.input_frames, Laws.{AcceptsFiles, LegalIsAccepted}}
-use Rattle.legality.specs.Legal.{IsLegalFor}
+use Rattle.legality.specs.Legal.{AreLegalChoices, IsLegalFor, most_frames_of, others_of, outputs_of}
+use Rattle.legality.specs.Legal.{sources_of}
 use Rattle.list_edits.specs.{InfoText.{info_command, info_text}, Listing.{list_command, listing}}
 use Rattle.list_edits.specs.TextCommand.{input_text, surveyed_text, text_command}
-use Rattle.moved_gains.specs.Change.{file_with_change}
+use Rattle.moved_gains.specs.Change.{file_with_change, FileChange}
 use Rattle.outside.specs.Files.{Contents}
 use Rattle.pack_edits.specs.Modes.{allowed_frames, limited_result, mode_planning, most_best}
 use Rattle.pack_edits.specs.Modes.{pack_mode_command, pack_task, survey_fault_or}
@@ -80,28 +82,52 @@ pub drill-legal : (seed count : ℕ) (files : Contents) → IsLegalFor (Drill se
 drill-legal seed count files =
     record { names = no-names []; inputs = []; are = tt; few = omega arith; choices = tt }
 
--- ---- the survey of an input
+-- ---- one input
 
 few-one : (n most : ℕ) → n ≤ most → n + 0 ≤ most
 few-one n most few = omega (arith, few)
 
--- ---- a text of one input
+-- a command that reads one stream is legal exactly if its names are
+-- apart, and the stream is one that what was chosen is legal for
+module _ (asked : Request) (files : Contents) (input : List ℕ)
+    (reads : sources_of asked ≡ input ∷ []) where
+  abbrev ChoiceOf : FileInput → Type 0
+  ChoiceOf one = AreLegalChoices asked files (one ∷ [])
 
-no-outputs : (input : List ℕ) → AreNamesApart (input ∷ []) []
-no-outputs input =
-    All-cons (λ name. Contains [] name → ⊥) input [] (λ has. omega (arith, has.1)) (no-names [])
+  abbrev IsOneOf : Type 0
+  IsOneOf = IsOne ChoiceOf files input (most_frames_of asked)
+
+  abbrev AreApart : List (List ℕ) → Type 0
+  AreApart sources = AreNamesApart (sources ++ others_of asked) (outputs_of asked)
+
+  the-one : (inputs : List FileInput) → AreInputs files (input ∷ []) inputs
+      → input_frames inputs ≤ most_frames_of asked → AreLegalChoices asked files inputs → IsOneOf
+  the-one [] are few choices = absurd are
+  the-one (one ∷ []) are few choices =
+      record { input = one; is = are.0; few = omega (arith, few); choice = choices }
+  the-one (one ∷ next ∷ inputs) are few choices = absurd are.1
+
+  one-legal : IsLegalFor asked files ↔ (AreApart (input ∷ []) × IsOneOf)
+  one-legal = (
+    (λ legal. (
+      subst AreApart reads legal.names,
+      the-one legal.inputs (subst (λ names. AreInputs files names legal.inputs) reads legal.are)
+          legal.few legal.choices,
+    )),
+    (λ is. record {
+      names = subst AreApart (sym reads) is.0;
+      inputs = is.1.input ∷ [];
+      are = subst (λ names. AreInputs files names (is.1.input ∷ [])) (sym reads) (is.1.is, tt);
+      few = few-one (length is.1.input.survey.frames) (most_frames_of asked) is.1.few;
+      choices = is.1.choice;
+    }),
+  )
+
+-- ---- a text of one input
 
 -- nothing is chosen
 abbrev NoChoice : FileInput → Type 0
 NoChoice input = Unit {0}
-
-one-read : (files : Contents) (name : List ℕ) (inputs : List FileInput)
-    → AreInputs files (name ∷ []) inputs → input_frames inputs ≤ most_frames
-    → IsOne NoChoice files name most_frames
-one-read files name [] are few = absurd are
-one-read files name (input ∷ []) are few =
-    record { input = input; is = are.0; few = omega (arith, few); choice = tt }
-one-read files name (input ∷ next ∷ inputs) are few = absurd are.1
 
 -- the text is sent exactly if the one input has no fault
 module _ (text : List ℕ → SurveyFields → List ℕ) (files : Contents) (input : List ℕ) where
@@ -113,12 +139,7 @@ module _ (text : List ℕ → SurveyFields → List ℕ) (files : Contents) (inp
       at : (r : Result SurveyFields SurveyFault) → survey_of file most_frames ≡ r
           → surveyed_text (text file) r ≡ Ok made → IsOne NoChoice files input most_frames
       at (Err fault) surveyed e = absurd cc
-      at (Ok s) surveyed e = record {
-        input = record { bytes = file; survey = s };
-        is = survey-input files input file most_frames s there surveyed;
-        few = (survey-whole file most_frames s surveyed).few;
-        choice = tt;
-      }
+      at (Ok s) surveyed e = surveyed-one NoChoice files input file most_frames s there surveyed tt
 
   one-text : IsOne NoChoice files input most_frames → AcceptsFiles (text_command text input) files
   one-text one = (
@@ -128,295 +149,182 @@ module _ (text : List ℕ → SurveyFields → List ℕ) (files : Contents) (inp
         (one-survey NoChoice files input most_frames one),
   )
 
-  text-law : (Legal : Type 0) → (Legal → IsOne NoChoice files input most_frames)
-      → (IsOne NoChoice files input most_frames → Legal)
+  text-law : (Legal : Type 0)
+      → Legal ↔ (AreNamesApart (input ∷ []) [] × IsOne NoChoice files input most_frames)
       → Legal ↔ AcceptsFiles (text_command text input) files
-  text-law Legal parts whole = (
-    (λ legal. one-text (parts legal)),
-    (λ made. whole (text-one (files input) made.0 refl made.1)),
+  text-law Legal is = (
+    (λ legal. one-text (is.0 legal).1),
+    (λ made. is.1 (
+      All-cons (λ name. Contains [] name → ⊥) input [] (λ has. omega (arith, has.1)) (no-names []),
+      text-one (files input) made.0 refl made.1,
+    )),
   )
 
 list-law : (files : Contents) (input : List ℕ)
     → IsLegalFor (ListFile input) files ↔ AcceptsFiles (list_command input) files
 list-law files input =
     text-law (λ file. listing) files input (IsLegalFor (ListFile input) files)
-    (λ legal. one-read files input legal.inputs legal.are legal.few)
-    (λ one. record {
-      names = no-outputs input;
-      inputs = one.input ∷ [];
-      are = (one.is, tt);
-      few = few-one (length one.input.survey.frames) most_frames one.few;
-      choices = tt;
-    })
+    (one-legal (ListFile input) files input refl)
 
 info-law : (files : Contents) (input : List ℕ)
     → IsLegalFor (InfoFile input) files ↔ AcceptsFiles (info_command input) files
 info-law files input =
     text-law (λ file s. info_text (fields_of_head file s.head) s) files input
-    (IsLegalFor (InfoFile input) files)
-    (λ legal. one-read files input legal.inputs legal.are legal.few)
-    (λ one. record {
-      names = no-outputs input;
-      inputs = one.input ∷ [];
-      are = (one.is, tt);
-      few = few-one (length one.input.survey.frames) most_frames one.few;
-      choices = tt;
-    })
+    (IsLegalFor (InfoFile input) files) (one-legal (InfoFile input) files input refl)
 
 -- ---- a file of one input
 
--- what is made of a file, and the choice for which it is made
-module _ (make : Making) (Choice : FileInput → Type 0)
-    (legal : (file : List ℕ) (s : SurveyFields) (bytes : List ℕ) → survey_of file most_frames ≡ Ok s
-    → make file s ≡ Ok bytes → Choice (record { bytes = file; survey = s }))
-    (makes : (file : List ℕ) (s : SurveyFields) → survey_of file most_frames ≡ Ok s
-    → Choice (record { bytes = file; survey = s }) → (bytes : List ℕ) × (make file s ≡ Ok bytes))
-    (files : Contents) (input : List ℕ) where
-  -- the choice is legal for a file that something is made of
-  pub made-one : (bytes : List ℕ) → input_result make (files input) ≡ Ok bytes
-      → IsOne Choice files input most_frames
-  made-one bytes e =
-      let made = made-of make files input bytes e in
-      record {
-        input = record { bytes = made.file; survey = made.survey };
-        is = survey-input files input made.file most_frames made.survey made.there made.surveyed;
-        few = (survey-whole made.file most_frames made.survey made.surveyed).few;
-        choice = legal made.file made.survey made.bytes made.surveyed made.made;
-      }
+-- a file is made
+abbrev IsMade : Result (List ℕ) EditFault → Type 0
+IsMade r = (bytes : List ℕ) × (r ≡ Ok bytes)
 
-  -- something is made of a file if the choice is legal for it
-  pub one-made : IsOne Choice files input most_frames
-      → (bytes : List ℕ) × (input_result make (files input) ≡ Ok bytes)
-  one-made one =
+-- of a well-formed file one is made exactly if the choice is legal for it
+abbrev IsMadeWhere : Making → (FileInput → Type 0) → Type 0
+IsMadeWhere make Choice =
+    (file : List ℕ) (s : SurveyFields) → survey_of file most_frames ≡ Ok s
+    → Choice (record { bytes = file; survey = s }) ↔ IsMade (make file s)
+
+one-made : (make : Making) (Choice : FileInput → Type 0) → IsMadeWhere make Choice
+    → (files : Contents) (input : List ℕ)
+    → IsOne Choice files input most_frames ↔ IsMade (input_result make (files input))
+one-made make Choice where_made files input = (
+  (λ one.
       let surveyed = one-survey Choice files input most_frames one in
-      let made = makes one.input.bytes one.input.survey surveyed one.choice in (
+      let made = (where_made one.input.bytes one.input.survey surveyed).0 one.choice in (
         made.0,
         of-made make files input one.input.bytes one.input.survey one.is.there surveyed ∙ made.1,
-      )
+      )),
+  (λ some.
+      let made = made-of make files input some.0 some.1 in
+      surveyed-one Choice files input made.file most_frames made.survey made.there made.surveyed
+      ((where_made made.file made.survey made.surveyed).1 (made.bytes, made.made))),
+)
 
 -- the command succeeds exactly with one input that the
 -- choice is legal for, where no output is one of its inputs
 module _ (files : Contents) (input : List ℕ) (others : List (List ℕ)) (output : List ℕ) (most : ℕ)
     (Choice : FileInput → Type 0) (task : Task) (names : task.inputs ≡ input ∷ others)
-    (makes : IsOne Choice files input most → (bytes : List ℕ) × (task.makes files ≡ Ok bytes))
-    (made : (bytes : List ℕ) → task.makes files ≡ Ok bytes → IsOne Choice files input most) where
+    (makes : IsOne Choice files input most ↔ IsMade (task.makes files)) where
   abbrev IsLegalOne : Type 0
   IsLegalOne = AreNamesApart (input ∷ others) (output ∷ []) × IsOne Choice files input most
 
-  one-law : (Legal : Type 0) → (Legal → IsLegalOne) → (IsLegalOne → Legal)
+  one-law : (Legal : Type 0) → Legal ↔ IsLegalOne
       → Legal ↔ AcceptsFiles (one_command task output) files
-  one-law Legal parts whole = (
+  one-law Legal is = (
     (λ legal.
-        let one = parts legal in
-        let bytes = makes one.1 in
+        let one = is.0 legal in
+        let bytes = makes.0 one.1 in
         parts-make task output files bytes.0 (ap (clash_from (output ∷ []) 0) names
         ∙ apart_no-clash (output ∷ []) (input ∷ others) 0 one.0) bytes.1),
     (λ done.
         let found = makes-parts task output files done.0 done.1 in
-        whole (
+        is.1 (
           no-clash_apart (output ∷ []) (input ∷ others) 0
               (sym (ap (clash_from (output ∷ []) 0) names) ∙ found.0),
-          made found.1 found.2,
+          makes.1 (found.1, found.2),
         )),
   )
 
--- ---- gain and undo
+-- ---- changes
 
-module _ (shift : Shift) (tags : Bool) where
-  gain-choice : (file : List ℕ) (s : SurveyFields) (bytes : List ℕ)
-      → survey_of file most_frames ≡ Ok s → change_making (gain_change shift tags) file s ≡ Ok bytes
-      → IsLegalGain shift tags (record { bytes = file; survey = s })
-  gain-choice file s bytes surveyed e =
-      let made = with-parts file s (gain_change shift tags file s) bytes e in
-      gain-legal shift file s tags made.0 made.1
+-- a file is made exactly if there is a change
+changed-made : (change : Changing) (Choice : FileInput → Type 0)
+    → ((file : List ℕ) (s : SurveyFields) → survey_of file most_frames ≡ Ok s
+    → Choice (record { bytes = file; survey = s })
+    ↔ ((made : FileChange) × (change file s ≡ Ok made)))
+    → IsMadeWhere (change_making change) Choice
+changed-made change Choice is file s surveyed = (
+  (λ legal.
+      let made = (is file s surveyed).0 legal in
+      (file_with_change made.0 file s, ap (changed_or_fault file s) made.1)),
+  (λ made. (is file s surveyed).1 (with-parts file s (change file s) made.0 made.1)),
+)
 
-  choice-gain : (file : List ℕ) (s : SurveyFields) → survey_of file most_frames ≡ Ok s
-      → IsLegalGain shift tags (record { bytes = file; survey = s })
-      → (bytes : List ℕ) × (change_making (gain_change shift tags) file s ≡ Ok bytes)
-  choice-gain file s surveyed legal = let change = legal-gain shift file s tags legal in
-      (file_with_change change.0 file s, ap (changed_or_fault file s) change.1)
-
-  gain-law : (files : Contents) (input output : List ℕ)
-      → IsLegalFor (Gain shift tags input output) files
-      ↔ AcceptsFiles (gain_command shift tags input output) files
-  gain-law files input output =
-      one-law files input [] output most_frames (IsLegalGain shift tags)
-      (change_task (gain_change shift tags) (λ file. steps_of shift) (gain_refuses tags) input) refl
-      (one-made (change_making (gain_change shift tags))
-      (IsLegalGain shift tags) gain-choice choice-gain
-      files input) (made-one (change_making (gain_change shift tags))
-      (IsLegalGain shift tags) gain-choice choice-gain files input)
-      (IsLegalFor (Gain shift tags input output) files)
-      (λ legal. (
-        legal.names,
-        one-of (IsLegalGain shift tags) files input most_frames
-            legal.inputs legal.are legal.few legal.choices,
-      ))
-      (λ is. record {
-        names = is.0;
-        inputs = is.1.input ∷ [];
-        are = (is.1.is, tt);
-        few = few-one (length is.1.input.survey.frames) most_frames is.1.few;
-        choices = is.1.choice;
-      })
-
-undo-choice : (file : List ℕ) (s : SurveyFields) (bytes : List ℕ)
-    → survey_of file most_frames ≡ Ok s → change_making undo_change file s ≡ Ok bytes
-    → IsLegalUndo (record { bytes = file; survey = s })
-undo-choice file s bytes surveyed e = let made = with-parts file s (undo_change file s) bytes e in
-    undo-legal file s made.0 made.1
-
-choice-undo : (file : List ℕ) (s : SurveyFields) → survey_of file most_frames ≡ Ok s
-    → IsLegalUndo (record { bytes = file; survey = s })
-    → (bytes : List ℕ) × (change_making undo_change file s ≡ Ok bytes)
-choice-undo file s surveyed legal = let change = legal-undo file s legal in
-    (file_with_change change.0 file s, ap (changed_or_fault file s) change.1)
+gain-law : (files : Contents) (shift : Shift) (tags : Bool) (input output : List ℕ)
+    → IsLegalFor (Gain shift tags input output) files
+    ↔ AcceptsFiles (gain_command shift tags input output) files
+gain-law files shift tags input output =
+    let change = gain_change shift tags in
+    let Choice = IsLegalGain shift tags in
+    one-law files input [] output most_frames Choice
+    (change_task change (λ file. steps_of shift) (gain_refuses tags) input) refl
+    (one-made (change_making change) Choice (changed-made change Choice (λ file s surveyed. (
+      legal-gain shift file s tags,
+      (λ made. gain-legal shift file s tags made.0 made.1),
+    ))) files input)
+    (IsLegalFor (Gain shift tags input output) files)
+    (one-legal (Gain shift tags input output) files input refl)
 
 undo-law : (files : Contents) (input output : List ℕ)
     → IsLegalFor (Undo input output) files ↔ AcceptsFiles (undo_command input output) files
 undo-law files input output =
     one-law files input [] output most_frames IsLegalUndo
     (change_task undo_change file_undo_steps undo_refuses input) refl
-    (one-made (change_making undo_change) IsLegalUndo undo-choice choice-undo files input)
-    (made-one (change_making undo_change) IsLegalUndo undo-choice choice-undo files input)
-    (IsLegalFor (Undo input output) files)
-    (λ legal. (
-      legal.names,
-      one-of IsLegalUndo files input most_frames legal.inputs legal.are legal.few legal.choices,
-    ))
-    (λ is. record {
-      names = is.0;
-      inputs = is.1.input ∷ [];
-      are = (is.1.is, tt);
-      few = few-one (length is.1.input.survey.frames) most_frames is.1.few;
-      choices = is.1.choice;
-    })
+    (one-made (change_making undo_change) IsLegalUndo
+    (changed-made undo_change IsLegalUndo (λ file s surveyed. (
+      legal-undo file s,
+      (λ made. undo-legal file s made.0 made.1),
+    ))) files input)
+    (IsLegalFor (Undo input output) files) (one-legal (Undo input output) files input refl)
 
--- ---- fade
-
-module _ (sheet : List ℕ) (back : Bool) (files : Contents) where
-  abbrev fade_make : Making
-  fade_make = change_making (fade_change (files sheet) back)
-
-  fade-choice : (file : List ℕ) (s : SurveyFields) (bytes : List ℕ)
-      → survey_of file most_frames ≡ Ok s → fade_make file s ≡ Ok bytes
-      → IsLegalFade sheet back files (record { bytes = file; survey = s })
-  fade-choice file s bytes surveyed e =
-      let made = with-parts file s (input_sheet_change (files sheet) back s) bytes e in
-      fade-legal sheet back files file s surveyed made.0 made.1
-
-  choice-fade : (file : List ℕ) (s : SurveyFields) → survey_of file most_frames ≡ Ok s
-      → IsLegalFade sheet back files (record { bytes = file; survey = s })
-      → (bytes : List ℕ) × (fade_make file s ≡ Ok bytes)
-  choice-fade file s surveyed legal = let change = legal-fade sheet back files file s surveyed legal
-      in (file_with_change change.0 file s, ap (changed_or_fault file s) change.1)
-
-  fade-law : (input output : List ℕ) → IsLegalFor (Fade back input output sheet) files
-      ↔ AcceptsFiles (fade_command sheet back input output) files
-  fade-law input output =
-      one-law files input (sheet ∷ []) output most_frames (IsLegalFade sheet back files)
-      (fade_task sheet back input) refl
-      (one-made fade_make (IsLegalFade sheet back files) fade-choice choice-fade files input)
-      (made-one fade_make (IsLegalFade sheet back files) fade-choice choice-fade files input)
-      (IsLegalFor (Fade back input output sheet) files)
-      (λ legal. (
-        legal.names,
-        one-of (IsLegalFade sheet back files) files input most_frames
-            legal.inputs legal.are legal.few legal.choices,
-      ))
-      (λ is. record {
-        names = is.0;
-        inputs = is.1.input ∷ [];
-        are = (is.1.is, tt);
-        few = few-one (length is.1.input.survey.frames) most_frames is.1.few;
-        choices = is.1.choice;
-      })
+fade-law : (files : Contents) (back : Bool) (input output sheet : List ℕ)
+    → IsLegalFor (Fade back input output sheet) files
+    ↔ AcceptsFiles (fade_command sheet back input output) files
+fade-law files back input output sheet =
+    let change = fade_change (files sheet) back in
+    let Choice = IsLegalFade sheet back files in
+    one-law files input (sheet ∷ []) output most_frames Choice (fade_task sheet back input) refl
+    (one-made (change_making change) Choice (changed-made change Choice (λ file s surveyed. (
+      legal-fade sheet back files file s surveyed,
+      (λ made. fade-legal sheet back files file s surveyed made.0 made.1),
+    ))) files input)
+    (IsLegalFor (Fade back input output sheet) files)
+    (one-legal (Fade back input output sheet) files input refl)
 
 -- ---- cut
-
-module _ (from to : Place) (least : Bool) where
-  abbrev RangeOf : FileInput → Type 0
-  RangeOf i = IsRange i.survey from to
-
-  abbrev cut_making : Making
-  cut_making = laying_making (cut_choice from to) (first_planning (slot_choices least))
-
-  cut-choice : (file : List ℕ) (s : SurveyFields) (bytes : List ℕ) → survey_of file most_frames
-      ≡ Ok s → cut_making file s ≡ Ok bytes → RangeOf (record { bytes = file; survey = s })
-  cut-choice file s bytes surveyed e =
-      let by =
-      laid-parts (cut_choice from to) (first_planning (slot_choices least)) file s bytes e in
-      cut-range from to file s by.chosen by.chose
-
-  choice-cut : (file : List ℕ) (s : SurveyFields) → survey_of file most_frames ≡ Ok s
-      → RangeOf (record { bytes = file; survey = s })
-      → (bytes : List ℕ) × (cut_making file s ≡ Ok bytes)
-  choice-cut file s surveyed legal =
-      let chosen = range-cut from to file s legal in (
-        _,
-        laying-is (cut_choice from to) (first_planning (slot_choices least)) file s chosen.0
-            (Ok (first_plan (slot_choices least) s.class (chosen_needs chosen.0 s))) chosen.1 refl,
-      )
 
 cut-law : (files : Contents) (from to : Place) (least : Bool) (input output : List ℕ)
     → IsLegalFor (Cut from to least input output) files
     ↔ AcceptsFiles (cut_command from to least input output) files
 cut-law files from to least input output =
-    let range = RangeOf from to least in
-    let make = cut_making from to least in
-    one-law files input [] output most_frames range
-    (laying_task (cut_choice from to) (first_planning (slot_choices least)) cut_refuses input) refl
-    (one-made make range (cut-choice from to least) (choice-cut from to least) files input)
-    (made-one make range (cut-choice from to least) (choice-cut from to least) files input)
+    let choice = cut_choice from to in
+    let planning = first_planning (slot_choices least) in
+    let Range = λ (i : FileInput). IsRange i.survey from to in
+    one-law files input [] output most_frames Range
+    (laying_task choice planning cut_refuses input) refl
+    (one-made (laying_making choice planning) Range (λ file s surveyed. (
+      (λ legal.
+          let chosen = range-cut from to file s legal in (
+            _,
+            laying-is choice planning file s chosen.0
+                (Ok (first_plan (slot_choices least) s.class (chosen_needs chosen.0 s)))
+                chosen.1 refl,
+          )),
+      (λ made.
+          let by = laid-parts choice planning file s made.0 made.1 in
+          cut-range from to file s by.chosen by.chose),
+    )) files input)
     (IsLegalFor (Cut from to least input output) files)
-    (λ legal. (
-      legal.names,
-      one-of range files input most_frames legal.inputs legal.are legal.few legal.choices,
-    ))
-    (λ is. record {
-      names = is.0;
-      inputs = is.1.input ∷ [];
-      are = (is.1.is, tt);
-      few = few-one (length is.1.input.survey.frames) most_frames is.1.few;
-      choices = is.1.choice;
-    })
+    (one-legal (Cut from to least input output) files input refl)
 
 -- ---- cut --exact
-
-module _ (from to : ExactPlace) where
-  exact-choice : (file : List ℕ) (s : SurveyFields) (bytes : List ℕ)
-      → survey_of file most_frames ≡ Ok s → exact_making from to file s ≡ Ok bytes
-      → IsSampleRange from to (record { bytes = file; survey = s })
-  exact-choice file s bytes surveyed e = let by = piece-parts from to file s bytes e in
-      span-range from to file s by.span by.span_is
-
-  choice-exact : (file : List ℕ) (s : SurveyFields) → survey_of file most_frames ≡ Ok s
-      → IsSampleRange from to (record { bytes = file; survey = s })
-      → (bytes : List ℕ) × (exact_making from to file s ≡ Ok bytes)
-  choice-exact file s surveyed legal = let span = range-span from to file s legal in
-      (_, exact-is from to file s span.0 span.1)
 
 exact-law : (files : Contents) (input : List ℕ) (from to : ExactPlace) (output : List ℕ)
     → IsLegalFor (CutExact input from to output) files
     ↔ AcceptsFiles (exact_command from to input output) files
 exact-law files input from to output =
-    let range = IsSampleRange from to in
-    let make = exact_making from to in
-    one-law files input [] output most_frames range (exact_task from to input) refl
-    (one-made make range (exact-choice from to) (choice-exact from to) files input)
-    (made-one make range (exact-choice from to) (choice-exact from to) files input)
+    let Range = IsSampleRange from to in
+    one-law files input [] output most_frames Range (exact_task from to input) refl
+    (one-made (exact_making from to) Range (λ file s surveyed. (
+      (λ legal.
+          let span = range-span from to file s legal in
+          (_, exact-is from to file s span.0 span.1)),
+      (λ made.
+          let by = piece-parts from to file s made.0 made.1 in
+          span-range from to file s by.span by.span_is),
+    )) files input)
     (IsLegalFor (CutExact input from to output) files)
-    (λ legal. (
-      legal.names,
-      one-of range files input most_frames legal.inputs legal.are legal.few legal.choices,
-    ))
-    (λ is. record {
-      names = is.0;
-      inputs = is.1.input ∷ [];
-      are = (is.1.is, tt);
-      few = few-one (length is.1.input.survey.frames) most_frames is.1.few;
-      choices = is.1.choice;
-    })
+    (one-legal (CutExact input from to output) files input refl)
 
 -- ---- pack
 
@@ -455,12 +363,8 @@ module _ (files : Contents) (input : List ℕ) where
           → survey_fault_or r (input_result (making_in Best) (Some file)) ≡ Ok bytes
           → IsOne (LegalIn Best) files input most_best
       at (Err fault) surveyed e = absurd cc
-      at (Ok s) surveyed e = record {
-        input = record { bytes = file; survey = s };
-        is = survey-input files input file most_best s there surveyed;
-        few = (survey-whole file most_best s surveyed).few;
-        choice = tt;
-      }
+      at (Ok s) surveyed e =
+          surveyed-one (LegalIn Best) files input file most_best s there surveyed tt
 
   parts-best : IsOne (LegalIn Best) files input most_best → (bytes : List ℕ) × (limited_result
       (Some most_best) (files input) (input_result (making_in Best) (files input)) ≡ Ok bytes)
@@ -482,37 +386,21 @@ module _ (files : Contents) (input : List ℕ) where
             ∙ made.1,
       )
 
-  -- with one input that the mode is legal for, the task of the mode makes a file
   one-packed : (mode : PackMode) → IsOne (LegalIn mode) files input (allowed_frames mode)
-      → (bytes : List ℕ) × ((pack_task mode input).makes files ≡ Ok bytes)
-  one-packed Best one = parts-best one
-  one-packed mode one =
-      one-made (making_in mode) (LegalIn mode) (pack-choice mode) (choice-pack mode) files input one
+      ↔ IsMade ((pack_task mode input).makes files)
+  one-packed Best = (parts-best, (λ made. best-parts (files input) made.0 refl made.1))
+  one-packed mode = one-made (making_in mode) (LegalIn mode) (λ file s surveyed. (
+    choice-pack mode file s surveyed,
+    (λ made. pack-choice mode file s made.0 surveyed made.1),
+  )) files input
 
-  packed-one : (mode : PackMode) (bytes : List ℕ) → (pack_task mode input).makes files ≡ Ok bytes
-      → IsOne (LegalIn mode) files input (allowed_frames mode)
-  packed-one Best bytes e = best-parts (files input) bytes refl e
-  packed-one mode bytes e = made-one (making_in mode) (LegalIn mode) (pack-choice mode)
-      (choice-pack mode) files input bytes e
-
-  pack-law : (mode : PackMode) (output : List ℕ) → IsLegalFor (Pack mode input output) files
-      ↔ AcceptsFiles (pack_mode_command mode input output) files
-  pack-law mode output =
-      one-law files input [] output (allowed_frames mode) (LegalIn mode) (pack_task mode input) refl
-      (one-packed mode) (packed-one mode)
-      (IsLegalFor (Pack mode input output) files)
-      (λ legal. (
-        legal.names,
-        one-of (LegalIn mode) files input
-            (allowed_frames mode) legal.inputs legal.are legal.few legal.choices,
-      ))
-      (λ is. record {
-        names = is.0;
-        inputs = is.1.input ∷ [];
-        are = (is.1.is, tt);
-        few = few-one (length is.1.input.survey.frames) (allowed_frames mode) is.1.few;
-        choices = is.1.choice;
-      })
+pack-law : (files : Contents) (mode : PackMode) (input output : List ℕ)
+    → IsLegalFor (Pack mode input output) files
+    ↔ AcceptsFiles (pack_mode_command mode input output) files
+pack-law files mode input output =
+    one-law files input [] output (allowed_frames mode) (LegalIn mode) (pack_task mode input) refl
+    (one-packed files input mode) (IsLegalFor (Pack mode input output) files)
+    (one-legal (Pack mode input output) files input refl)
 
 -- ---- split
 
@@ -534,17 +422,7 @@ split-at-law files input prefix places =
     (λ i found e each. subst (λ (l : List Place). HoldsOfEachNext l (FramesFollow i))
     (sym (same-places places found e)) each)
     (IsLegalFor (SplitAt input prefix places) files)
-    (λ legal. (
-      legal.names,
-      one-of Choice files input most_frames legal.inputs legal.are legal.few legal.choices,
-    ))
-    (λ is. record {
-      names = is.0;
-      inputs = is.1.input ∷ [];
-      are = (is.1.is, tt);
-      few = few-one (length is.1.input.survey.frames) most_frames is.1.few;
-      choices = is.1.choice;
-    })
+    (one-legal (SplitAt input prefix places) files input refl)
 
 split-by-law : (files : Contents) (input prefix sheet : List ℕ)
     → IsLegalFor (SplitBy false input prefix sheet) files
@@ -577,17 +455,7 @@ split-by-law files input prefix sheet =
       pieces = subst (ArePieceRanges i.survey) (sym cue.all) each;
     })
     (IsLegalFor (SplitBy false input prefix sheet) files)
-    (λ legal. (
-      legal.names,
-      one-of Choice files input most_frames legal.inputs legal.are legal.few legal.choices,
-    ))
-    (λ is. record {
-      names = is.0;
-      inputs = is.1.input ∷ [];
-      are = (is.1.is, tt);
-      few = few-one (length is.1.input.survey.frames) most_frames is.1.few;
-      choices = is.1.choice;
-    })
+    (one-legal (SplitBy false input prefix sheet) files input refl)
 
 split-exact-law : (files : Contents) (input prefix : List ℕ) (places : List ExactPlace)
     → IsLegalFor (SplitExact input prefix places) files
@@ -599,17 +467,7 @@ split-exact-law files input prefix places =
     (λ i each. (places, refl, each))
     (λ i found e each. subst (AreSamplePieces i) (sym (same-places places found e)) each)
     (IsLegalFor (SplitExact input prefix places) files)
-    (λ legal. (
-      legal.names,
-      one-of Choice files input most_frames legal.inputs legal.are legal.few legal.choices,
-    ))
-    (λ is. record {
-      names = is.0;
-      inputs = is.1.input ∷ [];
-      are = (is.1.is, tt);
-      few = few-one (length is.1.input.survey.frames) most_frames is.1.few;
-      choices = is.1.choice;
-    })
+    (one-legal (SplitExact input prefix places) files input refl)
 
 abbrev exact_list : List Place → Result (List ExactPlace) EditFault
 exact_list list = Ok (map Position list)
@@ -649,17 +507,7 @@ split-exact-by-law files input prefix sheet =
       pieces = subst (AreSamplePieces i) (sym same) each;
     })
     (IsLegalFor (SplitBy true input prefix sheet) files)
-    (λ legal. (
-      legal.names,
-      one-of Choice files input most_frames legal.inputs legal.are legal.few legal.choices,
-    ))
-    (λ is. record {
-      names = is.0;
-      inputs = is.1.input ∷ [];
-      are = (is.1.is, tt);
-      few = few-one (length is.1.input.survey.frames) most_frames is.1.few;
-      choices = is.1.choice;
-    })
+    (one-legal (SplitBy true input prefix sheet) files input refl)
 
 -- ---- join
 
@@ -735,17 +583,17 @@ pub legal-is-accepted : LegalIsAccepted
 legal-is-accepted = record {
   list = list-law;
   info = info-law;
-  gain = λ files shift tags input output. gain-law shift tags files input output;
+  gain = gain-law;
   undo = undo-law;
   cut = cut-law;
   cut_exact = exact-law;
-  pack = λ files mode input output. pack-law files input mode output;
+  pack = pack-law;
   split_at = split-at-law;
   split_by = split-by-law;
   split_exact = split-exact-law;
   split_exact_by = split-exact-by-law;
   join = join-law;
   join_seamless = seamless-law;
-  fade = λ files back input output sheet. fade-law sheet back files input output;
+  fade = fade-law;
   salvage = salvage-law;
 }

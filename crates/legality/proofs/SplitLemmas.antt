@@ -13,7 +13,7 @@ use Rattle.cut_edits.specs.Exact.{exact_part, file_span, span_piece, survey_with
 use Rattle.exact_span.specs.declared.{exact_place.ExactPlace.ExactPlace, span.Span.Span}
 use Rattle.laying.specs.{KeptFields.fields_of_head, Laid.LaidPart, NeedsFit.own_choice}
 use Rattle.legality.proofs.InputLemmas.{apart_no-clash, IsOne, next-cons, no-clash_apart}
-use Rattle.legality.proofs.InputLemmas.{one-survey, survey-input, survey-whole}
+use Rattle.legality.proofs.InputLemmas.{one-survey, surveyed-one}
 use Rattle.legality.proofs.SampleLemmas.{range-span, span-range}
 use Rattle.legality.specs.Choices.{IsRange, IsSampleRange}
 use Rattle.legality.specs.{Inputs.{AreNamesApart, FileInput, HoldsOfEachNext}, Laws.AcceptsFiles}
@@ -210,12 +210,12 @@ module _ {P : Type 0} (cut : Cutting P) (Right : FileInput → P → P → Type 
       AreNamesApart (input ∷ cut.more) (piece_names prefix) × IsOne Choice files input most_frames
 
   -- a split succeeds exactly where the choice is legal, and no piece has the name of an input
-  pub split-law : (Legal : Type 0) → (Legal → IsLegalSplit) → (IsLegalSplit → Legal)
+  pub split-law : (Legal : Type 0) → Legal ↔ IsLegalSplit
       → Legal ↔ AcceptsFiles (split_command cut input prefix) files
-  split-law Legal parts whole = (
+  split-law Legal same = (
     (λ legal.
-        let names_apart = (parts legal).0 in
-        let one = (parts legal).1 in
+        let names_apart = (same.0 legal).0 in
+        let one = (same.0 legal).1 in
         let places = found one.input one.choice in
         let all = pieces-laid cut Right right one.input.bytes one.input.survey places.0 places.2 in
         made-split (apart_no-clash (piece_names prefix) (input ∷ cut.more) 0 names_apart)
@@ -232,14 +232,10 @@ module _ {P : Type 0} (cut : Cutting P) (Right : FileInput → P → P → Type 
     (λ made.
         let done = split-parts cut files prefix input made.0 made.1 in
         let is = done.1.0 in
-        whole (
+        same.1 (
           no-clash_apart (piece_names prefix) (input ∷ cut.more) 0 done.0,
-          record {
-            input = record { bytes = is.file; survey = is.survey };
-            is = survey-input files input is.file most_frames is.survey is.there is.surveyed;
-            few = (survey-whole is.file most_frames is.survey is.surveyed).few;
-            choice = chosen (record { bytes = is.file; survey = is.survey }) is.found is.placed
-                (laid-pieces cut Right right is.file is.survey is.found is.laid is.picked);
-          },
+          surveyed-one Choice files input is.file most_frames is.survey is.there is.surveyed
+              (chosen (record { bytes = is.file; survey = is.survey }) is.found is.placed
+              (laid-pieces cut Right right is.file is.survey is.found is.laid is.picked)),
         )),
   )
