@@ -39,7 +39,7 @@ use Rattle.legality.proofs.SplitLemmas.{cut-range, frames-right, FramesFollow, r
 use Rattle.legality.proofs.SplitLemmas.{samples-right, SamplesFollow, split-law}
 use Rattle.legality.specs.Choices.{ArePieceRanges, AreSamplePieces, IsLegalExactSheet, IsLegalFade}
 use Rattle.legality.specs.Choices.{IsLegalGain, IsLegalPack, IsLegalSheet, IsLegalUndo, IsRange}
-use Rattle.legality.specs.Choices.{IsSampleRange}
+use Rattle.legality.specs.Choices.{IsSampleRange, IsSheetWith}
 use Rattle.legality.specs.Inputs.{AreInputs, AreNamesApart, FileInput, HoldsOfEachNext}
 use Rattle.legality.specs.{Inputs.input_frames, Laws.{AcceptsFiles, LegalIsAccepted}}
 use Rattle.legality.specs.Legal.{AreLegalChoices, IsLegalFor, most_frames_of, others_of, outputs_of}
@@ -424,36 +424,45 @@ split-at-law files input prefix places =
     (IsLegalFor (SplitAt input prefix places) files)
     (one-legal (SplitAt input prefix places) files input refl)
 
-split-by-law : (files : Contents) (input prefix sheet : List ℕ)
-    → IsLegalFor (SplitBy false input prefix sheet) files
-    ↔ AcceptsFiles (split_by_command input sheet prefix) files
-split-by-law files input prefix sheet =
-    let Choice = IsLegalSheet sheet files in
-    split-law (sheet_cutting sheet) FramesFollow
-    (frames-right (sheet ∷ []) (λ f. cue_sheet_places (f sheet)) sheet_cut_refuses) files input
-    prefix Choice
-    (λ i cue. (
-      cue.starts ++ End ∷ [],
-      parts-cue (files sheet) (cue.starts ++ End ∷ []) (record {
+-- what holds of the starts of a sheet, and of the places that are read of it
+module _ (Pieces : List Place → Type 0) (sheet : List ℕ) (files : Contents) where
+  sheet-places : IsSheetWith Pieces sheet files → (places : List Place)
+      × (cue_sheet_places (files sheet) ≡ Ok places) × Pieces places
+  sheet-places is = (
+    is.starts ++ End ∷ [],
+    parts-cue (files sheet) (is.starts ++ End ∷ []) (record {
+      bytes = is.bytes;
+      there = is.there;
+      small = is.small;
+      starts = is.starts;
+      read = is.read;
+      all = refl;
+    }),
+    is.pieces,
+  )
+
+  places-sheet : (places : List Place) → cue_sheet_places (files sheet) ≡ Ok places
+      → Pieces places → IsSheetWith Pieces sheet files
+  places-sheet places e pieces =
+      let cue = cue-parts (files sheet) places e in
+      record {
         bytes = cue.bytes;
         there = cue.there;
         small = cue.small;
         starts = cue.starts;
         read = cue.read;
-        all = refl;
-      }),
-      cue.pieces,
-    ))
-    (λ i found e each.
-    let cue = cue-parts (files sheet) found e in
-    record {
-      bytes = cue.bytes;
-      there = cue.there;
-      small = cue.small;
-      starts = cue.starts;
-      read = cue.read;
-      pieces = subst (ArePieceRanges i.survey) (sym cue.all) each;
-    })
+        pieces = subst Pieces (sym cue.all) pieces;
+      }
+
+split-by-law : (files : Contents) (input prefix sheet : List ℕ)
+    → IsLegalFor (SplitBy false input prefix sheet) files
+    ↔ AcceptsFiles (split_by_command input sheet prefix) files
+split-by-law files input prefix sheet =
+    split-law (sheet_cutting sheet) FramesFollow
+    (frames-right (sheet ∷ []) (λ f. cue_sheet_places (f sheet)) sheet_cut_refuses) files input
+    prefix (IsLegalSheet sheet files)
+    (λ i. sheet-places (ArePieceRanges i.survey) sheet files)
+    (λ i. places-sheet (ArePieceRanges i.survey) sheet files)
     (IsLegalFor (SplitBy false input prefix sheet) files)
     (one-legal (SplitBy false input prefix sheet) files input refl)
 
@@ -476,36 +485,20 @@ split-exact-by-law : (files : Contents) (input prefix sheet : List ℕ)
     → IsLegalFor (SplitBy true input prefix sheet) files
     ↔ AcceptsFiles (split_exact_by_command input sheet prefix) files
 split-exact-by-law files input prefix sheet =
-    let Choice = IsLegalExactSheet sheet files in
+    let Pieces = λ (i : FileInput) (places : List Place). AreSamplePieces i (map Position places) in
     split-law (sheet_exact_cutting sheet) SamplesFollow (samples-right (sheet ∷ [])
     (λ f. exact_places_result (cue_sheet_places (f sheet))) sheet_exact_refuses) files input prefix
-    Choice
-    (λ i cue. (
-      map Position (cue.starts ++ End ∷ []),
-      ap (λ (r : Result (List Place) EditFault). then_made r exact_list)
-          (parts-cue (files sheet) (cue.starts ++ End ∷ []) (record {
-            bytes = cue.bytes;
-            there = cue.there;
-            small = cue.small;
-            starts = cue.starts;
-            read = cue.read;
-            all = refl;
-          })),
-      cue.pieces,
+    (IsLegalExactSheet sheet files)
+    (λ i is.
+    let read = sheet-places (Pieces i) sheet files is in (
+      map Position read.0,
+      ap (λ (r : Result (List Place) EditFault). then_made r exact_list) read.1,
+      read.2,
     ))
     (λ i found e each.
-    let one = then_ok (cue_sheet_places (files sheet)) exact_list found e in
-    let cue = cue-parts (files sheet) one.0 one.1 in
-    let same : map Position (cue.starts ++ End ∷ []) ≡ found =
-    ap (map Position) cue.all ∙ same-places (map Position one.0) found one.2 in
-    record {
-      bytes = cue.bytes;
-      there = cue.there;
-      small = cue.small;
-      starts = cue.starts;
-      read = cue.read;
-      pieces = subst (AreSamplePieces i) (sym same) each;
-    })
+    let read = then_ok (cue_sheet_places (files sheet)) exact_list found e in
+    places-sheet (Pieces i) sheet files read.0 read.1
+    (subst (AreSamplePieces i) (sym (same-places (map Position read.0) found read.2)) each))
     (IsLegalFor (SplitBy true input prefix sheet) files)
     (one-legal (SplitBy true input prefix sheet) files input refl)
 

@@ -130,15 +130,20 @@ IsRange s from to =
 abbrev pub ArePieceRanges : SurveyFields → List Place → Type 0
 ArePieceRanges s places = HoldsOfEachNext places (IsRange s)
 
--- The sheet is there, has at most 65,536 bytes, and is a cue sheet without fault
--- (`cue_of`); from each start to the next, and from the last to the end, there is a frame.
-pub record IsLegalSheet (sheet : List ℕ) (files : Contents) (input : FileInput) : Type 0 where
+-- The sheet is there, has at most 65,536 bytes, and is a cue sheet without
+-- fault (`cue_of`); and this holds of its starts, with the end after them.
+pub record IsSheetWith (Pieces : List Place → Type 0) (sheet : List ℕ)
+    (files : Contents) : Type 0 where
   pub bytes : List ℕ
   pub there : files sheet ≡ Some bytes
   pub small : length bytes ≤ longest_sheet
   pub starts : List Place
   pub read : cue_of bytes ≡ Ok starts
-  pub pieces : ArePieceRanges input.survey (starts ++ End ∷ [])
+  pub pieces : Pieces (starts ++ End ∷ [])
+
+-- such a sheet; from each start to the next, and from the last to the end, there is a frame
+abbrev pub IsLegalSheet : List ℕ → Contents → FileInput → Type 0
+IsLegalSheet sheet files input = IsSheetWith (ArePieceRanges input.survey) sheet files
 
 -- ---- cut --exact
 
@@ -163,15 +168,11 @@ IsSampleRange from to input = (sample_number input from < sample_number input to
 abbrev pub AreSamplePieces : FileInput → List ExactPlace → Type 0
 AreSamplePieces input places = HoldsOfEachNext places (λ from to. IsSampleRange from to input)
 
--- The sheet is there, has at most 65,536 bytes, and is a cue sheet without fault (`cue_of`); from
--- each start to the next, and from the last to the end, there is such a sample.
-pub record IsLegalExactSheet (sheet : List ℕ) (files : Contents) (input : FileInput) : Type 0 where
-  pub bytes : List ℕ
-  pub there : files sheet ≡ Some bytes
-  pub small : length bytes ≤ longest_sheet
-  pub starts : List Place
-  pub read : cue_of bytes ≡ Ok starts
-  pub pieces : AreSamplePieces input (map Position (starts ++ End ∷ []))
+-- a sheet as for `IsLegalSheet`; from each start to the next,
+-- and from the last to the end, there is such a sample
+abbrev pub IsLegalExactSheet : List ℕ → Contents → FileInput → Type 0
+IsLegalExactSheet sheet files input =
+    IsSheetWith (λ places. AreSamplePieces input (map Position places)) sheet files
 
 -- ---- pack
 
