@@ -1,6 +1,6 @@
 //! The statuses that the program ends with, and the texts and lines that it writes.
-ghost use Rattle.std.specs.Prelude.{◌≡◌, [], ◌∷◌, IfErr, map, flat_map};
-ghost use Rattle.program_texts.specs.Lines.{Name, line_part_of};
+ghost use Rattle.std.specs.Prelude.{◌≡◌, [], ◌∷◌, IfErr, codes, map, flat_map};
+ghost use Rattle.program_texts.specs.Lines.{Name, Number, Text, line_part_of};
 ghost use Rattle.program_texts.specs.Texts.{status_of, input_parts, sheet_parts, curve_parts, refusal_parts, fault_parts, fault_line, bad_word_line, help_text, version_text, fixed_text_command, GotLine};
 ghost use Rattle.program_texts.specs.Names.{name_in, names_of_outputs};
 ghost use Rattle.outside.specs.Files.{Files};
@@ -261,9 +261,12 @@ fn undo_sum_line<'a>(sum: i32) -> LineParts<'a>
     ])
 }
 
-// The line of two positions without a frame between them, or with one of them after the end.
-fn range_line<'a>(from: u64, to: u64, frames: u64) -> LineParts<'a>
-    ensures { map line_part_of result.items ≡ refusal_parts (Refusal.Range from to frames) [] }
+// The line of two positions without a frame between them, or two places without a sample between
+// them, or with one of them after the end. The last text names what is counted.
+fn range_line(from: u64, to: u64, all: u64, end: &str) -> LineParts<'_>
+    ensures { map line_part_of result.items ≡ Text (codes "range ") ∷ Number from
+        ∷ Text (codes " to ") ∷ Number to
+        ∷ Text (codes " of ") ∷ Number all ∷ Text end.now ∷ [] }
 {
     line(&[
         LinePart::Text("range "),
@@ -271,23 +274,8 @@ fn range_line<'a>(from: u64, to: u64, frames: u64) -> LineParts<'a>
         LinePart::Text(" to "),
         LinePart::Number(to),
         LinePart::Text(" of "),
-        LinePart::Number(frames),
-        LinePart::Text(" frames\n"),
-    ])
-}
-
-// The line of two places without a sample between them, or with one of them after the last sample.
-fn span_line<'a>(from: u64, to: u64, samples: u64) -> LineParts<'a>
-    ensures { map line_part_of result.items ≡ refusal_parts (Refusal.Span from to samples) [] }
-{
-    line(&[
-        LinePart::Text("range "),
-        LinePart::Number(from),
-        LinePart::Text(" to "),
-        LinePart::Number(to),
-        LinePart::Text(" of "),
-        LinePart::Number(samples),
-        LinePart::Text(" samples\n"),
+        LinePart::Number(all),
+        LinePart::Text(end),
     ])
 }
 
@@ -336,8 +324,8 @@ fn refusal_parts<'a>(refusal: &Refusal, inputs: &[&'a str]) -> LineParts<'a>
         Refusal::BadUndo(offset) => number_line("bad undo item at ", offset, "\n"),
         Refusal::UndoRange(sum) => undo_sum_line(sum),
         Refusal::OutputTooLong(length) => number_line("output too long, ", length, " bytes\n"),
-        Refusal::Range(from, to, frames) => range_line(from, to, frames),
-        Refusal::Span(from, to, samples) => span_line(from, to, samples),
+        Refusal::Range(from, to, frames) => range_line(from, to, frames, " frames\n"),
+        Refusal::Span(from, to, samples) => range_line(from, to, samples, " samples\n"),
         Refusal::NoRate(rate) => number_line("no rate ", u64::from(rate), "\n"),
         Refusal::Unfit(frame) => number_line("frame ", u64::from(frame), " does not fit\n"),
         Refusal::Differ(place) => {
