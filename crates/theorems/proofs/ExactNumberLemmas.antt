@@ -23,7 +23,7 @@ use Rattle.exact_span.specs.Spans.{AreLeads, delay_of, frames_before, padding_of
 use Rattle.exact_span.specs.{Spans.warm_up_frame, declared.exact_place.ExactPlace.ExactPlace}
 use Rattle.exact_span.specs.declared.{played.Played.Played, span.Span.Span}
 use Rattle.frame_header.specs.{Fields.{ClassFields, IsClass}, Tables.samples_of}
-use Rattle.frame_header.specs.declared.version.Version.{Version, TheVariants.{One, Two, TwoFive}}
+use Rattle.frame_header.specs.declared.version.Version.{Version, TheVariants.One}
 use Rattle.info_header.specs.declared.fields.Info.{Info}
 use Rattle.join_edits.proofs.NumberLemmas.{rest-counted}
 use Rattle.join_edits.proofs.RunPartLemmas.{AreWholeFiles, IsWholeFile, run-laid}
@@ -125,9 +125,7 @@ delay-same : (v : Version) (start first p given leads front many : ℕ)
     ≡ many * samples_of v + (p - first * samples_of v) - decoder_delay
 delay-same One start first p given leads front many starts before same =
     omega (arith, starts, before, same)
-delay-same Two start first p given leads front many starts before same =
-    omega (arith, starts, before, same)
-delay-same TwoFive start first p given leads front many starts before same =
+delay-same _ start first p given leads front many starts before same =
     omega (arith, starts, before, same)
 
 -- what is left after the last position of a piece
@@ -135,9 +133,7 @@ rest-same : (v : Version) (frames leads from to end q : ℕ) → frames ≡ lead
     → end + from * samples_of v ≡ q + leads * samples_of v → from < to → q ≤ to * samples_of v
     → frames * samples_of v - end ≡ to * samples_of v - q
 rest-same One frames leads from to end q same ends some most = omega (arith, same, ends, some, most)
-rest-same Two frames leads from to end q same ends some most = omega (arith, same, ends, some, most)
-rest-same TwoFive frames leads from to end q same ends some most =
-    omega (arith, same, ends, some, most)
+rest-same _ frames leads from to end q same ends some most = omega (arith, same, ends, some, most)
 
 from-is : (class : ClassFields) (p q : ℕ)
     → (span_of class p q).from ≡ p - warm_up_frame (samples_in class) p * samples_in class

@@ -15,7 +15,7 @@ use Rattle.exact_span.specs.Spans.{frames_before, warm_up_frame}
 use Rattle.exact_span.specs.declared.{exact_place.ExactPlace.ExactPlace, played.Played.Played}
 use Rattle.exact_span.specs.declared.span.Span.{Span}
 use Rattle.frame_header.specs.{Fields.{ClassFields, IsClass}, Tables.{samples_of, window_of}}
-use Rattle.frame_header.specs.declared.version.Version.{Version, TheVariants.{One, Two, TwoFive}}
+use Rattle.frame_header.specs.declared.version.Version.{Version, TheVariants.One}
 use Rattle.join_edits.specs.Seamless.{join_of_parts, later_parts, part_brought, part_from}
 use Rattle.join_edits.specs.Seamless.{run_lead_ins, seamless_stream}
 use Rattle.laying.specs.{Relaid.{FilePart, part_stream, silent_lead_in}, Surveys.CanBeRelaid}
@@ -80,16 +80,13 @@ out-is : (v : Version) (start end leads leads_before from from_before last mid o
     → out ≡ leads + (last - from)
 out-is One start end leads leads_before from from_before last mid out starts ends most some before
     meets = omega (arith, starts, ends, most, some, before, meets)
-out-is Two start end leads leads_before from from_before last mid out starts ends most some before
+out-is _ start end leads leads_before from from_before last mid out starts ends most some before
     meets = omega (arith, starts, ends, most, some, before, meets)
-out-is TwoFive start end leads leads_before from from_before last mid out starts ends most some
-    before meets = omega (arith, starts, ends, most, some, before, meets)
 
 below-last : (v : Version) (from last mid : ℕ) → from * samples_of v < mid
     → mid ≤ last * samples_of v → from < last
 below-last One from last mid early most = omega (arith, early, most)
-below-last Two from last mid early most = omega (arith, early, most)
-below-last TwoFive from last mid early most = omega (arith, early, most)
+below-last _ from last mid early most = omega (arith, early, most)
 
 -- ---- pieces of one recording
 
@@ -516,8 +513,37 @@ module _ (file : List ℕ) (s : SurveyFields) (has : CanBeRelaid file s)
       × ((run-leads first parts inputs).leads ≡ silent_lead_in f ∷ [])
   run-lead out = (run-leads first parts inputs).led (front-parts first parts inputs out).1
 
-  many-leads : run_lead_ins first parts ≡ length (run-leads first parts inputs).leads
-  many-leads = leads-many first parts inputs
+  -- by the lead-ins that the run gets, and the stream that is left
+  module _ (got left : List StreamFrame) (got_is : (run-leads first parts inputs).leads ≡ got)
+      (left_is : stream first parts inputs ≡ left) where
+    got-left : seamless_stream (first ∷ parts) ≡ got ++ left
+    got-left =
+        seamless-is first parts inputs
+        ∙ ap₂ (λ (x y : List StreamFrame). x ++ y) got_is left_is
+
+    many-got : run_lead_ins first parts ≡ length got
+    many-got = leads-many first parts inputs ∙ ap (λ (l : List StreamFrame). length l) got_is
+
+    joined-without : got ++ left ≡ whole → front ≡ length got → IsJoined 0
+    joined-without same out = record {
+      leads = [];
+      one = omega arith;
+      led = omega arith;
+      empty = refl;
+      stream_is = got-left ∙ same;
+      many = omega (arith, out, many-got);
+    }
+
+    joined-with : (f : StreamFrame) (given : ℕ) → given ≤ 1
+        → got ++ left ≡ silent_lead_in f ∷ whole → 1 + front ≡ given + length got → IsJoined given
+    joined-with f given few same out = record {
+      leads = silent_lead_in f ∷ [];
+      one = omega arith;
+      led = omega (arith, few);
+      empty = silent-empty f;
+      stream_is = got-left ∙ same;
+      many = omega (arith, out, many-got);
+    }
 
   -- no lead-in was given, and none leaves the run
   joined-own : (sp : FirstSpan) → sp.leads ≡ [] → front ≡ 0 → IsJoined 0
@@ -533,41 +559,11 @@ module _ (file : List ℕ) (s : SurveyFields) (has : CanBeRelaid file s)
           → fits_behind (window_of c.version) 0 (needs_of (run first parts inputs)) ≡ b
           → IsJoined 0
       by_fit true fits =
-          let no_leads = (run-leads first parts inputs).own fits in
-          record {
-            leads = [];
-            one = omega arith;
-            led = omega arith;
-            empty = refl;
-            stream_is =
-                seamless-is first parts inputs
-                ∙ ap₂ (λ (x y : List StreamFrame). x ++ y) no_leads here;
-            many =
-                omega (
-                  arith,
-                  stays,
-                  many-leads,
-                  ap (λ (l : List StreamFrame). length l) no_leads,
-                );
-          }
+          joined-without [] whole ((run-leads first parts inputs).own fits) here refl stays
       by_fit false lacks =
           let led = (run-leads first parts inputs).led lacks in
-          record {
-            leads = silent_lead_in led.0 ∷ [];
-            one = omega arith;
-            led = omega arith;
-            empty = silent-empty led.0;
-            stream_is =
-                seamless-is first parts inputs
-                ∙ ap₂ (λ (x y : List StreamFrame). x ++ y) led.3 here;
-            many =
-                omega (
-                  arith,
-                  stays,
-                  many-leads,
-                  ap (λ (l : List StreamFrame). length l) led.3,
-                );
-          }
+          joined-with (silent_lead_in led.0 ∷ []) whole led.3 here led.0 0 (omega arith) refl
+          (omega (arith, stays))
 
   -- no lead-in was given, but a frame that looks like one leaves the run, which gets it again
   joined-alike : (sp : FirstSpan) → sp.leads ≡ [] → 0 < front → IsJoined 0
@@ -587,22 +583,7 @@ module _ (file : List ℕ) (s : SurveyFields) (has : CanBeRelaid file s)
       run-stream sp
       ∙ ap₂ (λ (n : ℕ) (l : List StreamFrame). drop n (l ++ whole)) one none
       ∙ ap (drop 1) whole_is in
-      record {
-        leads = [];
-        one = omega arith;
-        led = omega arith;
-        empty = refl;
-        stream_is =
-            seamless-is first parts inputs
-            ∙ ap₂ (λ (x y : List StreamFrame). x ++ y) led.3 here ∙ sym whole_is;
-        many =
-            omega (
-              arith,
-              one,
-              many-leads,
-              ap (λ (l : List StreamFrame). length l) led.3,
-            );
-      }
+      joined-without (silent_lead_in led.0 ∷ []) (silent.0 ++ behind) led.3 here (sym whole_is) one
 
   module _ (ways : IsLaidLed file s has piece.0 piece.1.there piece.2.row piece.2.row_is) where
     -- with its lead-in the first piece is a span
@@ -656,52 +637,24 @@ module _ (file : List ℕ) (s : SurveyFields) (has : CanBeRelaid file s)
         (empty-before (window_of c.version) brings.lead_in.need (needs_of run_frames) brings.empty
         ((fits-tested (window_of c.version) 0 (needs_of run_frames)).0 (stays-fit stays)))
 
+    after : (n : ℕ) → front ≡ n
+        → stream first parts inputs ≡ drop n (silent_lead_in brings.first ∷ whole)
+    after n is = run-stream led-span ∙ ap (λ n. drop n (silent_lead_in brings.first ∷ whole)) is
+
     -- a lead-in was given, and stays
     joined-led : front ≡ 0 → IsJoined 1
     joined-led stays =
-        let no_leads = (run-leads first parts inputs).own (run-fits stays) in
-        record {
-          leads = silent_lead_in brings.first ∷ [];
-          one = omega arith;
-          led = omega arith;
-          empty = silent-empty brings.first;
-          stream_is =
-              seamless-is first parts inputs
-              ∙ ap₂ (λ (x y : List StreamFrame). x ++ y) no_leads
-              (run-stream led-span
-              ∙ ap (λ n. drop n (silent_lead_in brings.first ∷ whole)) stays);
-          many =
-              omega (
-                arith,
-                stays,
-                many-leads,
-                ap (λ (l : List StreamFrame). length l) no_leads,
-              );
-        }
+        joined-with [] (silent_lead_in brings.first ∷ whole)
+        ((run-leads first parts inputs).own (run-fits stays)) (after 0 stays) brings.first 1
+        (omega arith) refl (omega (arith, stays))
 
     -- a lead-in was given and leaves the run, which gets another
     joined-again : 0 < front → IsJoined 1
     joined-again out =
         let led = run-lead out in
         let one : front ≡ 1 = omega (arith, out, front-few first parts inputs) in
-        record {
-          leads = silent_lead_in led.0 ∷ [];
-          one = omega arith;
-          led = omega arith;
-          empty = silent-empty led.0;
-          stream_is =
-              seamless-is first parts inputs
-              ∙ ap₂ (λ (x y : List StreamFrame). x ++ y) led.3
-              (run-stream led-span
-              ∙ ap (λ n. drop n (silent_lead_in brings.first ∷ whole)) one);
-          many =
-              omega (
-                arith,
-                one,
-                many-leads,
-                ap (λ (l : List StreamFrame). length l) led.3,
-              );
-        }
+        joined-with (silent_lead_in led.0 ∷ []) whole led.3 (after 1 one) led.0 1 (omega arith) refl
+        (omega (arith, one))
 
   abbrev pub first_leads : ℕ
   first_leads = leads file s has piece.0

@@ -6,7 +6,8 @@ use Rattle.std.proofs.lemmas.{List.{take-append-drop, Concat.flat_map-append}, O
 use Rattle.std.specs.Prelude.{option_map, slice_get}
 use Rattle.exact_span.specs.PlayedPositions.{rest_of, samples_in}
 use Rattle.frame_header.specs.{Fields.ClassFields, Tables.samples_of}
-use Rattle.frame_header.specs.declared.version.Version.{Version, TheVariants.{One, Two, TwoFive}}
+use Rattle.frame_header.specs.declared.version.Version.{Version, TheVariants.One}
+use Rattle.join_edits.proofs.FramePlaceLemmas.{get-some}
 use Rattle.join_edits.specs.Seamless.{join_of_parts, part_brought, part_without_head, run_lead_ins}
 use Rattle.join_edits.specs.Seamless.{seamless_stream, sound_of}
 use Rattle.laying.specs.Relaid.{FilePart, part_stream, silent_lead_in}
@@ -36,11 +37,6 @@ get-behind [] ys i = let none : 0 + i ≡ i = omega arith in ap (slice_get ys) n
 get-behind (x ∷ xs) ys i =
     let next : suc (length xs) + i ≡ suc (length xs + i) = omega arith in
     ap (slice_get (x ∷ xs ++ ys)) next ∙ get-behind xs ys i
-
-get-there : {X : Type 0} (xs : List X) (i : ℕ) → i < length xs → (x : X) × (slice_get xs i ≡ Some x)
-get-there [] i within = absurd (omega (arith, within))
-get-there (x ∷ xs) zero within = (x, refl)
-get-there (x ∷ xs) (suc i) within = get-there xs i (omega (arith, within))
 
 -- a frame of a stream by its sound
 record HasSound (class : ClassFields) (stream : List StreamFrame) (i : ℕ) (sound : List ℕ) : Type 0
@@ -87,15 +83,7 @@ placed-by One x n front leads ends enough = record {
   in_frame = omega arith;
   offset = omega arith;
 }
-placed-by Two x n front leads ends enough = record {
-  place = (x / 576 + (leads + ends) - (n + front)) * 576 + x % 576;
-  frame = x / 576 + (leads + ends) - (n + front);
-  at = omega (arith, enough);
-  frame_is = omega (arith, enough);
-  in_frame = omega arith;
-  offset = omega arith;
-}
-placed-by TwoFive x n front leads ends enough = record {
+placed-by _ x n front leads ends enough = record {
   place = (x / 576 + (leads + ends) - (n + front)) * 576 + x % 576;
   frame = x / 576 + (leads + ends) - (n + front);
   at = omega (arith, enough);
@@ -112,21 +100,17 @@ meets-at : (v : Version) (place start end n m front leads old new out : ℕ)
     → place + (m + front) * samples_of v ≡ end + (leads + old) * samples_of v
 meets-at One place start end n m front leads old new out at meets within longer =
     omega (arith, at, meets, within, longer)
-meets-at Two place start end n m front leads old new out at meets within longer =
-    omega (arith, at, meets, within, longer)
-meets-at TwoFive place start end n m front leads old new out at meets within longer =
+meets-at _ place start end n m front leads old new out at meets within longer =
     omega (arith, at, meets, within, longer)
 
 later-frame : (v : Version) (x y : ℕ) → x ≤ y → x / samples_of v ≤ y / samples_of v
 later-frame One x y less = omega (arith, less)
-later-frame Two x y less = omega (arith, less)
-later-frame TwoFive x y less = omega (arith, less)
+later-frame _ x y less = omega (arith, less)
 
 within-frames : (v : Version) (x end n : ℕ) → x < end → end ≤ n * samples_of v
     → x / samples_of v < n
 within-frames One x end n before most = omega (arith, before, most)
-within-frames Two x end n before most = omega (arith, before, most)
-within-frames TwoFive x end n before most = omega (arith, before, most)
+within-frames _ x end n before most = omega (arith, before, most)
 
 -- ---- the frames of the run in the joined file
 
@@ -311,7 +295,7 @@ module _ (first : FilePart) (parts : List FilePart)
             (played-end c input input_is goes.played goes.played_is)
 
         own_frame : (f : RunFrame) × (slice_get own i ≡ Some f)
-        own_frame = get-there own i (omega (arith, within, many))
+        own_frame = get-some own i (omega (arith, within, many))
 
         -- the number of its frame in the run
         abbrev j : ℕ
