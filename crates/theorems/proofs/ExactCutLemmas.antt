@@ -23,10 +23,9 @@ use Rattle.frame_writer.specs.Frames.{bytes_of_frames, Frame}
 use Rattle.info_header.specs.{Info.number_or_zero, InfoFrame.{info_frame, info_header_of}}
 use Rattle.info_header.specs.declared.fields.Info.{Info}
 use Rattle.join_edits.proofs.RunPartLemmas.{front-within}
-use Rattle.join_edits.specs.Seamless.{delay_of_run, gain_of, join_of_parts, later_parts}
-use Rattle.join_edits.specs.Seamless.{part_brought, part_from, part_head, part_says_gain}
-use Rattle.join_edits.specs.Seamless.{replay_gain, run_extension, run_parts, run_plan}
-use Rattle.join_edits.specs.Seamless.{seamless_file, seamless_frames, seamless_info}
+use Rattle.join_edits.specs.Seamless.{delay_of_run, gain_of, join_of_parts, part_brought, part_head}
+use Rattle.join_edits.specs.Seamless.{part_says_gain, replay_gain, run_extension, run_parts}
+use Rattle.join_edits.specs.Seamless.{run_plan, seamless_file, seamless_frames, seamless_info}
 use Rattle.join_edits.specs.Seamless.{seamless_padding, seamless_row_file}
 use Rattle.laying.proofs.HoldLemmas.{part-entries, part-stream}
 use Rattle.laying.proofs.LaidLemmas.{first-there, laid-slots}
@@ -35,8 +34,8 @@ use Rattle.laying.proofs.RelayLemmas.{range-next}
 use Rattle.laying.specs.Laid.{frames_laid, info_laid, LaidPart, source_part}
 use Rattle.laying.specs.{LaidFiles.{AreStreamEntries, laid_file, stream_entry}, Needs.need_of}
 use Rattle.laying.specs.NeedsFit.{own_choice}
-use Rattle.laying.specs.Relaid.{FilePart, IsPart, lead_in_with_place, part_frames, part_stream}
-use Rattle.laying.specs.{Relaid.{relaid_frames, rest_behind, silent_lead_in}, Surveys.CanBeRelaid}
+use Rattle.laying.specs.Relaid.{FilePart, IsPart, lead_in_with_place, part_frames, relaid_frames}
+use Rattle.laying.specs.{Relaid.{rest_behind, silent_lead_in}, Surveys.CanBeRelaid}
 use Rattle.laying.specs.Written.{front_blocks, info_for, slot_in}
 use Rattle.seam_plan.proofs.{FitLemmas.fits-tested, LeadInLemmas.lead-in-is}
 use Rattle.seam_plan.{proofs.PieceRunLemmas.front-fits, specs.Frames.{needs_of, RunFrame}}
@@ -69,7 +68,7 @@ use Rattle.theorems.proofs.LaidInputLemmas.{BringsLed, front-same}
 use Rattle.theorems.proofs.LedPlanLemmas.{IsLedAs, lead_need, led-as, own-same, OwnBegins}
 use Rattle.theorems.proofs.{LedPlanLemmas.plan-begins, SeamlessInputLemmas.{AreInputs, IsInput}}
 use Rattle.theorems.proofs.SeamlessRunLemmas.{front-few, front-parts, run, run-planned, stream}
-use Rattle.theorems.proofs.SplitFileLemmas.{AreRead, part-read, parts-read, read-append}
+use Rattle.theorems.proofs.SplitFileLemmas.{AreRead, run-read}
 use Rattle.theorems.proofs.SplitJoinLemmas.{between-append, between-needs, range-append}
 use Rattle.theorems.proofs.SplitJoinLemmas.{run_between}
 use Rattle.theorems.specs.SeamlessLaws.{bare_file, bare_row_file, last_place}
@@ -306,14 +305,8 @@ module _ (file : List ℕ) (s : SurveyFields) (has : CanBeRelaid file s)
   abbrev run_frames_in : List Frame
   run_frames_in = flat_map part_frames (run_parts first parts)
 
-  run-read : AreRead s.class run_frames_in (stream first parts inputs)
-  run-read =
-      read-append s.class (part_frames (part_from front first))
-      (flat_map part_frames (later_parts (join_of_parts first parts).joints parts))
-      (part_stream (part_from front first))
-      (flat_map part_stream (later_parts (join_of_parts first parts).joints parts))
-      (part-read s.class first own_inputs.0 front)
-      (parts-read s.class (join_of_parts first parts).joints parts own_inputs.1)
+  all_read : AreRead s.class run_frames_in (stream first parts inputs)
+  all_read = run-read s.class first parts own_inputs
 
   abbrev placed : List Placed
   placed = (plain file s has span).placed
@@ -358,9 +351,9 @@ module _ (file : List ℕ) (s : SurveyFields) (has : CanBeRelaid file s)
       → seamless_frames first parts ≡ relaid_frames (part_frames part) placed
   bare-frames streams plans =
       relaid-same run_frames_in (part_frames part) (run_plan first parts)
-      (bare-same s.class known run_frames_in (part_frames part) run-read.entries
+      (bare-same s.class known run_frames_in (part_frames part) all_read.entries
       (part-entries s.class part part-is)
-      (run-read.is ∙ streams ∙ sym part-streams))
+      (all_read.is ∙ streams ∙ sym part-streams))
       ∙ ap (relaid_frames (part_frames part)) plans
 
   -- the needs of the first piece's frames begin with the first need of these frames
@@ -631,8 +624,8 @@ module _ (file : List ℕ) (s : SurveyFields) (has : CanBeRelaid file s)
           ap₂ (λ (x : StreamFrame) (xs : List StreamFrame). x ∷ xs)
           (one-stream true as-run.lead f ∙ ap silent_lead_in entry) all in
           relaid-same run_frames_in (led_frame ∷ f ∷ fs) (run_plan first parts)
-          (bare-same s.class known run_frames_in (led_frame ∷ f ∷ fs) run-read.entries
-          (own_entry, entries) (run-read.is ∙ streams ∙ sym heard))
+          (bare-same s.class known run_frames_in (led_frame ∷ f ∷ fs) all_read.entries
+          (own_entry, entries) (all_read.is ∙ streams ∙ sym heard))
           ∙ ap (relaid_frames (led_frame ∷ f ∷ fs)) as-run.run_is
           ∙ led-relaid as-run.lead as-run.rest f fs as-run.leads
           ∙ ap₂ (λ (xs : List Frame) (ps : List Placed). relaid_frames xs ps) (sym are)

@@ -24,7 +24,7 @@ use Rattle.theorems.proofs.{ExactRunLemmas.st, ExactSpanLemmas.brought-own}
 use Rattle.theorems.proofs.SeamlessInputLemmas.{AreInputs, inputs-are, whole_stream}
 use Rattle.theorems.proofs.{SplitFullLemmas.first-empty, SplitJoinLemmas.parts-files}
 use Rattle.theorems.proofs.SplitLemmas.{class-of}
-use Rattle.theorems.proofs.SplitStepLemmas.{first-of-range, inputs-front, none-empty}
+use Rattle.theorems.proofs.SplitStepLemmas.{first-of-range, inputs-front, none-empty, step-files}
 use Rattle.theorems.specs.SeamlessLaws.{bare_file, bare_row_file, ExactInSteps, HasNoEmptyFrame}
 use Rattle.theorems.specs.SeamlessLaws.{IsJoinedInSteps, last_place}
 
@@ -199,16 +199,7 @@ module _ (file : List ℕ) (s : SurveyFields) (has : CanBeRelaid file s)
         (inputs.0, inputs-front first.survey.class parts others inputs.1) in
         let front_files : AreExactFiles file s has few place (next ∷ cut.first) (first ∷ parts) =
         (files.0, cut.files) in
-        let names : map steps.files steps.names
-        ≡ map (λ (p : FilePart). Some p.file) (steps.joined ∷ steps.more) =
-        parts-files steps.files 0 None most_frames steps.names (steps.joined ∷ steps.more)
-        steps.taken in
-        let both : Some steps.joined.file ∷ map (λ (p : FilePart). Some p.file) steps.more
-        ≡ Some (seamless_file (first ∷ parts)) ∷ map (λ (p : FilePart). Some p.file) others =
-        sym names ∙ steps.are in
-        let joined_is : steps.joined.file ≡ seamless_file (first ∷ parts) = cc in
-        let more_are : map (λ (p : FilePart). Some p.file) others
-        ≡ map (λ (p : FilePart). Some p.file) steps.more = cc in
+        let stepped = step-files first parts others steps in
         let span : Span =
         whole_span file s has few known place next cut.first first parts front_inputs front_files in
         let piece : IsPiece file s has few place mid steps.joined = (
@@ -216,9 +207,9 @@ module _ (file : List ℕ) (s : SurveyFields) (has : CanBeRelaid file s)
           whole-found file s has few known place next cut.first first parts front_inputs
               front_files,
           joined-piece place next cut.first first parts front_inputs front_files steps.joined.file
-              joined_is,
+              stepped.0,
         ) in
-        let later = same-files mid cut.second others steps.more more_are cut.files_on in
+        let later = same-files mid cut.second others steps.more stepped.1 cut.files_on in
         all-joined place mid cut.second steps.joined steps.more
         (inputs-are steps.files steps.names steps.joined steps.more steps.taken) (piece, later)
         ∙ ap (cut_between place) cut.last

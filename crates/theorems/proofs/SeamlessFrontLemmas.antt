@@ -241,22 +241,6 @@ silent-sound c f =
     (side_bits c (without_gains no_side) ++ l))
     (no-parts (granule_lengths f.header no_side))
 
--- the first two frames of a stream
-stream-two : (file : List ℕ) (s : SurveyFields) (r q : Row) (rows : List Row)
-    → s.frames ≡ r ∷ q ∷ rows →
-    let main = main_bytes file s.head s.frames in
-    (n : ℕ) × (more : List StreamFrame)
-    × (stream_of_survey file s
-    ≡ stream_frame main s.head s.frames 0 r ∷ stream_frame main s.head s.frames n q ∷ more)
-unfolding stream_of_survey stream_frames
-stream-two file s r q rows are =
-    let main = main_bytes file s.head s.frames in
-    let f : ℕ × Row → StreamFrame = λ p. stream_frame main s.head s.frames p.0 p.1 in (
-      0 + 1,
-      map f (enumerate_from (0 + 1 + 1) rows),
-      ap (λ (l : List Row). map f (enumerate_from 0 l)) are,
-    )
-
 -- an input that begins with side information that is all 0
 module _ (c : ClassFields) (p : FilePart) (is : IsInput c p)
     (blank : begins_blank p.survey.frames ≡ true) where
@@ -303,41 +287,61 @@ module _ (first : FilePart) (parts : List FilePart)
       blank-side first.survey.class first are.0 leads.0 two.first
       (ap (λ (l : List Row). slice_get l 0) two.are)
 
+  -- the first two frames of the first input
+  abbrev w : StreamFrame
+  w = stream_frame main survey.head survey.frames 0 two.first
+
+  begins-two : (n : ℕ) × (more : List StreamFrame)
+      × (whole_stream first.survey.class first are.0
+      ≡ w ∷ stream_frame main survey.head survey.frames n two.second ∷ more)
+  unfolding stream_of_survey stream_frames
+  begins-two =
+      let f : ℕ × Row → StreamFrame = λ p. stream_frame main survey.head survey.frames p.0 p.1 in (
+        0 + 1,
+        map f (enumerate_from (0 + 1 + 1) two.rest),
+        ap (λ (l : List Row). map f (enumerate_from 0 l)) two.are,
+      )
+
+  abbrev v : StreamFrame
+  v = stream_frame main survey.head survey.frames begins-two.0 two.second
+
+  -- the stream of the run begins with the second
+  second : (f : StreamFrame) (fs : List StreamFrame) → stream first parts are ≡ f ∷ fs → v ≡ f
+  second f fs streams =
+      let c : ClassFields = first.survey.class in
+      let k : ℕ = (joined first parts are).front in
+      let one : k ≡ 1 = omega (arith, out, front-few first parts are) in
+      let behind = flat_map part_stream (later_parts (joined first parts are).joints parts) in
+      let next : v ∷ begins-two.1 ++ behind ≡ f ∷ fs =
+      ap (λ (l : List StreamFrame). l ++ behind)
+      (sym (stream-from c first are.0 k ∙ ap (λ n. drop n (whole_stream c first are.0)) one
+      ∙ ap (drop 1) begins-two.2))
+      ∙ streams in
+      cc
+
   -- what the run begins with, and what its stream begins with
   pub front-alike : (g : RunFrame) (f : StreamFrame) (fs : List StreamFrame)
       → slice_get (all first parts are) 0 ≡ Some g → stream first parts are ≡ f ∷ fs
       → sound_of first.survey.class (silent_lead_in f) ≡ g.sound
   front-alike g f fs begins streams =
       let c : ClassFields = first.survey.class in
-      let both = stream-two first.file survey two.first two.second two.rest two.are in
-      let w : StreamFrame = stream_frame main survey.head survey.frames 0 two.first in
-      let v : StreamFrame = stream_frame main survey.head survey.frames both.0 two.second in
       let others_sounds =
       sounds_left (joints_of c (brought first parts are) (others first parts are))
       (others first parts are) in
       let sounding : sounds (all first parts are)
-      ≡ map (sound_of c) (w ∷ v ∷ both.1) ++ others_sounds =
+      ≡ map (sound_of c) (w ∷ v ∷ begins-two.1) ++ others_sounds =
       run-sounds c (brought first parts are) (others first parts are) (brought-fit c first are.0)
       (inputs-fit c parts are.1)
       ∙ ap (λ (l : List (List ℕ)). l ++ others_sounds)
-      (brought-sounds c first are.0 ∙ ap (map (sound_of c)) both.2) in
+      (brought-sounds c first are.0 ∙ ap (map (sound_of c)) begins-two.2) in
       let own : Some g.sound ≡ Some (sound_of c w) =
       sym (slice_get-map (λ (x : RunFrame). x.sound) (all first parts are) 0
       ∙ ap (option_map (λ (x : RunFrame). x.sound)) begins)
       ∙ ap (λ (l : List (List ℕ)). slice_get l 0) sounding in
       let sound : g.sound ≡ sound_of c w = cc in
-      let k : ℕ = (joined first parts are).front in
-      let one : k ≡ 1 = omega (arith, out, front-few first parts are) in
-      let behind = flat_map part_stream (later_parts (joined first parts are).joints parts) in
-      let next : v ∷ both.1 ++ behind ≡ f ∷ fs =
-      ap (λ (l : List StreamFrame). l ++ behind)
-      (sym (stream-from c first are.0 k ∙ ap (λ n. drop n (whole_stream c first are.0)) one
-      ∙ ap (drop 1) both.2))
-      ∙ streams in
-      let second : v ≡ f = cc in
       silent-sound c f
       ∙ ap (λ (x : StreamFrame). silent_sound c (record x.header { protected = false }))
-      (sym second)
+      (sym (second f fs streams))
       ∙ ap (silent_sound c) (sym two.like)
       ∙ sym (empty-sound c main survey.head survey.frames 0 two.first first-none)
       ∙ sym sound
@@ -347,22 +351,11 @@ module _ (first : FilePart) (parts : List FilePart)
       → (more : List StreamFrame)
       × (whole_stream first.survey.class first are.0 ≡ silent_lead_in f ∷ more)
   front-silent f fs streams =
-      let c : ClassFields = first.survey.class in
-      let both = stream-two first.file survey two.first two.second two.rest two.are in
-      let w : StreamFrame = stream_frame main survey.head survey.frames 0 two.first in
-      let v : StreamFrame = stream_frame main survey.head survey.frames both.0 two.second in
-      let k : ℕ = (joined first parts are).front in
-      let one : k ≡ 1 = omega (arith, out, front-few first parts are) in
-      let behind = flat_map part_stream (later_parts (joined first parts are).joints parts) in
-      let next : v ∷ both.1 ++ behind ≡ f ∷ fs =
-      ap (λ (l : List StreamFrame). l ++ behind)
-      (sym (stream-from c first are.0 k ∙ ap (λ n. drop n (whole_stream c first are.0)) one
-      ∙ ap (drop 1) both.2))
-      ∙ streams in
-      let second : v ≡ f = cc in
       let silent : w ≡ silent_lead_in v =
       empty-frame main survey.head survey.frames 0 two.first first-none ∙ ap silent_frame two.like
       in (
-        v ∷ both.1,
-        both.2 ∙ ap (λ (x : StreamFrame). x ∷ v ∷ both.1) (silent ∙ ap silent_lead_in second),
+        v ∷ begins-two.1,
+        begins-two.2
+            ∙ ap (λ (x : StreamFrame). x ∷ v ∷ begins-two.1)
+            (silent ∙ ap silent_lead_in (second f fs streams)),
       )

@@ -20,8 +20,7 @@ use Rattle.split_edits.specs.Cutting.{Cutting, input_streams, laid_streams, piec
 use Rattle.split_edits.specs.Cutting.{piece_parts_from, split_command, surveyed_streams, with_first}
 use Rattle.split_edits.specs.Split.{cue_sheet_places, cut_part, given_cutting, given_exact_cutting}
 use Rattle.split_edits.specs.Split.{sheet_cutting, sheet_exact_cutting}
-use Rattle.sync_survey.specs.{Faults.{stream_of, SurveyFields}, MainData.StreamFrame}
-use Rattle.sync_survey.specs.Survey.{survey_of}
+use Rattle.sync_survey.specs.{Faults.SurveyFields, MainData.StreamFrame, Survey.survey_of}
 use Rattle.theorems.proofs.ChosenCaseLemmas.{cut-exact, frames-are}
 use Rattle.theorems.proofs.SpanCaseLemmas.{frames-are as span-frames, needed-is, piece-exact}
 use Rattle.theorems.specs.Chosen.{AllConsistOf, cue_positions, file_bytes_of, frames_between}
@@ -68,32 +67,41 @@ module _ {P : Type 0} (cut : Cutting P) (files : Contents) (input : List ℕ)
 
   pieces-hold : (frames : P → P → List StreamFrame)
       → ((from to : P) (laid : LaidPart) → cut.between from to is.file is.survey ≡ Ok laid
-      → IsExactly (frames from to ∷ []) (stream_laid laid is.file (cut.survey is.survey))) →
-      AllConsistOf (piece_frames frames is.found)
+      → IsExactly (frames from to ∷ []) (stream_laid laid is.file (cut.survey is.survey)))
+      → (places : List P) → is.found ≡ places → AllConsistOf (piece_frames frames places)
       (input_streams cut (cut.places files) (files input))
-  pieces-hold frames exact =
-      subst (λ (l : List (List StreamFrame)). AllConsistOf (piece_frames frames is.found) l)
+  pieces-hold frames exact places found =
+      subst (λ (l : List (List StreamFrame)). AllConsistOf (piece_frames frames places) l)
       (sym streams-are)
-      (pieces-consist cut is.file is.survey frames exact is.found is.laid is.picked)
+      (subst (λ (ps : List P). AllConsistOf (piece_frames frames ps)
+      (map (λ (l : LaidPart). stream_laid l is.file (cut.survey is.survey)) is.laid)) found
+      (pieces-consist cut is.file is.survey frames exact is.found is.laid is.picked))
 
--- ---- at positions
+-- ---- one piece
 
-module _ (file : List ℕ) (s : SurveyFields) (surveyed : survey_of file most_frames ≡ Ok s) where
+bytes-are : (files : Contents) (input file : List ℕ) → files input ≡ Some file
+    → file_bytes_of files input ≡ file
+bytes-are files input file there = ap (λ (o : Option (List ℕ)). unwrap_or o []) there
+
+module _ (files : Contents) (input file : List ℕ) (s : SurveyFields)
+    (there : files input ≡ Some file) (surveyed : survey_of file most_frames ≡ Ok s) where
   range-exact : (from to : Place) (laid : LaidPart) → cut_part from to file s ≡ Ok laid
-      → IsExactly (frames_between (stream_of file) from to ∷ []) (stream_laid laid file s)
+      → IsExactly (frames_between (named_frames files input) from to ∷ [])
+      (stream_laid laid file s)
   unfolding laying_part
   range-exact from to laid e =
       let one =
       then_ok (cut_choice from to file s) (planned_part (first_planning own_choice) s) laid e in
       let same : own_slots_part one.0 s ≡ laid = cc in
-      subst (λ (l : LaidPart). IsExactly (frames_between (stream_of file) from to ∷ [])
+      subst (λ (l : LaidPart). IsExactly (frames_between (named_frames files input) from to ∷ [])
       (stream_laid l file s)) same
-      (cut-exact file s surveyed from to false one.0 (own_slots_part one.0 s).placed one.1 refl)
-
-  -- ---- at places among the samples
+      (subst (λ (l : List StreamFrame). IsExactly (frames_between l from to ∷ [])
+      (stream_laid (own_slots_part one.0 s) file s)) (sym (frames-are files input file there))
+      (cut-exact file s surveyed from to false one.0 (own_slots_part one.0 s).placed one.1 refl))
 
   samples-exact : (from to : ExactPlace) (laid : LaidPart) → exact_part from to file s ≡ Ok laid
-      → IsExactly (frames_needed from to file ∷ []) (stream_laid laid file (survey_without_head s))
+      → IsExactly (frames_needed_between (file_bytes_of files input) from to ∷ [])
+      (stream_laid laid file (survey_without_head s))
   unfolding exact_part
   samples-exact from to laid e =
       let head = fields_of_head file s.head in
@@ -101,8 +109,10 @@ module _ (file : List ℕ) (s : SurveyFields) (surveyed : survey_of file most_fr
       then_ok (file_span from to head s)
       (λ span. Ok (span_piece head span file (survey_without_head s))) laid e in
       let same : span_piece head one.0 file (survey_without_head s) ≡ laid = cc in
-      let frames = needed-is from to file s surveyed ∙ span-frames from to file s one.0 one.1 in
-      subst (λ (l : LaidPart). IsExactly (frames_needed from to file ∷ [])
+      let frames =
+      ap (frames_needed from to) (bytes-are files input file there)
+      ∙ needed-is from to file s surveyed ∙ span-frames from to file s one.0 one.1 in
+      subst (λ (l : LaidPart). IsExactly (frames_needed from to (file_bytes_of files input) ∷ [])
       (stream_laid l file (survey_without_head s))) same
       (subst (λ (l : List StreamFrame). IsExactly (l ∷ [])
       (stream_laid (span_piece head one.0 file (survey_without_head s)) file
@@ -118,59 +128,42 @@ ok_places places = Ok places
 same-places : {P : Type 0} (a b : List P) → ok_places a ≡ ok_places b → a ≡ b
 same-places a b e = cc
 
-bytes-are : (files : Contents) (input file : List ℕ) → files input ≡ Some file
-    → file_bytes_of files input ≡ file
-bytes-are files input file there = ap (λ (o : Option (List ℕ)). unwrap_or o []) there
+-- the places that are read of a sheet are the positions in it
+sheet-positions : (files : Contents) (sheet : List ℕ) (found : List Place)
+    → cue_sheet_places (files sheet) ≡ Ok found
+    → found ≡ positions_in (file_bytes_of files sheet)
+sheet-positions files sheet found e =
+    let cue = cue-parts (files sheet) found e in
+    sym cue.all ∙ sym (ap (λ (o : Option (List ℕ)). positions_in (unwrap_or o [])) cue.there
+    ∙ ap cue_positions cue.read)
 
 -- the pieces at positions hold the frames between these
 pub split_at-holds : (input prefix : List ℕ) (places : List Place)
     → HoldsChosen (SplitAt input prefix places) (split_command (given_cutting places) input prefix)
 split_at-holds input prefix places files made e =
     let is = (split-parts (given_cutting places) files prefix input made e).1.0 in
-    subst
-    (λ (l : List Place). AllConsistOf (piece_frames (frames_between (named_frames files input)) l)
-    (input_streams (given_cutting places) (Ok places) (files input)))
+    pieces-hold (given_cutting places) files input is (frames_between (named_frames files input))
+    (range-exact files input is.file is.survey is.there is.surveyed) places
     (sym (same-places places is.found is.placed))
-    (pieces-hold (given_cutting places) files input is (frames_between (named_frames files input))
-    (λ from to laid e.
-    subst (λ (l : List StreamFrame). IsExactly (frames_between l from to ∷ [])
-    (stream_laid laid is.file is.survey)) (sym (frames-are files input is.file is.there))
-    (range-exact is.file is.survey is.surveyed from to laid e)))
 
 -- the pieces at the positions of a sheet hold the frames between these
 pub split_by-holds : (input prefix sheet : List ℕ) → HoldsChosen (SplitBy false input prefix sheet)
     (split_command (sheet_cutting sheet) input prefix)
 split_by-holds input prefix sheet files made e =
     let is = (split-parts (sheet_cutting sheet) files prefix input made e).1.0 in
-    let cue = cue-parts (files sheet) is.found is.placed in
-    let found : is.found ≡ positions_in (file_bytes_of files sheet) =
-    sym cue.all ∙ sym (ap (λ (o : Option (List ℕ)). positions_in (unwrap_or o [])) cue.there
-    ∙ ap cue_positions cue.read) in
-    subst
-    (λ (l : List Place). AllConsistOf (piece_frames (frames_between (named_frames files input)) l)
-    (input_streams (sheet_cutting sheet) (cue_sheet_places (files sheet)) (files input))) found
-    (pieces-hold (sheet_cutting sheet) files input is (frames_between (named_frames files input))
-    (λ from to laid e.
-    subst (λ (l : List StreamFrame). IsExactly (frames_between l from to ∷ [])
-    (stream_laid laid is.file is.survey)) (sym (frames-are files input is.file is.there))
-    (range-exact is.file is.survey is.surveyed from to laid e)))
+    pieces-hold (sheet_cutting sheet) files input is (frames_between (named_frames files input))
+    (range-exact files input is.file is.survey is.there is.surveyed)
+    (positions_in (file_bytes_of files sheet)) (sheet-positions files sheet is.found is.placed)
 
 -- exact pieces hold the frames of their spans
 pub split_exact-holds : (input prefix : List ℕ) (places : List ExactPlace) → HoldsChosen
     (SplitExact input prefix places) (split_command (given_exact_cutting places) input prefix)
 split_exact-holds input prefix places files made e =
     let is = (split-parts (given_exact_cutting places) files prefix input made e).1.0 in
-    subst (λ (l : List ExactPlace).
-    AllConsistOf (piece_frames (frames_needed_between (file_bytes_of files input)) l)
-    (input_streams (given_exact_cutting places) (Ok places) (files input)))
-    (sym (same-places places is.found is.placed))
-    (pieces-hold (given_exact_cutting places) files input is
+    pieces-hold (given_exact_cutting places) files input is
     (frames_needed_between (file_bytes_of files input))
-    (λ from to laid e.
-    subst (λ (n : List ℕ). IsExactly (frames_needed from to n ∷ [])
-    (stream_laid laid is.file (survey_without_head is.survey)))
-    (sym (bytes-are files input is.file is.there))
-    (samples-exact is.file is.survey is.surveyed from to laid e)))
+    (samples-exact files input is.file is.survey is.there is.surveyed) places
+    (sym (same-places places is.found is.placed))
 
 -- exact pieces at the places of a sheet hold the frames of their spans
 pub split_exact_by-holds : (input prefix sheet : List ℕ) → HoldsChosen
@@ -179,19 +172,9 @@ split_exact_by-holds input prefix sheet files made e =
     let is = (split-parts (sheet_exact_cutting sheet) files prefix input made e).1.0 in
     let one = then_ok (cue_sheet_places (files sheet))
     (λ (list : List Place). ok_places (map Position list)) is.found is.placed in
-    let cue = cue-parts (files sheet) one.0 one.1 in
-    let found : is.found ≡ map Position (positions_in (file_bytes_of files sheet)) =
-    sym (same-places (map Position one.0) is.found one.2) ∙ ap (map Position)
-    (sym cue.all ∙ sym (ap (λ (o : Option (List ℕ)). positions_in (unwrap_or o [])) cue.there
-    ∙ ap cue_positions cue.read)) in
-    subst (λ (l : List ExactPlace).
-    AllConsistOf (piece_frames (frames_needed_between (file_bytes_of files input)) l)
-    (input_streams (sheet_exact_cutting sheet) ((sheet_exact_cutting sheet).places files)
-    (files input))) found
-    (pieces-hold (sheet_exact_cutting sheet) files input is
+    pieces-hold (sheet_exact_cutting sheet) files input is
     (frames_needed_between (file_bytes_of files input))
-    (λ from to laid e.
-    subst (λ (n : List ℕ). IsExactly (frames_needed from to n ∷ [])
-    (stream_laid laid is.file (survey_without_head is.survey)))
-    (sym (bytes-are files input is.file is.there))
-    (samples-exact is.file is.survey is.surveyed from to laid e)))
+    (samples-exact files input is.file is.survey is.there is.surveyed)
+    (map Position (positions_in (file_bytes_of files sheet)))
+    (sym (same-places (map Position one.0) is.found one.2)
+    ∙ ap (map Position) (sheet-positions files sheet one.0 one.1))

@@ -54,9 +54,7 @@ pub record AreRead (c : ClassFields) (fs : List Frame) (stream : List StreamFram
     pub entries : AreStreamEntries c fs
     pub is : map stream_entry fs ≡ stream
 
--- if two lists of frames are read as two streams, both
--- together are read as one stream after the other
-pub read-append : (c : ClassFields) (fs gs : List Frame) (xs ys : List StreamFrame)
+read-append : (c : ClassFields) (fs gs : List Frame) (xs ys : List StreamFrame)
     → AreRead c fs xs → AreRead c gs ys → AreRead c (fs ++ gs) (xs ++ ys)
 read-append c fs gs xs ys first second = record {
   entries = entries-append c fs gs first.entries second.entries;
@@ -64,8 +62,7 @@ read-append c fs gs xs ys first second = record {
 }
 
 module _ (c : ClassFields) where
-  -- all frames of an input without its first k are read as its stream without its first k
-  pub part-read : (p : FilePart) (is : IsInput c p) (k : ℕ)
+  part-read : (p : FilePart) (is : IsInput c p) (k : ℕ)
       → AreRead c (part_frames (part_from k p)) (part_stream (part_from k p))
   part-read p is k =
       let are = frames-of p.file (survey_without_head p.survey) (has-apart c p is) in
@@ -78,8 +75,7 @@ module _ (c : ClassFields) where
             ∙ ap (take (p.to - k)) (sym (drop-map stream_entry k all) ∙ ap (drop k) are.stream_is);
       }
 
-  -- the frames of the inputs after the first are read as their streams without those left out
-  pub parts-read : (joints : List JointFrames) (parts : List FilePart) → AreInputs c parts
+  parts-read : (joints : List JointFrames) (parts : List FilePart) → AreInputs c parts
       → AreRead c (flat_map part_frames (later_parts joints parts))
       (flat_map part_stream (later_parts joints parts))
   parts-read [] parts are = record { entries = tt; is = refl }
@@ -90,6 +86,18 @@ module _ (c : ClassFields) where
       (part_stream (part_from k p))
       (flat_map part_stream (later_parts joints parts)) (part-read p are.0 k)
       (parts-read joints parts are.1)
+
+  -- the frames of the run are read as its stream
+  pub run-read : (first : FilePart) (parts : List FilePart) → AreInputs c (first ∷ parts)
+      → AreRead c (flat_map part_frames (run_parts first parts))
+      (flat_map part_stream (run_parts first parts))
+  run-read first parts are =
+      let joined = join_of_parts first parts in
+      read-append c (part_frames (part_from joined.front first))
+      (flat_map part_frames (later_parts joined.joints parts))
+      (part_stream (part_from joined.front first))
+      (flat_map part_stream (later_parts joined.joints parts))
+      (part-read first are.0 joined.front) (parts-read joined.joints parts are.1)
 
 -- ---- the file
 
@@ -130,21 +138,15 @@ module _ (file : List ℕ) (s : SurveyFields) (allowed : ℕ) (e : survey_fields
   abbrev run_frames_in : List Frame
   run_frames_in = flat_map part_frames (run_parts first parts)
 
-  run-read : AreRead s.class run_frames_in (flat_map part_stream (run_parts first parts))
-  run-read =
-      read-append s.class (part_frames (part_from front first))
-      (flat_map part_frames (later_parts (join_of_parts first parts).joints parts))
-      (part_stream (part_from front first))
-      (flat_map part_stream (later_parts (join_of_parts first parts).joints parts))
-      (part-read s.class first own_inputs.0 front)
-      (parts-read s.class (join_of_parts first parts).joints parts own_inputs.1)
+  all_read : AreRead s.class run_frames_in (flat_map part_stream (run_parts first parts))
+  all_read = run-read s.class first parts own_inputs
 
   frames-are : seamless_frames first parts ≡ frames_laid whole file s
   frames-are =
       relaid-same run_frames_in (part_frames whole_part) (run_plan first parts)
-      (bare-same s.class known run_frames_in (part_frames whole_part) run-read.entries
+      (bare-same s.class known run_frames_in (part_frames whole_part) all_read.entries
       (part-entries s.class whole_part whole-is)
-      (run-read.is ∙ run-stream file s has a b bs first parts are inputs files none
+      (all_read.is ∙ run-stream file s has a b bs first parts are inputs files none
       ∙ sym (part-stream s.class whole_part whole-is)))
       ∙ ap (relaid_frames (part_frames whole_part))
       (plan-is file s has a b bs first parts are inputs files none)

@@ -210,6 +210,21 @@ module _ (file : List ℕ) (s : SurveyFields) where
 
 -- ---- the law
 
+-- in two steps, the first file is that of the first pieces, and those after it are the others
+pub step-files : (first : FilePart) (parts others : List FilePart)
+    → (steps : IsJoinedInSteps first parts others)
+    → (steps.joined.file ≡ seamless_file (first ∷ parts))
+    × (map (λ (p : FilePart). Some p.file) others ≡ map (λ (p : FilePart). Some p.file) steps.more)
+step-files first parts others steps =
+    let names : map steps.files steps.names
+    ≡ map (λ (p : FilePart). Some p.file) (steps.joined ∷ steps.more) =
+    parts-files steps.files 0 None most_frames steps.names (steps.joined ∷ steps.more)
+    steps.taken in
+    let both : Some steps.joined.file ∷ map (λ (p : FilePart). Some p.file) steps.more
+    ≡ Some (seamless_file (first ∷ parts)) ∷ map (λ (p : FilePart). Some p.file) others =
+    sym names ∙ steps.are in
+    (cc, cc)
+
 module _ (file : List ℕ) (s : SurveyFields) (allowed : ℕ) (e : survey_fields file allowed ≡ Ok s)
     (has : CanBeRelaid file s) (known : IsClass s.class)
     (filled : full_frames s.class (all_stream file s) ≡ all_stream file s) where
@@ -251,24 +266,15 @@ module _ (file : List ℕ) (s : SurveyFields) (allowed : ℕ) (e : survey_fields
       let step : seamless_file (first ∷ parts) ≡ bare_file (laid_between file s has a mid) file s =
       all-joined a b cut.first first parts front_rise
       (inputs.0, inputs-front first.survey.class parts others inputs.1) (files.0, cut.files) in
-      let names : map steps.files steps.names
-      ≡ map (λ (p : FilePart). Some p.file) (steps.joined ∷ steps.more) =
-      parts-files steps.files 0 None most_frames steps.names (steps.joined ∷ steps.more)
-      steps.taken in
-      let both : Some steps.joined.file ∷ map (λ (p : FilePart). Some p.file) steps.more
-      ≡ Some (seamless_file (first ∷ parts)) ∷ map (λ (p : FilePart). Some p.file) others =
-      sym names ∙ steps.are in
-      let joined_is : steps.joined.file ≡ seamless_file (first ∷ parts) = cc in
-      let more_are : map (λ (p : FilePart). Some p.file) others
-      ≡ map (λ (p : FilePart). Some p.file) steps.more = cc in
+      let stepped = step-files first parts others steps in
       let early : b ≤ mid = cut-last file s b cut.first cut.rise in
       let later : mid ≤ length s.frames = cut-within file s b cut.first are.1 cut.rise in
       let piece = joined-piece a mid steps.joined.file (omega (arith, are.0, are.1))
-      (joined_is ∙ step) in
+      (stepped.0 ∙ step) in
       all-joined a mid cut.second steps.joined steps.more
       (omega (arith, are.0, early), later, cut.rise_on)
       (inputs-are steps.files steps.names steps.joined steps.more steps.taken)
-      (piece, same-files file s mid cut.second others steps.more more_are cut.files_on)
+      (piece, same-files file s mid cut.second others steps.more stepped.1 cut.files_on)
       ∙ ap (λ n. bare_file (laid_between file s has a n) file s) cut.last
       ∙ sym (all-joined a b bs first (parts ++ others) are inputs files)
 
