@@ -4,6 +4,7 @@ use Rattle.std.proofs.Common.{Some, subst, sym, true, ℕ, [], ◌++◌, ◌+◌
 use Rattle.std.proofs.{Common.{◌≤◌, ◌⊎◌}, lemmas.Bool.{cases_lt, false≢true, le-leb, lt-leb}}
 use Rattle.std.proofs.lemmas.List.{drop_all}
 use Rattle.frame_header.specs.Fields.{HeaderFields}
+use Rattle.laying.proofs.LaidRunLemmas.{front_end-is}
 use Rattle.sync_survey.proofs.{ItemListLemmas.stream_belongs, OneItemLemmas.stands-only_at}
 use Rattle.sync_survey.proofs.RunsLemmas.{IsItemOf, item_of-is, item_of-whole, run-ends, run-only}
 use Rattle.sync_survey.proofs.StartLemmas.{start-first, start-front, start_is}
@@ -139,6 +140,19 @@ module _ (file : List ℕ) (n : ℕ) (within : n ≤ length file) where
       ((start_of now ≡ Ok start) × (start.first.offset + size_of (Frame start.first.header) ≤ n))
       ⊎ ((fault : SurveyFault) × (start_of now ≡ Err fault) × IsCutFault fault)
 
+  none_starts : (at : ℕ) (item : Item) → IsCutThrough file n within Stream at item → (x end : Item)
+      → item_at now at ≡ x → x ≡ end → belongs Stream end ≡ false
+      → start_at now at end ≡ start_at now at End
+      → (fault : SurveyFault) × (start_at now at x ≡ Err fault) × IsCutFault fault
+  none_starts at item through x end is same apart ends = (
+    NoFrame at,
+    ap (start_at now at) same ∙ ends ∙ no-start file n within at item through (λ e. false≢true (
+        sym apart ∙ ap (belongs Stream) (sym same ∙ sym is ∙ e)
+        ∙ (item_of-is Stream file at item through.is).belongs
+        )),
+    tt,
+  )
+
   -- no start, if the item at which the front ends was cut through
   no_start : (at : ℕ) (item : Item) → IsCutThrough file n within Stream at item → (x : Item)
       → item_at now at ≡ x → IsCutItem x item
@@ -167,28 +181,10 @@ module _ (file : List ℕ) (n : ℕ) (within : n ≤ length file) where
           let no : End ≡ Zero = none ∙ is ∙ same in absurd cc
       whole_start End same is through = absurd (false≢true is)
       whole_start Nothing same is through = absurd (false≢true is)
-  no_start at item through x is (inr (inl same)) = (
-    NoFrame at,
-    ap (start_at now at) same ∙ no-start file n within at item through (λ e. not_end item
-        (sym same ∙ sym is ∙ e) (item_of-is Stream file at item through.is).belongs),
-    tt,
-  )
-    where
-      not_end : (item : Item) → End ≡ item → belongs Stream item ≡ true → ⊥
-      not_end item same is = false≢true (ap (belongs Stream) same ∙ is)
-  no_start at item through x is (inr (inr same)) = (
-    NoFrame at,
-    ap (start_at now at) same ∙ no-start file n within at item through (λ e. not_nothing item
-        (sym same ∙ sym is ∙ e) (item_of-is Stream file at item through.is).belongs),
-    tt,
-  )
-    where
-      not_nothing : (item : Item) → Nothing ≡ item → belongs Stream item ≡ true → ⊥
-      not_nothing item same is = false≢true (ap (belongs Stream) same ∙ is)
-
-  stop-is : (f : List ℕ) → (item_run Front f 0).stop ≡ front_end_of f
-  unfolding front_end_of
-  stop-is f = refl
+  no_start at item through x is (inr (inl same)) =
+      none_starts at item through x End is same refl refl
+  no_start at item through x is (inr (inr same)) =
+      none_starts at item through x Nothing is same refl refl
 
   in_stream : (part : Region) (at : ℕ) (item : Item) → IsCutThrough file n within part at item
       → IsCutThrough file n within Stream at item
@@ -205,7 +201,8 @@ module _ (file : List ℕ) (n : ℕ) (within : n ≤ length file) where
   front-now : (front : List PlacedItem) (stop : ℕ) → AreEndToEnd Front now 0 front stop
       → whole_item_at Front now stop ≡ None → stop ≡ front_end_of now
   front-now front stop ends none =
-      sym (ap (λ (r : ItemRun). r.stop) (run-only Front now 0 front stop ends none)) ∙ stop-is now
+      sym (ap (λ (r : ItemRun). r.stop) (run-only Front now 0 front stop ends none))
+      ∙ front_end-is now
 
   module _ (start : Start) (is : start_of file ≡ Ok start)
       (no_junk : start.first.offset ≡ start.front_end) where
@@ -245,7 +242,7 @@ module _ (file : List ℕ) (n : ℕ) (within : n ≤ length file) where
     by_front : (r : IsCutRun Front 0 (item_run Front file 0).items (item_run Front file 0).stop)
         → IsStop Front (item_run Front file 0).stop r.stop r.rest → IsCutStart start
     by_front r (inl end) =
-        let stop : r.stop ≡ at = end.0 ∙ stop-is file ∙ sym at_front in
+        let stop : r.stop ≡ at = end.0 ∙ front_end-is file ∙ sym at_front in
         let none : whole_item_at Front now r.stop ≡ None =
         subst (λ k. whole_item_at Front now k ≡ None) (sym stop)
         (not-in-front at (item_at now at) refl (front-item (item_at now at) h

@@ -24,8 +24,8 @@ use Rattle.theorems.proofs.ExactNumberLemmas.{whole-files, whole-first, whole-is
 use Rattle.theorems.proofs.{ExactNumberLemmas.whole_span, ExactReadLemmas.read-plays}
 use Rattle.theorems.proofs.ExactRunLemmas.{all-follow, AreExactFiles, first_leads, IsJoined}
 use Rattle.theorems.proofs.ExactRunLemmas.{joined-is, st}
-use Rattle.theorems.proofs.SeamlessInputLemmas.{AreInputs, inputs-are}
-use Rattle.theorems.proofs.{SplitJoinLemmas.{not-true, parts-files}, SplitLemmas.class-of}
+use Rattle.theorems.proofs.{SeamlessInputLemmas.{AreInputs, inputs-are}, SeamlessRunLemmas.not-true}
+use Rattle.theorems.proofs.{SplitJoinLemmas.parts-files, SplitLemmas.class-of}
 use Rattle.theorems.specs.SeamlessLaws.{ExactSplitThenSeamlessJoin, has_no_look_alike, HasTheSpan}
 use Rattle.theorems.specs.SeamlessLaws.{is_look_alike, last_place, PlaysTheSpan}
 

@@ -1,6 +1,6 @@
 -- What is played of the join of exact pieces by the head of its file, as it is read.
-use Rattle.std.proofs.Common.{ap, ap₂, arith, length, List, Ok, refl, Some, subst, sym, ℕ, [], ◌+◌}
-use Rattle.std.proofs.{Common.{◌-◌, ◌<◌, ◌^◌, ◌∙◌, ◌∷◌, ◌≡◌, ◌≤◌}, lemmas.List.length-map}
+use Rattle.std.proofs.Common.{ap, ap₂, arith, length, List, Ok, Some, subst, sym, ℕ, [], ◌+◌, ◌-◌}
+use Rattle.std.proofs.{Common.{◌<◌, ◌^◌, ◌∙◌, ◌∷◌, ◌≡◌, ◌≤◌}, lemmas.List.length-map}
 use Rattle.std.proofs.lemmas.List.FromFn.{length-range_with_len}
 use Rattle.std.specs.{List.{concat, range_with_len}, Prelude.slice_get}
 use Rattle.commands.specs.SingleOutput.{most_frames}
@@ -17,9 +17,10 @@ use Rattle.join_edits.proofs.RunPartLemmas.{front-within, run-laid}
 use Rattle.join_edits.specs.Seamless.{join_of_parts, part_head, run_extension, seamless_file}
 use Rattle.join_edits.specs.Seamless.{seamless_frames, seamless_info, seamless_row_file}
 use Rattle.laying.proofs.{HoldLemmas.blocks-kept, LaidFileLemmas.laid-survey}
-use Rattle.laying.{proofs.LaidLemmas.first-there, specs.KeptFields.fields_of_head}
-use Rattle.laying.specs.LaidFiles.{frame_length, frames_offset, head_at, IsLaidFile, laid_fields}
-use Rattle.laying.specs.{LaidFiles.{laid_file, rows_from}, Relaid.FilePart, Surveys.CanBeRelaid}
+use Rattle.laying.proofs.{LaidFrameLemmas.rows-length, LaidLemmas.first-there}
+use Rattle.laying.specs.KeptFields.{fields_of_head}
+use Rattle.laying.specs.LaidFiles.{frames_offset, head_at, IsLaidFile, laid_fields, laid_file}
+use Rattle.laying.specs.{LaidFiles.rows_from, Relaid.FilePart, Surveys.CanBeRelaid}
 use Rattle.laying.specs.Written.{front_blocks, head_info, info_for, table_entry}
 use Rattle.split_edits.specs.Recording.{input_played}
 use Rattle.sync_survey.proofs.SurveyPartsLemmas.{surveyed-allowed}
@@ -32,11 +33,6 @@ use Rattle.theorems.proofs.ExactNumberLemmas.{whole-found, whole_span}
 use Rattle.theorems.proofs.{ExactRunLemmas.{AreExactFiles, class-is}, ExactSpanLemmas.places-of}
 use Rattle.theorems.proofs.PieceHeadLemmas.{laid-count, laid-extension}
 use Rattle.theorems.{proofs.SeamlessInputLemmas.AreInputs, specs.SeamlessLaws.last_place}
-
--- there is a row for each frame
-rows-many : (at : ℕ) (frames : List Frame) → length (rows_from at frames) ≡ length frames
-rows-many at [] = refl
-rows-many at (f ∷ frames) = omega (arith, rows-many (at + frame_length f) frames)
 
 module _ (file : List ℕ) (s : SurveyFields) (has : CanBeRelaid file s)
     (few : length s.frames ≤ most_frames) (known : IsClass s.class)
@@ -163,7 +159,7 @@ module _ (file : List ℕ) (s : SurveyFields) (has : CanBeRelaid file s)
         ∙ class-is file s has few known place next places first parts inputs files in
         let count : length (rows_from (frames_offset blocks header info) frames)
         ≡ leads + (span.last - span.first) =
-        rows-many (frames_offset blocks header info) frames
+        rows-length (frames_offset blocks header info) frames
         ∙ frames-many file s has few known place next places first parts inputs files in
         ap₂ (λ (l : List ℕ) (t : SurveyFields).
         played_of (fields_of_head l t.head) t.class (length t.frames)) join-is (sym told)

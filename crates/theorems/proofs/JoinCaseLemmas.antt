@@ -1,10 +1,9 @@
 -- All frames of several files, in one file.
-use Rattle.std.proofs.Common.{All, ap, ap₂, arith, Err, false, length, List, map, None, Ok, Option}
-use Rattle.std.proofs.Common.{refl, Result, Some, subst, sym, ℕ, [], ◌+◌, ◌-◌, ◌∙◌, ◌∷◌, ◌≡◌}
+use Rattle.std.proofs.Common.{All, ap, ap₂, arith, false, length, List, map, None, Ok, Option, refl}
+use Rattle.std.proofs.Common.{Some, subst, sym, ℕ, [], ◌+◌, ◌-◌, ◌∙◌, ◌∷◌, ◌≡◌}
 use Rattle.std.{proofs.lemmas.List.{length-map, Elements.All-cons}, specs.Prelude.unwrap_or}
 use Rattle.commands.proofs.{MadeLemmas.{makes-parts, some-frames}, RefusingLemmas.then_ok}
-use Rattle.commands.specs.{Refusing.then_made, SingleOutput.most_frames}
-use Rattle.commands.specs.declared.fault.EditFault.{EditFault}
+use Rattle.commands.specs.SingleOutput.{most_frames}
 use Rattle.frame_header.specs.{Fields.ClassFields, Tables.window_of}
 use Rattle.job_words.specs.Request.{Join}
 use Rattle.join_edits.proofs.PartLemmas.{part-is}
@@ -20,7 +19,8 @@ use Rattle.slot_plan.specs.{LeastPlan.least_plan, Plans.IsPlan, declared.needs.N
 use Rattle.sync_survey.specs.{Faults.{stream_of, SurveyFields}, MainData.StreamFrame}
 use Rattle.sync_survey.specs.Survey.{survey_of}
 use Rattle.theorems.proofs.{CaseLemmas.stream-is, ExactLemmas.planned-exact}
-use Rattle.theorems.specs.{Chosen.named_frames, Exact.IsExactly}
+use Rattle.theorems.{proofs.SeamlessInputLemmas.more-inputs, specs.Chosen.named_frames}
+use Rattle.theorems.specs.Exact.{IsExactly}
 use Rattle.theorems.specs.Laws.{HoldsChosen, JoinedPlansAreFirst, JoinedStreamsAreExact}
 
 rows-each : (class : ClassFields) (parts : List FilePart) → AreParts class parts
@@ -124,12 +124,6 @@ frames-more files c place first allowed name names part parts e same more =
           ∙ part-stream files name is.file allowed is.survey is.there is.surveyed) more.frames;
     }
 
-parts-more : (part : FilePart) (r : Result (List FilePart) EditFault) (parts : List FilePart)
-    → then_made r (λ later. Ok (part ∷ later)) ≡ Ok parts
-    → (later : List FilePart) × (r ≡ Ok later) × (part ∷ later ≡ parts)
-parts-more part (Ok later) parts e = (later, refl, cc)
-parts-more part (Err fault) parts e = absurd cc
-
 -- the inputs after the first, which are of its class
 parts-behind : (files : Contents) (c : ClassFields) (place allowed : ℕ) (names : List (List ℕ))
     (parts : List FilePart) → join_parts_from place (Some c) allowed files names ≡ Ok parts
@@ -140,7 +134,7 @@ parts-behind files c place allowed [] parts e = let none : [] ≡ parts = cc in
 parts-behind files c place allowed (name ∷ names) parts e =
     let one = then_ok (join_part place (Some c) allowed (files name)) _ parts e in
     let part : FilePart = one.0 in
-    let more = parts-more part (join_parts_from (place + 1) (Some c)
+    let more = more-inputs part (join_parts_from (place + 1) (Some c)
     (allowed - length part.survey.frames) files names) parts one.2 in
     let is = part-is place (Some c) allowed (files name) part one.1 in
     subst (AreFramesOf files c (name ∷ names)) more.2
@@ -163,7 +157,7 @@ unfolding join_parts_from
 parts-join files name names parts e =
     let one = then_ok (join_part 0 None most_frames (files name)) _ parts e in
     let part : FilePart = one.0 in
-    let more = parts-more part (join_parts_from (0 + 1) (Some part.survey.class)
+    let more = more-inputs part (join_parts_from (0 + 1) (Some part.survey.class)
     (most_frames - length part.survey.frames) files names) parts one.2 in
     record {
       first = part;

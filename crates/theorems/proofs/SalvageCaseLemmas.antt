@@ -1,7 +1,7 @@
 -- What is left of a damaged file.
 use Rattle.std.proofs.Common.{ap, ap₂, arith, Bool, cond, false, inl, length, List, map, Ok, Option}
 use Rattle.std.proofs.Common.{refl, Some, subst, suc, sym, true, zero, ℕ, [], ◌+◌, ◌∙◌, ◌∷◌, ◌≡◌}
-use Rattle.std.proofs.lemmas.List.{length-map, FromFn.length-enumerate_from}
+use Rattle.std.proofs.lemmas.{Bool.false≢true, List.{length-map, FromFn.length-enumerate_from}}
 use Rattle.std.specs.{List.enumerate_from, Prelude.{slice_get, unwrap_or, ◌<◌}}
 use Rattle.commands.proofs.{MadeLemmas.makes-parts, TellingLemmas.text-parts}
 use Rattle.commands.specs.SingleOutput.{one_command}
@@ -80,16 +80,13 @@ left-by main head rows i r false is = record {
   header = refl;
   sound = λ sound. ap (λ (s : Side). record s { main_data_begin = 0 })
       (ap (λ b. cond b no_side r.side) is);
-  empty = λ lost. absurd (false-true (sym is ∙ lost));
+  empty = λ lost. absurd (false≢true (sym is ∙ lost));
 }
-  where
-    false-true : false ≡ true → ⊥
-    false-true e = absurd cc
 left-by main head rows i r true is =
     let none : row_side r ≡ no_side = ap (λ b. cond b no_side r.side) is in
     record {
       header = refl;
-      sound = λ sound. absurd (true-false (sym is ∙ sound));
+      sound = λ sound. absurd (false≢true (sym sound ∙ is));
       empty = λ lost. (
         ap (λ (s : Side). record s { main_data_begin = 0 }) none,
         ap (λ (s : Side). split_bits (granule_lengths r.header s)
@@ -98,9 +95,6 @@ left-by main head rows i r true is =
             (payload_none main (start_of_data (place head rows i) r)),
       );
     }
-  where
-    true-false : true ≡ false → ⊥
-    true-false e = absurd cc
 
 numbered-at : {A B : Type 0} (f : ℕ × A → B) (n : ℕ) (xs : List A) (i : ℕ) (x : A)
     → slice_get xs i ≡ Some x → slice_get (map f (enumerate_from n xs)) i ≡ Some (f (n + i, x))

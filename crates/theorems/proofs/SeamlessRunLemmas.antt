@@ -29,6 +29,11 @@ use Rattle.theorems.proofs.SeamlessInputLemmas.{AreInputs, brought-fit, brought-
 use Rattle.theorems.proofs.SeamlessInputLemmas.{brought-sounds, inputs-fit, stream-from}
 use Rattle.theorems.proofs.SeamlessInputLemmas.{whole_stream}
 
+-- a value whose negation is true is false
+pub not-true : (b : Bool) → not b ≡ true → b ≡ false
+not-true true is = absurd cc
+not-true false is = refl
+
 -- ---- the plan of frames of a class that fit after a whole window, each in its own slot
 
 own-order : (class : ClassFields) → IsClass class → (needs : List Need)
@@ -221,10 +226,6 @@ module _ (first : FilePart) (parts : List FilePart)
           ap (λ (l : List RunFrame). fits_behind window 0 (needs_of l))
               (run-is ∙ ap (λ n. drop n all) one) ∙ not-true _ both.1,
         )
-      where
-        not-true : (b : Bool) → not b ≡ true → b ≡ false
-        not-true true is = absurd cc
-        not-true false is = refl
 
     first-fit : FitsBehind window window (needs_of run)
     first-fit =

@@ -1,8 +1,8 @@
 -- The pieces of a split, joined in order, are the frames that were cut.
 use Rattle.std.proofs.Common.{ap, ap₂, arith, Bool, drop, false, flat_map, length, List, map, min}
-use Rattle.std.proofs.Common.{None, not, Ok, Option, refl, replicate, Some, subst, sym, take}
-use Rattle.std.proofs.Common.{take-add, true, zip, ℕ, [], ◌&&◌, ◌++◌, ◌+◌, ◌-◌, ◌<◌, ◌==◌, ◌∙◌, ◌∷◌}
-use Rattle.std.proofs.{Common.{◌≡◌, ◌≤◌}, lemmas.Bool.{and_from, le-leb, lt-ltb}}
+use Rattle.std.proofs.Common.{None, Ok, Option, refl, replicate, Some, subst, sym, take, take-add}
+use Rattle.std.proofs.Common.{true, zip, ℕ, [], ◌&&◌, ◌++◌, ◌+◌, ◌-◌, ◌<◌, ◌==◌, ◌∙◌, ◌∷◌, ◌≡◌, ◌≤◌}
+use Rattle.std.proofs.lemmas.Bool.{and_from, le-leb, lt-ltb}
 use Rattle.std.proofs.lemmas.List.{drop-drop, length-drop, length-map, length-take, length-take-le}
 use Rattle.std.proofs.lemmas.List.{map-append}
 use Rattle.std.specs.Prelude.{if◌then◌else◌, nat_le, nat_lt, slice_range, unwrap_or}
@@ -58,11 +58,6 @@ range-append xs a b c first second =
 -- nothing is between a place and itself
 pub range-none : {X : Type 0} (xs : List X) (a : ℕ) → slice_range xs a a ≡ []
 range-none xs a = let none : a - a ≡ 0 = omega arith in ap (λ n. take n (drop a xs)) none
-
--- a value whose negation is true is false
-pub not-true : (b : Bool) → not b ≡ true → b ≡ false
-not-true true is = absurd cc
-not-true false is = refl
 
 -- ---- what is cut
 

@@ -14,12 +14,11 @@ use Rattle.sync_survey.proofs.SurveyedFileLemmas.{survey_of-parts}
 use Rattle.sync_survey.specs.Faults.{stream_of, stream_of_survey, survey_fields, SurveyFields}
 use Rattle.sync_survey.specs.{MainData.StreamFrame, Survey.survey_of}
 use Rattle.theorems.proofs.{CaseLemmas.stream-is, PiecePartLemmas.{IsPieceFile, laid-piece}}
-use Rattle.theorems.proofs.SeamlessInputLemmas.{AreInputs, inputs-are}
+use Rattle.theorems.proofs.{SeamlessInputLemmas.{AreInputs, inputs-are}, SeamlessRunLemmas.not-true}
 use Rattle.theorems.proofs.{SplitFileLemmas.seamless-file, SplitFullLemmas.all-full}
 use Rattle.theorems.proofs.SplitJoinLemmas.{AreFiles, AreLaid, chosen_between, class-is, cut-last}
-use Rattle.theorems.proofs.SplitJoinLemmas.{cut-within, last-number, NoneAlike, not-true, number}
-use Rattle.theorems.proofs.SplitJoinLemmas.{parts-files, pieces-cut, Rise, seamless-stream}
-use Rattle.theorems.proofs.SplitJoinLemmas.{whole-cut}
+use Rattle.theorems.proofs.SplitJoinLemmas.{cut-within, last-number, NoneAlike, number, parts-files}
+use Rattle.theorems.proofs.SplitJoinLemmas.{pieces-cut, Rise, seamless-stream, whole-cut}
 use Rattle.theorems.specs.SeamlessLaws.{bare_file, full_frames, has_no_look_alike, is_look_alike}
 use Rattle.theorems.specs.SeamlessLaws.{JoinsTheFrames, last_place, SplitThenSeamlessJoin}
 
