@@ -87,8 +87,8 @@ drill-legal seed count files =
 few-one : (n most : ℕ) → n ≤ most → n + 0 ≤ most
 few-one n most few = omega (arith, few)
 
--- a command that reads one stream is legal exactly if its names are
--- apart, and the stream is one that what was chosen is legal for
+-- a command that reads one stream is legal exactly if no input's name is
+-- an output's, and the stream is an input that its choices are legal for
 module _ (asked : Request) (files : Contents) (input : List ℕ)
     (reads : sources_of asked ≡ input ∷ []) where
   abbrev ChoiceOf : FileInput → Type 0
@@ -178,7 +178,7 @@ info-law files input =
 abbrev IsMade : Result (List ℕ) EditFault → Type 0
 IsMade r = (bytes : List ℕ) × (r ≡ Ok bytes)
 
--- of a well-formed file one is made exactly if the choice is legal for it
+-- from a surveyed file one is made exactly if the choice is legal for it
 abbrev IsMadeWhere : Making → (FileInput → Type 0) → Type 0
 IsMadeWhere make Choice =
     (file : List ℕ) (s : SurveyFields) → survey_of file most_frames ≡ Ok s
@@ -424,7 +424,7 @@ split-at-law files input prefix places =
     (IsLegalFor (SplitAt input prefix places) files)
     (one-legal (SplitAt input prefix places) files input refl)
 
--- what holds of the starts of a sheet, and of the places that are read of it
+-- what holds of the starts of a sheet holds of the places that are read from it
 module _ (Pieces : List Place → Type 0) (sheet : List ℕ) (files : Contents) where
   sheet-places : IsSheetWith Pieces sheet files → (places : List Place)
       × (cue_sheet_places (files sheet) ≡ Ok places) × Pieces places

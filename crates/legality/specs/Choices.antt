@@ -141,7 +141,8 @@ pub record IsSheetWith (Pieces : List Place → Type 0) (sheet : List ℕ)
   pub read : cue_of bytes ≡ Ok starts
   pub pieces : Pieces (starts ++ End ∷ [])
 
--- such a sheet; from each start to the next, and from the last to the end, there is a frame
+-- the sheet is such a sheet, and from each start to the next,
+-- and from the last to the end, there is a frame
 abbrev pub IsLegalSheet : List ℕ → Contents → FileInput → Type 0
 IsLegalSheet sheet files input = IsSheetWith (ArePieceRanges input.survey) sheet files
 
@@ -168,7 +169,7 @@ IsSampleRange from to input = (sample_number input from < sample_number input to
 abbrev pub AreSamplePieces : FileInput → List ExactPlace → Type 0
 AreSamplePieces input places = HoldsOfEachNext places (λ from to. IsSampleRange from to input)
 
--- a sheet as for `IsLegalSheet`; from each start to the next,
+-- the sheet is such a sheet, and from each start to the next,
 -- and from the last to the end, there is such a sample
 abbrev pub IsLegalExactSheet : List ℕ → Contents → FileInput → Type 0
 IsLegalExactSheet sheet files input =
