@@ -16,7 +16,6 @@ pub mod CutRunLemmas
 pub mod CutFrameLemmas
 pub mod CutStreamLemmas
 pub mod CutLemmas
-pub mod ApartFitLemmas
 pub mod SeamlessInputLemmas
 pub mod SeamlessRunLemmas
 pub mod SeamlessFrontLemmas

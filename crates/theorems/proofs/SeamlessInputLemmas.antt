@@ -13,8 +13,10 @@ use Rattle.exact_span.specs.Extensions.{counts_of}
 use Rattle.exact_span.specs.PlayedPositions.{counted_played, counted_positions, decoder_delay}
 use Rattle.exact_span.specs.{PlayedPositions.samples_in, declared.extensions.HeadCounts.HeadCounts}
 use Rattle.exact_span.specs.declared.played.Played.{Played}
-use Rattle.frame_header.specs.{Fields.ClassFields, Tables.window_of}
+use Rattle.frame_header.specs.Fields.{ClassFields}
 use Rattle.join_edits.proofs.PartLemmas.{part-is}
+use Rattle.join_edits.proofs.RunPartLemmas.{AreWholeFiles, brought-alone, brought-many as file-many}
+use Rattle.join_edits.proofs.RunPartLemmas.{IsWholeFile, needs-are}
 use Rattle.join_edits.specs.Join.{join_part, join_parts, join_parts_from}
 use Rattle.join_edits.specs.Seamless.{part_brought, part_from, part_head, part_without_head}
 use Rattle.join_edits.specs.Seamless.{run_frame, sound_of}
@@ -25,10 +27,9 @@ use Rattle.laying.specs.Surveys.{CanBeRelaid}
 use Rattle.outside.specs.Files.{Contents}
 use Rattle.seam_plan.proofs.{FollowLemmas.sounds, RunSoundLemmas.{AreFit, IsFit}}
 use Rattle.seam_plan.specs.Frames.{needs_of}
-use Rattle.slot_plan.specs.{FreeBytes.FitsBehind, Parts.AreNeedsOfClass}
+use Rattle.slot_plan.specs.Parts.{AreNeedsOfClass}
 use Rattle.sync_survey.specs.{Faults.{stream_of_survey, SurveyFields}, MainData.StreamFrame}
 use Rattle.sync_survey.specs.{Row.Row, Survey.survey_of}
-use Rattle.theorems.proofs.ApartFitLemmas.{apart-fit}
 
 -- ---- the inputs that a join takes
 
@@ -45,6 +46,22 @@ pub record IsInput (class : ClassFields) (p : FilePart) : Type 0 where
 abbrev pub AreInputs : ClassFields → List FilePart → Type 0
 AreInputs class [] = Unit {0}
 AreInputs class (p ∷ parts) = IsInput class p × AreInputs class parts
+
+-- an input is a whole file
+pub input-whole : (class : ClassFields) (p : FilePart) → IsInput class p → IsWholeFile class p
+input-whole class p is = record {
+  had = is.has;
+  same = is.of_class;
+  from = is.from;
+  to = is.to;
+  some = is.some;
+}
+
+-- inputs are whole files
+pub inputs-whole : (class : ClassFields) (parts : List FilePart) → AreInputs class parts
+    → AreWholeFiles class parts
+inputs-whole class [] are = tt
+inputs-whole class (p ∷ parts) are = (input-whole class p are.0, inputs-whole class parts are.1)
 
 input-is : (class : ClassFields) (place : ℕ) (first : Option ClassFields) (allowed : ℕ)
     (o : Option (List ℕ)) (p : FilePart)
@@ -199,8 +216,7 @@ module _ (class : ClassFields) (p : FilePart) (is : IsInput class p) where
 
   -- the frames that it brings need what the rows do
   pub brought-needs : needs_of (part_brought p).frames ≡ map need_of survey.frames
-  brought-needs =
-      ap needs_of frames-whole ∙ run-needs p.survey.class survey.frames whole_stream stream-length
+  brought-needs = needs-are class p (input-whole class p is)
 
   -- the frames that it brings sound as the stream does
   pub brought-sounds : sounds (part_brought p).frames ≡ map (sound_of class) whole_stream
@@ -210,10 +226,7 @@ module _ (class : ClassFields) (p : FilePart) (is : IsInput class p) where
 
   -- the input brings as many frames as the survey has
   pub brought-many : length (part_brought p).frames ≡ length p.survey.frames
-  brought-many =
-      sym (length-map (part_brought p).frames (λ f. f.sound))
-      ∙ ap (λ (l : List (List ℕ)). length l) brought-sounds
-      ∙ length-map whole_stream (sound_of class) ∙ stream-many
+  brought-many = file-many class p (input-whole class p is)
 
   -- the frames that it brings are of the class and fit with no free bytes before them
   pub brought-fit : IsFit class (part_brought p)
@@ -225,11 +238,7 @@ module _ (class : ClassFields) (p : FilePart) (is : IsInput class p) where
       record {
         same = subst (λ c. AreNeedsOfClass c (needs_of (part_brought p).frames)) is.of_class
             (subst (AreNeedsOfClass p.survey.class) (sym brought-needs) same);
-        fits = subst
-            (λ (c : ClassFields).
-            FitsBehind (window_of c.version) 0 (needs_of (part_brought p).frames)) is.of_class
-            (subst (FitsBehind (window_of p.survey.class.version) 0) (sym brought-needs)
-            (apart-fit p.survey.head p.survey.class p.survey.frames is.has.placed));
+        fits = brought-alone class p (input-whole class p is);
       }
 
   -- no played position is after the last frame

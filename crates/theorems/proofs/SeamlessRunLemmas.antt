@@ -1,69 +1,33 @@
 -- The stream of a seamless join: at most one lead-in, and the frames of the run.
-use Rattle.std.proofs.Common.{All, ap, append-nil, ap₂, arith, Bool, cond, drop, false, flat_map}
-use Rattle.std.proofs.Common.{length, List, map, not, refl, subst, sym, true, ℕ, [], ◌&&◌, ◌++◌}
-use Rattle.std.proofs.{Common.{◌-◌, ◌<◌, ◌∙◌, ◌∷◌, ◌≡◌, ◌≤◌}, lemmas.Bool.{and_parts, both_ways}}
+use Rattle.std.proofs.Common.{ap, append-nil, ap₂, arith, Bool, cond, drop, false, flat_map, length}
+use Rattle.std.proofs.Common.{List, map, not, refl, subst, sym, true, ℕ, [], ◌&&◌, ◌++◌, ◌-◌, ◌<◌}
+use Rattle.std.proofs.{Common.{◌∙◌, ◌∷◌, ◌≡◌, ◌≤◌}, lemmas.Bool.{and_parts, both_ways}}
 use Rattle.std.proofs.lemmas.List.{drop-append-le, drop-map, length-map, map-append}
-use Rattle.std.proofs.lemmas.List.Elements.{All-cons, All-nil}
 use Rattle.cut_edits.proofs.SpanLemmas.{for_length}
-use Rattle.frame_header.{proofs.HeaderLemmas.IsClass-class_of, specs.Fields.{ClassFields, IsClass}}
-use Rattle.frame_header.specs.Tables.{window_of}
+use Rattle.frame_header.specs.{Fields.ClassFields, Tables.window_of}
+use Rattle.join_edits.proofs.RunPartLemmas.{run-planned as files-planned}
 use Rattle.join_edits.specs.Seamless.{join_of_parts, later_parts, part_brought, part_from}
 use Rattle.join_edits.specs.Seamless.{run_lead_ins, run_parts, run_plan, seamless_stream, sound_of}
-use Rattle.laying.{proofs.LaidLemmas.first-there, specs.NeedsFit.own_choice}
+use Rattle.laying.specs.NeedsFit.{own_choice}
 use Rattle.laying.specs.Relaid.{FilePart, part_stream, silent_lead_in, stream_with_lead_ins}
 use Rattle.seam_plan.proofs.{FitLemmas.fits-tested, FollowLemmas.sounds}
-use Rattle.seam_plan.proofs.RunSoundLemmas.{run-class, run-fits, run-sounds, sounds_left}
+use Rattle.seam_plan.proofs.RunSoundLemmas.{run-sounds, sounds_left}
 use Rattle.seam_plan.specs.{Frames.{Brought, needs_of, RunFrame}, Joins.{fits_behind, has_lead_in}}
 use Rattle.seam_plan.specs.Seams.{front_left_out_count, JointFrames, joints_of, left_out_count}
 use Rattle.seam_plan.specs.Seams.{run_of, run_with, seamless_join, SeamlessJoin}
-use Rattle.slot_plan.proofs.{FreeByteLemmas.fits-drop, LeastPlanLemmas.least-plan-is}
-use Rattle.slot_plan.proofs.{OwnLeadInLemmas.lead-where-wanted, PartLemmas.class-drop}
-use Rattle.slot_plan.specs.FreeBytes.{FitsBehind}
-use Rattle.slot_plan.specs.Laws.{AreInOwnSlots, AreLedInOwnSlots, ChoosesInOrder}
-use Rattle.slot_plan.specs.LeastPlan.{least_plan}
-use Rattle.slot_plan.specs.Parts.{AreNeedsOfClass, ArePartsFeasible, need_item}
+use Rattle.slot_plan.proofs.OwnLeadInLemmas.{lead-where-wanted}
+use Rattle.slot_plan.specs.{Laws.{AreInOwnSlots, AreLedInOwnSlots}, Parts.need_item}
 use Rattle.slot_plan.specs.{Plans.{AreItemSlots, IsPlan}, declared.needs.{Need.Need, Placed.Placed}}
 use Rattle.sync_survey.specs.MainData.{StreamFrame}
 use Rattle.theorems.proofs.ExactLemmas.{frames-on, no-frames, one-on}
 use Rattle.theorems.proofs.SeamlessInputLemmas.{AreInputs, brought-fit, brought-many}
-use Rattle.theorems.proofs.SeamlessInputLemmas.{brought-sounds, inputs-fit, stream-from}
-use Rattle.theorems.proofs.SeamlessInputLemmas.{whole_stream}
+use Rattle.theorems.proofs.SeamlessInputLemmas.{brought-sounds, input-whole, inputs-fit}
+use Rattle.theorems.proofs.SeamlessInputLemmas.{inputs-whole, stream-from, whole_stream}
 
 -- a value whose negation is true is false
 pub not-true : (b : Bool) → not b ≡ true → b ≡ false
 not-true true is = absurd cc
 not-true false is = refl
-
--- ---- the plan of frames of a class that fit after a whole window, each in its own slot
-
-own-order : (class : ClassFields) → IsClass class → (needs : List Need)
-    → AreNeedsOfClass class needs → All (ChoosesInOrder own_choice) needs
-unfolding AreNeedsOfClass
-own-order class known [] same = All-nil (ChoosesInOrder own_choice)
-own-order class known (need ∷ needs) same =
-    All-cons (ChoosesInOrder own_choice) need needs
-    (record {
-      class = subst IsClass (sym same.0) known;
-      ascending = λ i j d before within. absurd (omega (arith, before, within));
-      own = (0, omega arith, refl);
-    })
-    (own-order class known needs same.1)
-
-one-planned : (class : ClassFields) (needs : List Need) → IsClass class
-    → AreNeedsOfClass class needs
-    → FitsBehind (window_of class.version) (window_of class.version) needs
-    → IsPlan (window_of class.version) own_choice (needs ∷ [])
-    (least_plan (window_of class.version) own_choice (needs ∷ []))
-unfolding ArePartsFeasible
-one-planned class needs known same fits =
-    (least-plan-is class own_choice (needs ∷ [])
-    (least_plan (window_of class.version) own_choice (needs ∷ []))
-    (All-cons (λ part. AreNeedsOfClass class part) needs [] same
-    (All-nil (λ part. AreNeedsOfClass class part)))
-    (All-cons (λ part. All (ChoosesInOrder own_choice) part) needs []
-    (own-order class known needs same)
-    (All-nil (λ part. All (ChoosesInOrder own_choice) part)))
-    (fits, tt)).1 refl
 
 -- ---- its lead-ins
 
@@ -227,31 +191,10 @@ module _ (first : FilePart) (parts : List FilePart)
               (run-is ∙ ap (λ n. drop n all) one) ∙ not-true _ both.1,
         )
 
-    first-fit : FitsBehind window window (needs_of run)
-    first-fit =
-        subst (FitsBehind window window)
-        (sym (ap needs_of run-is ∙ sym (drop-map (λ (f : RunFrame). f.need) joined.front all)))
-        (fits-drop window window joined.front (needs_of all)
-        (run-fits class brought others (brought-fit class first are.0)
-        (inputs-fit class parts are.1)))
-
-    run-same : AreNeedsOfClass class (needs_of run)
-    run-same =
-        subst (AreNeedsOfClass class)
-        (sym (ap needs_of run-is ∙ sym (drop-map (λ (f : RunFrame). f.need) joined.front all)))
-        (class-drop class (needs_of all) joined.front
-        (run-class class brought others (brought-fit class first are.0)
-        (inputs-fit class parts are.1)))
-
-    class-known : IsClass class
-    class-known =
-        let row = first-there first.survey.frames 0 are.0.some in
-        let placed = are.0.has.placed 0 row.0 row.1 in
-        subst IsClass placed.class_is (IsClass-class_of row.0.header placed.known)
-
     -- its plan
     pub run-planned : IsPlan window own_choice (needs_of run ∷ []) (run_plan first parts)
-    run-planned = one-planned class (needs_of run) class-known run-same first-fit
+    run-planned =
+        files-planned first parts (input-whole class first are.0) (inputs-whole class parts are.1)
 
     abbrev pub stream : List StreamFrame
     stream = flat_map part_stream (run_parts first parts)

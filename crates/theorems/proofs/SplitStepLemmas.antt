@@ -210,7 +210,8 @@ module _ (file : List ℕ) (s : SurveyFields) where
 
 -- ---- the law
 
--- in two steps, the first file is that of the first pieces, and those after it are the others
+-- in a join in two steps, the first file is the join of the first
+-- pieces, and the files after it are those of the other pieces
 pub step-files : (first : FilePart) (parts others : List FilePart)
     → (steps : IsJoinedInSteps first parts others)
     → (steps.joined.file ≡ seamless_file (first ∷ parts))
