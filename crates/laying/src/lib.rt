@@ -33,6 +33,6 @@ pub use laws::{
     fitting_slots, planned_frames_stay, plans_are_of_parts, plans_fit, surveys_can_be_relaid,
 };
 pub use needs_laws::{one_part_fits, part_fits, parts_fit};
-pub use parts::Parts;
+pub use parts::{Parts, append_needs};
 pub use relay::{Relay, first_held};
 pub use selected::Selected;

@@ -112,11 +112,11 @@ fn append_like(first: &FrameFront, like: &Need, rows: &[Row], needs: Vec<Need>) 
     needs
 }
 
-/// Adds what these frames need.
+/// Adds what these frames of a survey need after what is there.
 ///
 /// # Errors
 /// If memory runs out. Then nothing is added.
-fn append_needs(rows: &[Row], needs: &mut Vec<Need>) -> Result<(), AllocError>
+pub fn append_needs(rows: &[Row], needs: &mut Vec<Need>) -> Result<(), AllocError>
     ensures added { OnOk result (needs.new.items ≡ needs.old.items ++ map need_of rows.now) }
     ensures stays { OnErr result (needs.new.items ≡ needs.old.items) }
 {
