@@ -1,4 +1,4 @@
--- Whether the frames that are shared are alike, where the inputs are told.
+-- Whether the shared frames are alike, where the inputs' contents are known.
 use Rattle.std.proofs.Common.{ap, arith, Bool, cond, false, length, List, None, Option, Some, sym}
 use Rattle.std.proofs.{Common.{ℕ, ◌&&◌, ◌+◌, ◌-◌, ◌∙◌, ◌∷◌, ◌≡◌, ◌≤◌}, lemmas.List.length-map}
 use Rattle.exact_span.specs.declared.overlap.Overlap.{Overlap}
@@ -18,7 +18,7 @@ Finds run input overlap =
     (before brought : Brought) → IsRun class frames places before run → IsBroughtInput input brought
     → Some overlap ≡ overlap_of class before brought
 
--- and these are the last of the run
+-- these frames are the last of the run
 abbrev pub HasLast : Run → ℕ → Option (List FramePlace) → Type 0
 HasLast run count last =
     (class : ClassFields) (frames : List RunFrame) (places : List FramePlace) (before : Brought)
@@ -38,7 +38,7 @@ module _ (names : List (List ℕ)) (ss : List SurveyFields) (number : ℕ) (run 
   few-count : overlap.frames - overlap.first_alike ≤ 7
   few-count = omega (arith, can.few)
 
-  -- where the run has no such last frames, the overlap isn't alike
+  -- if the run has no such last frames, the overlap isn't alike
   pub none-alike : (files : Files) (last : Option (List FramePlace))
       → HasLast run (overlap.frames - overlap.first_alike) last → last ≡ None
       → IsSharedOverlap files names ss number run input None
@@ -49,7 +49,7 @@ module _ (names : List (List ℕ)) (ss : List SurveyFields) (number : ℕ) (run 
       (finds class frames places before brought is brings)
       (sym none ∙ has class frames places before is few-count)
 
-  -- where it has them, the test of their sounds decides
+  -- if the run has such last frames, the test of their sounds decides
   pub tested-alike : (files : Files) (last : List FramePlace) (b : Bool)
       → HasLast run (overlap.frames - overlap.first_alike) (Some last) → IfTold files
       (λ f. sounds_from (all_run_frames f names ss) number overlap.first_alike last ≡ b)
@@ -63,14 +63,14 @@ module _ (names : List (List ℕ)) (ss : List SurveyFields) (number : ℕ) (run 
       (finds class frames places before brought is brings) last
       (has class frames places before is few-count) b test)
 
--- a frame more is compared
+-- one more frame is compared
 module _ (names : List (List ℕ)) (ss : List SurveyFields) (number frame : ℕ) (p : FramePlace)
     (places rest : List FramePlace) (is : places ≡ p ∷ rest) where
   abbrev Same : Files → Bool → Type 0
   Same files b =
       IfTold files (λ f. b ≡ same_sounds (all_run_frames f names ss) p (frame_place number frame))
 
-  -- where they don't, the answer is that not all do
+  -- if a frame doesn't sound the same, not all do
   pub ends-here : (files : Files) (all : Contents → Bool) (b : Bool) → b ≡ false → Same files b
       → IfTold files (λ f. sounds_from (all_run_frames f names ss) number frame places ≡ all f)
       → IfTold files (λ f. all f ≡ false)

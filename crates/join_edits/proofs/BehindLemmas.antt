@@ -1,4 +1,4 @@
--- Where no frame is left out, the frames of inputs from the first on are all frames.
+-- If no frame is left out, the frames of inputs from the first on are all frames.
 use Rattle.std.proofs.Common.{ap, ap₂, arith, length, List, refl, suc, unwrap_or, zero, ℕ, [], ◌∷◌}
 use Rattle.std.{proofs.Common.{◌≡◌, ◌≤◌}, specs.Prelude.replicate}
 use Rattle.join_edits.specs.{Inputs.{parts_in, survey_rows}, Join.whole_part}
@@ -7,7 +7,7 @@ use Rattle.laying.{proofs.PlacesLemmas.range-whole, specs.Relaid.FilePart}
 use Rattle.outside.specs.Files.{Contents}
 use Rattle.sync_survey.specs.{Faults.SurveyFields, Row.Row}
 
--- with a 0 for each input, each has so many frames
+-- with a 0 for each input, each input has at least this many frames
 pub within-whole : (n : ℕ) (ss : List SurveyFields) → length ss ≤ n
     → AreCountsWithin ss (replicate n 0)
 within-whole n [] few = tt
@@ -24,7 +24,7 @@ rows-whole (suc n) (s ∷ ss) few =
     ap₂ (λ (rows : List Row) (more : List (List Row)). rows ∷ more) (range-whole s.frames)
     (rows-whole n ss (omega (arith, few)))
 
--- the parts from the first frame on are those of whole inputs
+-- the parts from the first frame on are the parts of whole inputs
 pub parts-whole : (n : ℕ) (files : Contents) (names : List (List ℕ)) (ss : List SurveyFields)
     → length ss ≤ n → rest_parts files names ss (replicate n 0) ≡ parts_in files names ss
 unfolding rest_parts parts_in

@@ -1,4 +1,4 @@
--- The first input is decided, and at last all of them.
+-- Deciding the first input, and in the end all inputs.
 use Rattle.std.proofs.Common.{All, ap, append-nil, ap₂, arith, drop, get_or, IfSome, length}
 use Rattle.std.proofs.Common.{length-append, List, map, refl, slice_get, slice_range, Some, subst}
 use Rattle.std.proofs.Common.{suc, sym, take, unwrap_or, zero, ℕ, [], ◌++◌, ◌<◌, ◌∙◌, ◌∷◌, ◌≡◌, ◌≤◌}
@@ -32,7 +32,7 @@ use Rattle.sync_survey.specs.{Faults.SurveyFields, Survey.IsSurveyLaidOut}
 
 -- ---- an input from which a run can begin
 
--- what the frames of an input need is of its class
+-- the needs of an input's frames are of its class
 pub needs-class : (s : SurveyFields) → IsSurveyLaidOut s → AreNeedsOfClass s.class (input_needs s)
 needs-class s laid =
     let whole : map need_of (slice_range s.frames 0 (length s.frames)) ≡ input_needs s =
@@ -50,7 +50,7 @@ can-begin files names s ss bs can = record {
   fits = can.fit.0;
 }
 
--- the same by its place
+-- the same, with the first input given by its place
 pub can-begin-at : (files : Files) (names : List (List ℕ)) (ss : List SurveyFields)
     (bs : List Beginning) {s : SurveyFields} {rest : List SurveyFields}
     → CanBeDecided files names ss bs → drop 0 ss ≡ s ∷ rest → CanBeginRun s
@@ -59,7 +59,7 @@ can-begin-at files names (t ∷ ss) bs {s} {rest} can e =
     let same : t ≡ s = cc in
     subst CanBeginRun same (can-begin files names t ss bs can)
 
--- ---- the first
+-- ---- the first input
 
 module _ (files : Files) (names : List (List ℕ)) (s : SurveyFields) (ss : List SurveyFields)
     (b : Beginning) (bs : List Beginning) (d : Deciding)
@@ -143,7 +143,7 @@ begun-decides (Told f) (name ∷ names) s ss b bs d can begun =
     (brings-told (unwrap_or (f name) []) s b)
     (first-told f name names s ss b bs d.joints.items begun.joints)
 
--- the same by the places of its survey and of how it begins
+-- the same, with the survey and the beginning given by their places
 pub begun-at : (files : Files) (names : List (List ℕ)) (ss : List SurveyFields)
     (bs : List Beginning) (s : SurveyFields) (b : Beginning) (d : Deciding)
     → CanBeDecided files names ss bs → slice_get ss 0 ≡ Some s → slice_get bs 0 ≡ Some b
@@ -157,7 +157,7 @@ begun-at files names (t ∷ ss) (c ∷ bs) s b d can found there begun =
     (subst (λ (u : SurveyFields). HasBegunRun u c d) surveys
     (subst (λ (e : Beginning). HasBegunRun s e d) beginnings begun))
 
--- ---- all of them
+-- ---- all inputs
 
 moved-length : (needs others : List Need) → AreMovedNeeds needs others
     → length needs ≡ length others
@@ -200,7 +200,7 @@ broughts-few f (n ∷ names) [] bs = omega arith
 broughts-few f (n ∷ names) (s ∷ ss) [] = omega arith
 broughts-few f (n ∷ names) (s ∷ ss) (b ∷ bs) = omega (arith, broughts-few f names ss bs)
 
--- what is known of the front
+-- how many frames are left out at the front of the run, fewer than the first input has
 pub record IsFront (s : SurveyFields) (b : Beginning) (needs : List Need) (front : ℕ) : Type 0 where
   pub is : (first : Brought) (frames : List RunFrame) → BringsNeeds s b first
       → needs ≡ needs_of frames → front ≡ front_left_out_count s.class first frames
@@ -231,16 +231,16 @@ module _ (files : Files) (names : List (List ℕ)) (s : SurveyFields) (ss : List
       subst (λ (l : List SurveyFields). AreCountsWithin l (0 ∷ left_out_counts d.joints.items))
       (take_all (length (s ∷ ss)) (s ∷ ss) (omega arith)) is.within
 
-  -- what the front is asked for
+  -- the needs of the run are of the class
   pub front-same : AreNeedsOfClass s.class d.needs.items
   front-same = subst (λ (c : ClassFields). AreNeedsOfClass c d.needs.items) same-class is.same
 
-  -- they fit behind a whole window
+  -- the needs of the run fit after a whole window
   pub front-fits : FitsBehind (window_of s.class.version) (window_of s.class.version) d.needs.items
   front-fits = subst (λ (c : ClassFields). FitsBehind (window_of c.version)
       (window_of c.version) d.needs.items) same-class all-fit
 
-  -- the first of them are those of the first input
+  -- the first needs of the run are the needs of the first input
   pub front-first : take (length s.frames) d.needs.items ≡ input_needs s
   front-first = is.begins s refl
 
@@ -327,7 +327,7 @@ all-told f (name ∷ names) s ss b bs d can is front known =
     (all_run_frames f (name ∷ names) (s ∷ ss)) is.frames is.places is.before d.joints.items)
     (take_all (length (s ∷ ss)) all (broughts-few f (name ∷ names) (s ∷ ss) (b ∷ bs))) is.told)
 
--- so it became of all of them
+-- all inputs are decided
 pub all-decided : (files : Files) (names : List (List ℕ)) (s : SurveyFields)
     (ss : List SurveyFields) (b : Beginning) (bs : List Beginning) (d : Deciding)
     → CanBeDecided files names (s ∷ ss) (b ∷ bs)
@@ -342,10 +342,10 @@ all-decided (Told f) names s ss b bs d can is front known = record {
   told = all-told f names s ss b bs d can is front known;
 }
 
--- by their places
+-- the first input by its place
 module _ (files : Files) (names : List (List ℕ)) {s : SurveyFields} {b : Beginning}
     {rest : List SurveyFields} (d : Deciding) where
-  -- when all inputs are decided to the end, and then the front, they are decided
+  -- if all inputs are decided, and then the front, the whole join is decided
   pub at-end : (ss : List SurveyFields) (bs : List Beginning) → CanBeDecided files names ss bs
       → drop 0 ss ≡ s ∷ rest → slice_get bs 0 ≡ Some b → (count : ℕ) → count ≡ length ss
       → IsDecidingTo files names ss bs count d → AreNeedsOfClass s.class d.needs.items
@@ -373,7 +373,7 @@ module _ (files : Files) (names : List (List ℕ)) {s : SurveyFields} {b : Begin
             (subst (λ (e : Beginning). IsFront s e d.needs.items front) (sym beginnings) known)),
       )
 
--- ---- the next one
+-- ---- the next input
 
 alike-at : (class : ClassFields) (ss : List SurveyFields) (n : ℕ) (s : SurveyFields)
     → AreInputsOfClass class ss → slice_get ss n ≡ Some s
@@ -447,7 +447,7 @@ module _ (files : Files) (names : List (List ℕ)) (ss : List SurveyFields) (bs 
   pub can-join : IsJoinableInput d.run.class input
   can-join = subst (λ (c : ClassFields). IsJoinableInput c input) run-class can-join-own
 
-  -- and it is the next of the run
+  -- the input is the next of the run
   pub is-next : IsNextInput ss number d.run input
   is-next = record {
     survey = s;
@@ -463,7 +463,7 @@ module _ (files : Files) (names : List (List ℕ)) (ss : List SurveyFields) (bs 
     at = is.at;
   }
 
-  -- it is the input with this number, and begins as that does
+  -- this is the input with this number, and it begins as that one does
   pub input-of : IsInputOf ss bs number is.class input
   input-of = record {
     survey = s;
@@ -477,7 +477,7 @@ module _ (files : Files) (names : List (List ℕ)) (ss : List SurveyFields) (bs 
         subst (λ (c : ClassFields). AreNeedsOfClass c input.needs.now) class-here can-join-own.same;
   }
 
--- they are all of one class
+-- all inputs are of one class
 pub all-of-one : (ss : List SurveyFields) → CanInputsBeJoined ss → AreSurveysOfOneClass ss
 all-of-one ss can = (can.class, each can.class ss can.alike)
   where
@@ -487,7 +487,7 @@ all-of-one ss can = (can.class, each can.class ss can.alike)
     each class (s ∷ ss) are =
         All-cons (λ (t : SurveyFields). t.class ≡ class) s ss are.2 (each class ss are.3)
 
--- an element within a list is there
+-- there is an item at each place less than the length
 pub get-here : {X : Type 0} (xs : List X) (n : ℕ) (d : X) → n < length xs
     → slice_get xs n ≡ Some (get_or xs n d)
 get-here [] n d within = absurd (omega (arith, within))

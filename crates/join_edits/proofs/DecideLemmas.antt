@@ -18,7 +18,7 @@ use Rattle.seam_plan.specs.declared.run.Joint.{Joint as CodeJoint}
 use Rattle.slot_plan.specs.{FreeBytes.needs_with_first_slot, Parts.AreNeedsOfClass}
 use Rattle.slot_plan.specs.declared.needs.Need.{Need}
 
--- ---- joints, one more
+-- ---- one more joint
 
 module _ (class : ClassFields) where
   abbrev frames-in : List JointFrames → List RunFrame
@@ -38,7 +38,7 @@ module _ (class : ClassFields) where
       ∙ ap (λ (r : List RunFrame). joint ∷ (later ++ joint_of class r (last_brought b others) next
       ∷ [])) (append_assoc run joint.frames (frames-in later))
 
-  -- what becomes of an input more
+  -- one more input has one more joint
   pub joints-next : (first : Brought) (others : List Brought) (next : Brought)
       → joints_of class first (others ++ next ∷ [])
       ≡ joints_of class first others ++ joint_of class
@@ -52,7 +52,7 @@ module _ (class : ClassFields) where
       ap (λ (l : List RunFrame). j.frames ++ l) (frames-more joints joint)
       ∙ sym (append_assoc j.frames (frames-in joints) joint.frames)
 
-  -- the run with its frames
+  -- one more input adds its frames to the run
   pub run-next : (first : Brought) (others : List Brought) (next : Brought)
       → run_with first (joints_of class first (others ++ next ∷ []))
       ≡ run_with first (joints_of class first others)
@@ -65,13 +65,13 @@ module _ (class : ClassFields) where
       ∙ ap (λ (l : List RunFrame). first.frames ++ l) (frames-more joints joint)
       ∙ sym (append_assoc first.frames (frames-in joints) joint.frames)
 
--- when one more is brought, it is the last
+-- with one more input, that input is the last
 pub last-next : (first : Brought) (others : List Brought) (next : Brought)
     → last_brought first (others ++ next ∷ []) ≡ next
 last-next first [] next = refl
 last-next first (b ∷ others) next = last-next b others next
 
--- one more joint with its result
+-- one more joint and its result
 pub zip-more : (joints : List JointFrames) (results : List CodeJoint) (joint : JointFrames)
     (result : CodeJoint) → AllZip IsJoint joints results → IsJoint joint result
     → AllZip IsJoint (joints ++ joint ∷ []) (results ++ result ∷ [])
@@ -80,27 +80,27 @@ zip-more (j ∷ joints) (r ∷ results) joint result are is =
     (are.0, zip-more joints results joint result are.1 is)
 zip-more _ _ joint result are is = absurd are
 
--- what one more joint leaves out comes last
+-- the number of frames left out by one more joint comes last
 pub outs-more : (joints : List CodeJoint) (joint : CodeJoint)
     → left_out_counts (joints ++ joint ∷ [])
     ≡ left_out_counts joints ++ left_out_count joint.seam ∷ []
 outs-more joints joint = map-append (λ (j : CodeJoint). left_out_count j.seam) joints (joint ∷ [])
 
--- ---- what frames need, in other slots
+-- ---- the needs of frames in other slots
 
--- frames are the same frames in their own slots
+-- needs are the same needs, each in its own slot
 pub moved-same : (needs : List Need) → AreMovedNeeds needs needs
 moved-same [] = tt
 moved-same (n ∷ needs) = ((refl, refl), moved-same needs)
 
--- two lists of frames in other slots make one
+-- two lists of needs in other slots, joined
 pub moved-append : (ns ms xs ys : List Need) → AreMovedNeeds ns ms → AreMovedNeeds xs ys
     → AreMovedNeeds (ns ++ xs) (ms ++ ys)
 moved-append [] [] xs ys front back = back
 moved-append (n ∷ ns) (m ∷ ms) xs ys front back = (front.0, moved-append ns ms xs ys front.1 back)
 moved-append _ _ xs ys front back = absurd front
 
--- the frames behind so many are in other slots, too
+-- the needs after the first k are in other slots, too
 pub moved-drop : (k : ℕ) (ns ms : List Need) → AreMovedNeeds ns ms
     → AreMovedNeeds (drop k ns) (drop k ms)
 moved-drop zero ns ms are = are
@@ -116,7 +116,7 @@ moved-joined None needs = moved-same needs
 moved-joined (Some slot) [] = tt
 moved-joined (Some slot) (n ∷ needs) = ((refl, refl), moved-same needs)
 
--- frames are still of the class when the first is in another slot
+-- needs are still of the class when the first is in another slot
 pub class-moved : (class : ClassFields) (slot : Option SlotFields) (needs : List Need)
     → AreNeedsOfClass class needs → AreNeedsOfClass class (joined_needs slot needs)
 unfolding AreNeedsOfClass needs_with_first_slot
@@ -126,7 +126,7 @@ class-moved class (Some slot) (n ∷ needs) same = (same.0, same.1)
 
 -- ---- frames that are alike
 
--- whether the frames at these places sound as those of an input from one on
+-- whether the frames at these places sound like the frames of an input from one on
 abbrev pub sounds_from : List (List RunFrame) → ℕ → ℕ → List FramePlace → Bool
 sounds_from lists number frame [] = true
 sounds_from lists number frame (p ∷ ps) =
@@ -139,7 +139,7 @@ pub sounds-next : (lists : List (List RunFrame)) (number frame : ℕ) (places : 
     ≡ (same_sounds lists p (frame_place number frame) && sounds_from lists number (frame + 1) rest)
 sounds-next lists number frame places p rest is = ap (sounds_from lists number frame) is
 
--- the items from a place on are the one there and those behind it
+-- the items from a place on are the item there and those after it
 pub drop-cons : {X : Type 0} (n : ℕ) (xs : List X) → n < length xs
     → (x : X) × (slice_get xs n ≡ Some x) × (drop n xs ≡ x ∷ drop (n + 1) xs)
 drop-cons n [] within = absurd (omega (arith, within))
@@ -149,7 +149,7 @@ drop-cons (suc n) (x ∷ xs) within =
     let more : suc n + 1 ≡ suc (n + 1) = omega arith in
     (rest.0, rest.1, rest.2 ∙ ap (λ k. rest.0 ∷ drop k (x ∷ xs)) (sym more))
 
--- the sound at a place is that of the frame there
+-- the sound at a place is the sound of the frame there
 pub sound-here : (lists : List (List RunFrame)) (number frame : ℕ) (all : List RunFrame)
     (x : RunFrame) → slice_get lists number ≡ Some all → slice_get all frame ≡ Some x
     → sound_at lists (frame_place number frame) ≡ x.sound
@@ -157,7 +157,7 @@ sound-here lists number frame all x has is =
     ap (λ (o : Option (List RunFrame)). sound_of_frame
     (option_and_then (λ (l : List RunFrame). slice_get l frame) o)) has ∙ ap sound_of_frame is
 
--- so they are alike these frames
+-- the frames at these places sound like the input's frames exactly if they are alike
 sounds-alike : (lists : List (List RunFrame)) (number from : ℕ) (all : List RunFrame)
     (ps : List FramePlace) (xs : List RunFrame) → slice_get lists number ≡ Some all
     → from + length ps ≤ length all → map (sound_at lists) ps ≡ map (λ (x : RunFrame). x.sound) xs
@@ -176,7 +176,7 @@ sounds-alike lists number from all (p ∷ ps) (x ∷ xs) has within same =
     (sounds-alike lists number (from + 1) all ps xs has (omega (arith, within)) tail)
     ∙ sym (ap (λ (l : List RunFrame). are_frames_alike (x ∷ xs) (take (suc (length ps)) l)) next.2)
 
--- ---- the overlap that is alike
+-- ---- the overlap
 
 module _ (class : ClassFields) (lists : List (List RunFrame)) (number : ℕ) (frames : List RunFrame)
     (places : List FramePlace) (before brought : Brought) (overlap : Overlap)
@@ -197,7 +197,7 @@ module _ (class : ClassFields) (lists : List (List RunFrame)) (number : ℕ) (fr
   decided : alike_overlap class frames before brought ≡ overlap_if_alike frames brought overlap
   decided = ap (option_and_then (overlap_if_alike frames brought)) (sym found)
 
-  -- the run has fewer
+  -- if the run has fewer frames, the overlap isn't alike
   pub alike-few : None ≡ last_places places count → None ≡ alike_overlap class frames before brought
   alike-few few =
       sym (decided ∙ at (nat_le (length (compared_frames overlap brought)) (length frames)) refl)
@@ -222,7 +222,7 @@ module _ (class : ClassFields) (lists : List (List RunFrame)) (number : ℕ) (fr
           && are_frames_alike (drop (length frames - length (compared_frames overlap brought))
           frames) (compared_frames overlap brought)) (Some overlap) None) fewer
 
-  -- its last frames are compared
+  -- the last frames of the run are compared
   module _ (last : List FramePlace) (is : Some last ≡ last_places places count) where
     enough : (nat_le count (length places) ≡ true) × (last ≡ drop (length places - count) places)
     enough = at (nat_le count (length places)) refl is
@@ -259,7 +259,7 @@ module _ (class : ClassFields) (lists : List (List RunFrame)) (number : ℕ) (fr
         ∙ sym (sounds-alike lists number overlap.first_alike brought.frames last (drop
         (length frames - count) frames) has (omega (arith, within, some, last-length)) last-sounds)
 
-    -- whether the overlap is alike is what the test of these frames says
+    -- the overlap is alike exactly if these frames sound the same
     pub alike-tested : (b : Bool) → sounds_from lists number overlap.first_alike last ≡ b
         → alike_overlap class frames before brought ≡ cond b (Some overlap) None
     alike-tested b test = decided ∙ ap (λ (x : Bool). cond x (Some overlap) None) (tested ∙ test)

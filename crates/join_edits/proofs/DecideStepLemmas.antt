@@ -1,4 +1,4 @@
--- One input more is decided.
+-- Deciding one more input.
 use Rattle.std.proofs.Common.{ap, append-nil, append_assoc, ap₂, arith, drop, length, length-append}
 use Rattle.std.proofs.Common.{List, map, Option, refl, slice_get, slice_range, Some, subst, suc}
 use Rattle.std.proofs.Common.{sym, take, unwrap_or, zero, ℕ, [], ◌++◌, ◌+◌, ◌-◌, ◌∙◌, ◌∷◌, ◌≡◌, ◌≤◌}
@@ -62,16 +62,16 @@ brought-needs file s =
     (range-all (length s.frames) (stream_of_survey file s) (sym (stream-length file s)))
     ∙ zip-needs s.class s.frames (stream_of_survey file s) (sym (stream-length file s))
 
--- what an input brings by its file needs what its survey tells
+-- what an input brings, given its file, has the needs that its survey has
 pub brings-told : (file : List ℕ) (s : SurveyFields) (b : Beginning)
     → BringsNeeds s b (brought_of file s b)
 brings-told file s b = record { needs = brought-needs file s; blank = refl; played = refl }
 
--- where nothing is told, frames without a sound
+-- frames without a sound, for folders whose contents aren't known
 abbrev pub silent_frame : Need → RunFrame
 silent_frame n = record { need = n; sound = [] }
 
--- what such frames need is what they were made of
+-- frames without a sound have the needs that they were made from
 pub silent-needs : (needs : List Need) → needs_of (map silent_frame needs) ≡ needs
 silent-needs [] = refl
 silent-needs (n ∷ needs) = ap (λ (l : List Need). n ∷ l) (silent-needs needs)
@@ -83,7 +83,7 @@ silent_brought s b = record {
   played = counted_positions b.head s.class (length s.frames);
 }
 
--- such frames are what the input brings, but for the sounds
+-- frames without a sound are what the input brings, except for the sounds
 pub brings-silent : (s : SurveyFields) (b : Beginning) → BringsNeeds s b (silent_brought s b)
 brings-silent s b = record { needs = silent-needs (input_needs s); blank = refl; played = refl }
 
@@ -96,7 +96,7 @@ abbrev Keeps : Brought → JointFrames → Type 0
 Keeps brought joint =
     map-sounds joint.frames ≡ map-sounds (drop (left_out_count joint.seam) brought.frames)
 
--- they are those of the frames that are left
+-- the frames that join have the sounds of the frames that are kept
 joint-keeps : (class : ClassFields) (run : List RunFrame) (before brought : Brought)
     → Keeps brought (joint_of class run before brought)
 joint-keeps class run before brought =
@@ -106,7 +106,7 @@ joint-keeps class run before brought =
     (drop (left_out_count seam) brought.frames) frames is)
     refl
 
--- ---- lists with one more
+-- ---- lists with one more item
 
 within-more : (ss : List SurveyFields) (froms : List ℕ) (s : SurveyFields) (from : ℕ)
     → length froms ≡ length ss → AreCountsWithin ss froms → from ≤ length s.frames
@@ -131,7 +131,7 @@ rows-more (t ∷ ss) (n ∷ froms) s from long =
     ∙ sym (append_assoc own (needs_of_parts (rest_rows ss froms))
     (map need_of (slice_range s.frames from (length s.frames))))
 
--- the rows from one on need what all rows do but those before it
+-- the needs of the rows from one on are the needs of all rows but those before it
 pub range-behind : (s : SurveyFields) (from : ℕ)
     → map need_of (slice_range s.frames from (length s.frames)) ≡ drop from (input_needs s)
 range-behind s from =
@@ -148,7 +148,7 @@ take-more (y ∷ xs) (suc n) x is =
     let more : suc n + 1 ≡ suc (n + 1) = omega arith in
     ap (λ k. take k (y ∷ xs)) more ∙ ap (λ l. y ∷ l) (take-more xs n x is)
 
--- so many places from one on are places of frames, if the input has so many frames
+-- `count` places from one on are places of frames, if the input has that many frames
 pub places-at : (ss : List SurveyFields) (number : ℕ) (s : SurveyFields) (from count : ℕ)
     → slice_get ss number ≡ Some s → from + count ≤ length s.frames
     → AreFramePlaces ss (frame_places number from count)
@@ -210,7 +210,7 @@ frames-get f (m ∷ names) (t ∷ ss) (suc n) name s is found = frames-get f nam
 
 -- ---- the step
 
--- what was made of the input with this number
+-- what adding the input with this number did
 pub record IsAdded (number : ℕ) (input : Input) (alike : Option Overlap) (joint : CodeJoint)
     (old new : Deciding) : Type 0 where
   pub joints : new.joints.items ≡ old.joints.items ++ joint ∷ []
@@ -230,7 +230,7 @@ pub record IsAdded (number : ℕ) (input : Input) (alike : Option Overlap) (join
       → IsBroughtInput input brought → alike ≡ alike_overlap class frames before brought
       → JoinsRun class number frames places before brought joint new.run
 
--- the input with this number is the one of this survey
+-- the input with this number is the input with this survey
 pub record IsInputOf (ss : List SurveyFields) (bs : List Beginning) (number : ℕ)
     (class : ClassFields) (input : Input) : Type 0 where
   pub survey : SurveyFields
@@ -297,7 +297,7 @@ module _ (files : Files) (names : List (List ℕ)) (ss : List SurveyFields) (bs 
   out-within : out ≤ length of.survey.frames
   out-within = omega (arith, added.out, ap length of.needs, length-map of.survey.frames need_of)
 
-  -- the state with these frames more
+  -- the state with these frames added
   build : (brought : Brought) (more : List RunFrame) → BringsNeeds of.survey of.beginning brought
       → needs_of more ≡ left → IfTold files (λ f. IsDecidedTo so_far.class (take (number + 1)
       (broughts_in f names ss bs)) (all_run_frames f names ss) (so_far.frames ++ more)
@@ -362,7 +362,7 @@ module _ (files : Files) (names : List (List ℕ)) (ss : List SurveyFields) (bs 
     told = told;
   }
 
--- what is decided of the inputs that are told
+-- what is decided about inputs whose contents are known
 module _ (f : Contents) (names : List (List ℕ)) (ss : List SurveyFields) (bs : List Beginning)
     (number : ℕ) (input : Input) (alike : Option Overlap) (joint : CodeJoint)
     (old new : Deciding) (so_far : IsDecidingTo (Told f) names ss bs number old) (of : IsInputOf ss
@@ -457,12 +457,12 @@ module _ (f : Contents) (names : List (List ℕ)) (ss : List SurveyFields) (bs :
         sounds = all-sounds;
       }
 
-  -- where the files are told, it is so with one input more
+  -- where the contents of the files are known, one more input is decided
   pub told-step : IsDecidingTo (Told f) names ss bs (number + 1) new
   told-step = build (Told f) names ss bs number input alike joint old new so_far of added next
       decided.frames (brings-told file of.survey of.beginning) adds told-next
 
--- so it is with one input more
+-- one more input is decided
 pub decided-step : (files : Files) (names : List (List ℕ)) (ss : List SurveyFields)
     (bs : List Beginning) (number : ℕ) (input : Input) (alike : Option Overlap) (joint : CodeJoint)
     (old new : Deciding) (so_far : IsDecidingTo files names ss bs number old)

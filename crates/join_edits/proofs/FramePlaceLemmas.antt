@@ -1,4 +1,4 @@
--- Frames of inputs by their places: what they sound like, and their main data.
+-- Frames of inputs by place: what they sound like, and their main data.
 use Rattle.std.proofs.Common.{ap, ap₂, arith, bytes_eq, drop, false, get_or, length, List, map}
 use Rattle.std.proofs.Common.{Option, option_and_then, refl, slice_get, slice_range, Some, subst}
 use Rattle.std.proofs.Common.{suc, sym, take, true, zero, zip, ℕ, [], ◌&&◌, ◌+◌, ◌-◌, ◌<◌, ◌∙◌, ◌∷◌}
@@ -25,9 +25,9 @@ use Rattle.sync_survey.specs.Faults.{stream_of_survey, SurveyFields}
 use Rattle.sync_survey.specs.MainData.{main_bytes, row_side, stream_frame, stream_frames}
 use Rattle.sync_survey.specs.{MainData.StreamFrame, Row.Row}
 
--- ---- lists by their places
+-- ---- lists by place
 
--- what a list is mapped to has the item's image at the same place
+-- a mapped list has the item's image at the same place
 pub map-get : {X Y : Type 0} (f : X → Y) (xs : List X) (i : ℕ) (x : X) → slice_get xs i ≡ Some x
     → slice_get (map f xs) i ≡ Some (f x)
 map-get f [] i x is = absurd cc
@@ -51,7 +51,7 @@ take-get (suc n) [] i x within is = absurd cc
 take-get (suc n) (y ∷ xs) zero x within is = is
 take-get (suc n) (y ∷ xs) (suc i) x within is = take-get n xs i x (omega (arith, within)) is
 
--- those of a list up to a place
+-- the items of a list up to a place
 front-get : {X : Type 0} (n : ℕ) (xs : List X) (i : ℕ) (x : X) → i < n → slice_get xs i ≡ Some x
     → slice_get (slice_range xs 0 n) i ≡ Some x
 front-get n xs i x within is = take-get (n - 0) xs i x (omega (arith, within)) is
@@ -86,7 +86,7 @@ drop-get [] rest (suc i) x is = absurd cc
 drop-get (y ∷ xs) rest zero x is = let same : y ≡ x = cc in ap Some same
 drop-get (y ∷ xs) rest (suc i) x is = drop-get xs rest i x is
 
--- or a given one where there is none
+-- the item at a place, or a given one if there is none
 pub get-index : {X : Type 0} (xs : List X) (i : ℕ) (x other : X) → slice_get xs i ≡ Some x
     → x ≡ slice_index_or xs i other
 get-index [] i x other is = absurd cc
@@ -141,7 +141,7 @@ module _ (file : List ℕ) (s : SurveyFields) (i : ℕ) (r : Row)
       (slice_range (stream_of_survey file s) 0 (length s.frames)) i r in_stream rows stream)
 
   module _ (has : CanBeRelaid file s) where
-    -- the frame of this row is one of the class, and has its main data
+    -- the frame of this row is a frame of the class, with its main data
     pub entry-here : IsStreamEntry s.class (survey_frame file s i r)
     entry-here = own-entry file s.head s.class s.frames has.head has.rows has.placed i r found
         (whole-at file s.frames i r has.rows found)
@@ -157,7 +157,7 @@ module _ (file : List ℕ) (s : SurveyFields) (i : ℕ) (r : Row)
 
 -- ---- a frame of inputs
 
--- an input of these has a name, and so much is known of it
+-- each of these inputs has a name, and can be read by its survey
 pub known-at : (files : Files) (names : List (List ℕ)) (ss : List SurveyFields) (i : ℕ)
     (s : SurveyFields) → AreHeld files names ss → slice_get ss i ≡ Some s
     → (name : List ℕ) × (slice_get names i ≡ Some name) × IsHeld files name s
@@ -168,7 +168,7 @@ known-at files (n ∷ names) (t ∷ ss) zero s known is =
     let same : t ≡ s = cc in (n, refl, subst (IsHeld files n) same known.0)
 known-at files (n ∷ names) (t ∷ ss) (suc i) s known is = known-at files names ss i s known.1 is
 
--- so it is with the name that is at its place
+-- the input with the name at a place can be read by its survey
 pub held-at : (files : Files) (names : List (List ℕ)) (ss : List SurveyFields) (i : ℕ)
     (name : List ℕ) (s : SurveyFields) → AreHeld files names ss
     → slice_get names i ≡ Some name → slice_get ss i ≡ Some s → IsHeld files name s
@@ -176,7 +176,7 @@ held-at files names ss i name s known named given =
     let held = known-at files names ss i s known given in
     subst (λ (n : List ℕ). IsHeld files n s) (get-one names i held.0 name held.1 named) held.2
 
--- the input is one of these
+-- the input at a frame's place is one of the inputs
 pub input-within : (files : Files) (names : List (List ℕ)) (ss : List SurveyFields)
     (place : FramePlace) → AreHeld files names ss → IsFramePlace ss place
     → place.input < length names
@@ -184,14 +184,14 @@ input-within files names ss place known at =
     get-within names place.input (known-at files names ss place.input at.survey known at.input).0
     (known-at files names ss place.input at.survey known at.input).1
 
--- its frame is one of these
+-- the frame at a place is one of the input's frames
 pub frame-within : (ss : List SurveyFields) (place : FramePlace) (s : SurveyFields)
     → IsFramePlace ss place → slice_get ss place.input ≡ Some s → place.frame < length s.frames
 frame-within ss place s at given =
     subst (λ (x : SurveyFields). place.frame < length x.frames)
     (get-one ss place.input at.survey s at.input given) at.frame
 
--- main data of a frame are those at its place
+-- the main data of a frame are the main data at its place
 pub payload-told : (files : Files) (names : List (List ℕ)) (ss : List SurveyFields)
     (place : FramePlace) (name : List ℕ) (s : SurveyFields) (bytes : List ℕ)
     → AreHeld files names ss → IsFramePlace ss place → slice_get names place.input ≡ Some name
@@ -224,7 +224,7 @@ lists-get f (n ∷ names) (t ∷ ss) zero name s named given =
 lists-get f (n ∷ names) (t ∷ ss) (suc i) name s named given =
     lists-get f names ss i name s named given
 
--- where the files are told, what is at a place
+-- what is at a place, where the contents of the files are known
 pub record IsFrameAt (f : Contents) (names : List (List ℕ)) (ss : List SurveyFields)
     (place : FramePlace) (class : ClassFields) : Type 0 where
   pub frame : Frame
@@ -236,7 +236,7 @@ pub record IsFrameAt (f : Contents) (names : List (List ℕ)) (ss : List SurveyF
   pub sound : sound_at (all_run_frames f names ss) place ≡ sound_of class (stream_entry frame)
   pub payload : payload_at_place f names ss place ≡ frame.payload
 
--- there is such a frame at each place of inputs of one class that are known
+-- there is such a frame at each place of inputs of one class that can be read
 pub frame-at : (f : Contents) (names : List (List ℕ)) (ss : List SurveyFields) (place : FramePlace)
     (class : ClassFields) → AreHeld (Told f) names ss → AreSurveysOfClass class ss
     → IsFramePlace ss place → IsFrameAt f names ss place class
@@ -299,13 +299,13 @@ module _ (f : Contents) (names : List (List ℕ)) (ss : List SurveyFields) (p q 
       ∙ sounds-tested class one.frame other.frame one.entry other.entry
       ∙ ap₂ bytes_eq (sym one.sound) (sym other.sound)
 
-  -- where header or side information differ, the frames don't sound the same
+  -- if header or side information differ, the frames don't sound the same
   pub fronts-differ : same_front class one.row other.row ≡ false
       → false ≡ same_sounds (all_run_frames f names ss) p q
   fronts-differ differ =
       ap (λ b. b && bytes_eq one.frame.payload other.frame.payload) (sym differ) ∙ places-tested
 
-  -- where both are the same, the main data decide whether the frames do
+  -- if both are the same, the frames sound the same exactly if their main data do
   pub payloads-tested : same_front class one.row other.row ≡ true
       → bytes_eq (payload_at_place f names ss p)
       (payload_at_place f names ss q) ≡ same_sounds (all_run_frames f names ss) p q
@@ -313,7 +313,7 @@ module _ (f : Contents) (names : List (List ℕ)) (ss : List SurveyFields) (p q 
       ap₂ bytes_eq one.payload other.payload
       ∙ ap (λ b. b && bytes_eq one.frame.payload other.frame.payload) (sym same) ∙ places-tested
 
--- ---- by what the folder tells
+-- ---- what depends on the folder's contents
 
 module _ (names : List (List ℕ)) (ss : List SurveyFields) (p q : FramePlace) (class : ClassFields)
     (r t : Row)
@@ -328,7 +328,7 @@ module _ (names : List (List ℕ)) (ss : List SurveyFields) (p q : FramePlace) (
       same-row : {x y : Row} → Some x ≡ Some y → x ≡ y
       same-row e = cc
 
-  -- other headers or side information: they don't sound alike
+  -- if header or side information differ, the frames don't sound alike
   pub places-differ : (files : Files) → AreHeld files names ss → same_front class r t ≡ false
       → IfTold files (λ f. false ≡ same_sounds (all_run_frames f names ss) p q)
   places-differ (Untold touched) known differ = tt
@@ -337,7 +337,7 @@ module _ (names : List (List ℕ)) (ss : List SurveyFields) (p q : FramePlace) (
       let b = frame-at f names ss q class known one second in
       fronts-differ f names ss p q class a b (rows-here f a b ∙ differ)
 
-  -- the same: they do if their main data are the same
+  -- if both are the same, the frames sound alike exactly if their main data are the same
   pub places-compared : (files : Files) → AreHeld files names ss → same_front class r t ≡ true
       → (xs ys : List ℕ)
       → IfTold files (λ f. xs ≡ payload_at_place f names ss p)
@@ -349,7 +349,7 @@ module _ (names : List (List ℕ)) (ss : List SurveyFields) (p q : FramePlace) (
       let b = frame-at f names ss q class known one second in
       ap₂ bytes_eq left right ∙ payloads-tested f names ss p q class a b (rows-here f a b ∙ same)
 
--- a frame of inputs of one class is of it
+-- a frame of inputs of one class is of this class
 pub class-here : (files : Files) (names : List (List ℕ)) (ss : List SurveyFields)
     (place : FramePlace) (class : ClassFields) (r : Row) → AreHeld files names ss
     → AreSurveysOfClass class ss → IsFramePlace ss place → row_at ss place ≡ Some r
@@ -362,13 +362,14 @@ class-here files names ss place class r known one at found =
     (held.2.laid.placed place.frame r here).class_is ∙ all-get
     (λ (x : SurveyFields). x.class ≡ class) ss place.input s one at.input
 
--- the class of one of them is that of all
+-- the class of one of these surveys is the class of all
 pub class-of-all : (ss : List SurveyFields) (place : ℕ) (class : ClassFields) (s : SurveyFields)
     → AreSurveysOfClass class ss → slice_get ss place ≡ Some s → s.class ≡ class
 class-of-all ss place class s one found =
     all-get (λ (x : SurveyFields). x.class ≡ class) ss place s one found
 
--- so it is with the input of a place, where the surveys are made from other items
+-- the survey at the input of a place has the class of all, where the surveys are made from other
+-- items
 pub class-first : {X : Type 0} (f : X → SurveyFields) (xs : List X) (place : FramePlace)
     (class : ClassFields) (x : X) → AreSurveysOfClass class (map f xs)
     → IsFramePlace (map f xs) place → x ≡ get_or xs place.input x → (f x).class ≡ class

@@ -21,14 +21,14 @@ front-most class first run = by (has_lead_in (window_of class.version) first
     by true = omega arith
     by false = omega arith
 
--- a frame is behind a lead-in
+-- a lead-in has at least one frame after it
 leads-some : (window : ℕ) (needs : List Need) → leads_others window needs ≡ true → 2 ≤ length needs
 unfolding lead_in_header
 leads-some window [] is = absurd cc
 leads-some window (n ∷ []) is = absurd cc
 leads-some window (n ∷ m ∷ needs) is = omega arith
 
--- fewer frames are left out there than the first input has
+-- fewer frames are left out at the front than the first input has
 pub front-behind : (class : ClassFields) (first : Brought) (run : List RunFrame)
     → 0 < length first.frames → front_left_out_count class first run < length first.frames
 unfolding front_left_out_count has_lead_in
@@ -48,7 +48,7 @@ front-behind class first run some =
     by true false is wants = omega (arith, some)
     by false leads is wants = omega (arith, some)
 
--- the frames of an input fit behind a whole window
+-- the frames of an input fit after a whole window
 pub begin-window : (s : SurveyFields) → CanBeginRun s → FitBehindWindow (input_needs s)
 begin-window s can = record {
   class = s.class;

@@ -1,4 +1,4 @@
--- The surveys of the inputs, one after the other, and what is made of the inputs by them.
+-- The surveys of the inputs, in order, and what is made of the inputs that have them.
 use Rattle.std.proofs.Common.{ap, arith, Bool, cond, drop, Err, false, length, List, None, Ok}
 use Rattle.std.proofs.Common.{Option, refl, Result, slice_index_or, Some, sym, take, true, ℕ, []}
 use Rattle.std.proofs.{Common.{◌++◌, ◌+◌, ◌-◌, ◌∙◌, ◌∷◌, ◌≡◌, ◌≤◌}, Math.Seq.take-add}
@@ -26,14 +26,14 @@ use Rattle.sync_survey.specs.{Faults.{longest_file, survey_fields, SurveyFields}
 use Rattle.sync_survey.specs.declared.survey_fault.SurveyFault.{SurveyFault}
 use Rattle.sync_survey.specs.declared.survey_fault.SurveyFault.TheVariants.{Absent, Read, TooLong}
 
--- ---- one more
+-- ---- one more input
 
 -- the class that an input after these has to have
 abbrev pub class_after : Option ClassFields → List SurveyFields → Option ClassFields
 class_after first [] = first
 class_after first (s ∷ ss) = class_after (Some (unwrap_or first s.class)) ss
 
--- an input that follows those before it is one more
+-- an input that may follow those before it is one more
 pub inputs-more : (first : Option ClassFields) (allowed : ℕ) (files : Files) (names : List (List ℕ))
     (ss : List SurveyFields) (name : List ℕ) (s : SurveyFields)
     → AreJoinInputs first allowed files names ss
@@ -59,24 +59,24 @@ after-some : (class : ClassFields) (ss : List SurveyFields)
 after-some class [] = refl
 after-some class (s ∷ ss) = after-some class ss
 
--- the class after inputs is that of the first
+-- the class after inputs is the class of the first
 pub after-none : (ss : List SurveyFields) → class_after None ss ≡ class_of_first ss
 after-none [] = refl
 after-none (s ∷ ss) = after-some s.class ss
 
--- one more of a list is the next
+-- the items up to a place and the one there are the items up to the next place
 pub take-next : {X : Type 0} (xs : List X) (i : ℕ) (x : X) (rest : List X) → drop i xs ≡ x ∷ rest
     → take (i + 1) xs ≡ take i xs ++ x ∷ []
 take-next xs i x rest is = take-add i 1 xs ∙ ap (λ l. take i xs ++ take 1 l) is
 
--- an input more adds its frames
+-- one more input adds its frames
 pub frames-more : (ss : List SurveyFields) (s : SurveyFields)
     → frames_together (ss ++ s ∷ []) ≡ frames_together ss + length s.frames
 unfolding frames_together
 frames-more [] s = omega arith
 frames-more (t ∷ ss) s = omega (arith, frames-more ss s)
 
--- ---- all of them
+-- ---- all inputs
 
 alike-inputs : (class : ClassFields) (allowed : ℕ) (files : Files) (names : List (List ℕ))
     (ss : List SurveyFields) → AreJoinInputs (Some class) allowed files names ss
@@ -108,9 +108,9 @@ inputs-join files (name ∷ names) (s ∷ ss) are some few =
       frames = omega (arith, are.0.few, rest.2);
     }
 
--- ---- what the told inputs give
+-- ---- inputs whose contents are known
 
--- what follows may follow
+-- an input that follows may join
 pub follows-may : (first : Option ClassFields) (class : ClassFields) → HasClassOfFirst first class
     → may_join first class ≡ true
 follows-may None class follows = refl
@@ -122,7 +122,7 @@ part-ok : (place : ℕ) (first : Option ClassFields) (allowed : ℕ) (f : Conten
 part-ok place first allowed f name s is follows = let held = there_holds f name is.there in
     rw (held.1, is.exact held.0 held.1, follows-may first s.class follows) refl
 
--- the parts of inputs that were read are all there
+-- the parts of inputs that were surveyed are all there
 pub parts-all : (place : ℕ) (first : Option ClassFields) (allowed : ℕ) (f : Contents)
     (names : List (List ℕ)) (ss : List SurveyFields) → AreJoinInputs first allowed (Told f) names ss
     → join_parts_from place first allowed f names ≡ Ok (parts_in f names ss)
@@ -136,7 +136,8 @@ parts-all place first allowed f (name ∷ names) (s ∷ ss) are =
     ) refl
 parts-all place first allowed f _ _ are = absurd are
 
--- what holds of the parts from an input on holds of all, where those before it have their surveys
+-- what holds of the parts from an input on holds of all parts, if those before it have their
+-- surveys
 module _ (Q : Result (List FilePart) EditFault → Type 0)
     (more : (p : FilePart) (r : Result (List FilePart) EditFault) → Q r
     → Q (then_made r (λ parts. Ok (p ∷ parts)))) (f : Contents) (after : List (List ℕ)) where
@@ -172,7 +173,7 @@ module _ (P : EditFault → Type 0) where
       at true = tt
       at false = differ
 
-  -- of the inputs from one on
+  -- refusals of the inputs from one on
   module _ (from : ℕ) (faults : (at : ℕ) (fault : SurveyFault) → from ≤ at → P (Input at fault))
       (differ : (at : ℕ) → from ≤ at → P (Refused (Differ at))) where
     part-all : (at : ℕ) (first : Option ClassFields) (allowed : ℕ) (o : Option (List ℕ)) → from ≤ at
@@ -199,7 +200,7 @@ later-late at Absent behind = grind (arith, behind)
 later-late at (TooLong size) behind = grind (arith, behind)
 later-late at _ behind = refl
 
--- where the first input is no longer than allowed, every refusal comes once memory was taken
+-- if the first input is no longer than allowed, every refusal is found after memory was taken
 pub join-late : (names : List (List ℕ)) (f : Contents) (bytes : List ℕ) → f (first_input names)
     ≡ Some bytes → length bytes ≤ longest_file → IfErr ((join_task names).makes f) IsLateFault
 unfolding join_parts_from
@@ -227,7 +228,7 @@ found-input allowed (name ∷ before) after (s ∷ ss) old new are some stays = 
   stays = stays;
 }
 
--- ---- a fault of an input, after those before it
+-- ---- a fault of an input after those before it
 
 module _ (before : List (List ℕ)) (name : List ℕ) (after : List (List ℕ))
     (ss : List SurveyFields) where
@@ -299,7 +300,7 @@ module _ (before : List (List ℕ)) (name : List ℕ) (after : List (List ℕ))
       no_memory = needs-first;
     })
 
--- a fault of the next input comes before the output is created
+-- a fault of the next input is one met before the output is created
 pub part-early : (names before : List (List ℕ)) (name : List ℕ) (after : List (List ℕ))
     (ss : List SurveyFields) (place allowed : ℕ) (first : Option ClassFields) (old mid new : Seen)
     (fault : EditFault) → before ++ name ∷ after ≡ names → length before ≡ place

@@ -1,4 +1,4 @@
--- Inputs by their places, and how they begin.
+-- Inputs by place, and how they begin.
 use Rattle.std.proofs.Common.{ap, ap₂, arith, Bool, drop, false, get_or, length, List, map, refl}
 use Rattle.std.proofs.Common.{set, slice_get, slice_index_or, Some, subst, suc, sym, take, true}
 use Rattle.std.proofs.Common.{zero, ℕ, [], ◌&&◌, ◌*◌, ◌++◌, ◌+◌, ◌<◌, ◌==◌, ◌^◌, ◌∙◌, ◌∷◌, ◌≡◌}
@@ -13,7 +13,7 @@ use Rattle.outside.specs.{Files.Files, Pass.IsReadPassFault, declared.pass.PassF
 use Rattle.outside.specs.declared.pass.PassFault.TheVariants.{Read, Shrunk, Write}
 use Rattle.sync_survey.specs.Faults.{SurveyFields}
 
--- ---- one of them
+-- ---- one input
 
 -- the input at a place
 pub known-here : (files : Files) (names : List (List ℕ)) (ss : List SurveyFields) (place : ℕ)
@@ -34,7 +34,7 @@ known-here files (n ∷ names) (t ∷ ss) zero {name} {rest} {s} {behind} known 
 known-here files (n ∷ names) (t ∷ ss) (suc place) known named found =
     known-here files names ss place known.1 named found
 
--- its name by its place
+-- the name of an input, by its place
 pub named-at : (names : List (List ℕ)) (place : ℕ) {name : List ℕ} {rest : List (List ℕ)}
     → drop place names ≡ name ∷ rest → name ≡ slice_index_or names place []
 named-at [] zero e = absurd cc
@@ -50,7 +50,7 @@ get-at [] (suc place) e = absurd cc
 get-at (y ∷ xs) zero e = cc
 get-at (y ∷ xs) (suc place) e = get-at xs place e
 
--- one more
+-- the beginning of one more input
 pub begun-more : (files : Files) (names : List (List ℕ)) (ss : List SurveyFields)
     (bs : List Beginning) (name : List ℕ) (s : SurveyFields) (b : Beginning)
     → AreBeginnings files names ss bs → IsBeginning files name s b
@@ -67,7 +67,7 @@ begun-long files [] [] [] are = refl
 begun-long files (n ∷ names) (t ∷ ss) (c ∷ bs) are = ap suc (begun-long files names ss bs are.1)
 begun-long files _ _ _ are = absurd are
 
--- a pass that doesn't write ends early by its input alone
+-- a pass that doesn't write ends early only because of its input
 pub reads-only : (fault : PassFault) → (fault ≡ Write → ⊥) → IsReadPassFault fault
 reads-only Write never = never refl
 reads-only Read never = tt
@@ -102,7 +102,7 @@ zero-bits : list_all is_zero (bits_of 8 0) ≡ true
 unfolding bits_of
 zero-bits = refl
 
--- all of them are 0 so far
+-- one more byte is 0
 pub zeros-next : (xs : List ℕ) (byte : ℕ) → list_all is_zero (bits xs) ≡ true → byte ≡ 0
     → list_all is_zero (bits (xs ++ byte ∷ [])) ≡ true
 zeros-next xs byte so_far none =
@@ -114,7 +114,7 @@ none-and : (b : Bool) → (b && false) ≡ false
 none-and true = refl
 none-and false = refl
 
--- one of them isn't
+-- one of the bytes isn't 0
 pub zeros-not : (xs : List ℕ) (i : ℕ) → i < length xs → get_or xs i 0 < 256
     → (get_or xs i 0 ≡ 0 → ⊥) → list_all is_zero (bits xs) ≡ false
 zeros-not [] i within few some = absurd (omega (arith, within))
@@ -127,9 +127,9 @@ zeros-not (x ∷ xs) (suc i) within few some =
     ∙ ap (λ b. list_all is_zero (bits_of 8 x) && b)
     (zeros-not xs i (omega (arith, within)) few some) ∙ none-and (list_all is_zero (bits_of 8 x))
 
--- ---- surveys that are set apart, one more
+-- ---- one more survey whose head is set apart
 
--- when one more is set apart, all up to it are, and the rest are as they were
+-- when one more head is set apart, all up to it are, and the surveys after it are as they were
 pub apart-next : (xs now : List SurveyFields) (i : ℕ) (d new : SurveyFields) → i < length xs → now
     ≡ map survey_without_head (take i xs) ++ drop i xs → new ≡ survey_without_head (get_or now i d)
     → set now i new ≡ map survey_without_head (take (i + 1) xs) ++ drop (i + 1) xs

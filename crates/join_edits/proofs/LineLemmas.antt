@@ -1,4 +1,4 @@
--- The line of one input after the other.
+-- The lines of the inputs, in order.
 use Rattle.std.proofs.Common.{ap, append_assoc, ap₂, arith, drop, length, List, refl, subst, sym, ℕ}
 use Rattle.std.proofs.Common.{[], ◌++◌, ◌+◌, ◌∙◌, ◌∷◌, ◌≡◌, ◌≤◌}
 use Rattle.std.{proofs.lemmas.List.{drop-drop, drop_all}, specs.List.zip}
@@ -14,7 +14,7 @@ Told = List ℕ × Joint
 abbrev pub line_of : Told → List ℕ
 line_of j = seam_line j.0 j.1.seam
 
--- those whose lines are left
+-- the names and joints whose lines are left
 abbrev pub left-from : List (List ℕ) → List Joint → ℕ → List Told
 left-from inputs joints i = zip (drop i (drop 1 inputs)) (drop i joints)
 
@@ -44,7 +44,7 @@ left-none inputs joints i past =
 
 -- ---- one line
 
--- the line of an input that follows, behind its name
+-- the line of an input that follows, after its name
 pub follows-line : (n : ℕ)
     → codes ": follows, " ++ (decimal n ++ (codes " frames left out\n" ++ []))
     ≡ codes ": " ++ (seam_text (Follows n) ++ codes "\n")
@@ -52,19 +52,19 @@ follows-line n =
     ap (λ (l : List ℕ). codes ": follows, " ++ l)
     (sym (append_assoc (decimal n) (codes " frames left out") (codes "\n")))
 
--- the name, and the rest of the line behind it
+-- the name, and the rest of the line after it
 module _ (waits name piece rest line mid : List ℕ) (s t u : Sent) (named : piece ≡ name)
     (is : line ≡ rest) where
   line-whole : (waits ++ piece) ++ line ≡ waits ++ (name ++ rest)
   line-whole = append_assoc waits piece line ∙ ap₂ (λ (a b : List ℕ). waits ++ (a ++ b)) named is
 
-  -- where the name was passed on, and then the rest, the whole line was
+  -- if the name was passed on and then the rest, the whole line was
   pub line-on : (after : List ℕ) → SendsWaiting (waits ++ piece) mid s t
       → SendsWaiting (mid ++ line) after t u → SendsWaiting (waits ++ (name ++ rest)) after s u
   line-on after first more =
       subst (λ text. SendsWaiting text after s u) line-whole (sent_more_on line first more)
 
-  -- and where only part of the rest was, so was part of the line
+  -- if only a part of the rest was passed on, a part of the line was
   pub line-part : SendsWaiting (waits ++ piece) mid s t → SentPrefix (mid ++ line) t u
       → SentPrefix (waits ++ (name ++ rest)) s u
   line-part first part =

@@ -23,7 +23,7 @@ rest-counted head class frames p is = at (counts_of head) is
     at (Some counts) e = let same : p ≡ counted_played (samples_in class) frames counts = cc in
         ap (rest_of class frames) (sym same)
 
--- nothing is after it where none counts
+-- if the head doesn't count, nothing is after the last played position
 pub rest-none : (head : Option Info) (class : ClassFields) (frames : ℕ) → None
     ≡ counted_positions head class frames → rest_of class frames (played_of head class frames) ≡ 0
 unfolding counted_positions played_of
@@ -36,13 +36,13 @@ rest-none head class frames is = at (counts_of head) is
 
 -- ---- the first and the last head
 
--- the head of the beginning at 0 is that of the first input
+-- the head of the first beginning is the head of the first input
 pub first-head : (bs : List Beginning) (d : Beginning) → 0 < length bs
     → (get_or bs 0 d).head ≡ first_head bs
 first-head [] d some = absurd (omega (arith, some))
 first-head (b ∷ bs) d some = refl
 
--- the head of the beginning at the last place is that of the last input
+-- the head of the last beginning is the head of the last input
 pub last-head : (bs : List Beginning) (n : ℕ) (d : Beginning) → n + 1 ≡ length bs
     → (get_or bs n d).head ≡ last_head bs
 last-head [] n d some = absurd (omega (arith, some))

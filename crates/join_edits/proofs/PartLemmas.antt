@@ -1,4 +1,4 @@
--- What an input of a join is, where it isn't refused.
+-- What an input of a join is if it isn't refused.
 use Rattle.std.proofs.Common.{Bool, cond, Err, false, List, None, Ok, Option, refl, Result, Some}
 use Rattle.std.proofs.Common.{true, ℕ, ◌≡◌}
 use Rattle.commands.specs.declared.fault.{EditFault.TheVariants.Refused, Refusal.TheVariants.Differ}
@@ -14,7 +14,7 @@ may-follows : (first : Option ClassFields) (class : ClassFields) → may_join fi
 may-follows None class may = tt
 may-follows (Some first) class may = same_class-is class first may
 
--- the input's file, its survey, and its frames, of the class of those before it
+-- the input's file, its survey, and its frames, which are of the class of those before it
 pub record IsPart (first : Option ClassFields) (allowed : ℕ) (o : Option (List ℕ))
     (part : FilePart) : Type 0 where
   pub file : List ℕ
@@ -24,7 +24,7 @@ pub record IsPart (first : Option ClassFields) (allowed : ℕ) (o : Option (List
   pub follows : HasClassOfFirst first survey.class
   pub whole : whole_part file survey ≡ part
 
--- a part that isn't refused is so made
+-- a part that isn't refused is such a part
 pub part-is : (place : ℕ) (first : Option ClassFields) (allowed : ℕ) (o : Option (List ℕ))
     (part : FilePart) → join_part place first allowed o ≡ Ok part → IsPart first allowed o part
 part-is place first allowed None part e = absurd cc

@@ -37,7 +37,7 @@ taken zero ss = omega arith
 taken (suc k) [] = omega arith
 taken (suc k) (s ∷ ss) = omega (arith, taken k ss)
 
--- some of them have no more frames than all
+-- the first k inputs have no more frames than may be planned at once
 pub parts-few : {X : Type 0} (f : X → SurveyFields) (k : ℕ) (xs : List X)
     → CanInputsBeJoined (map f xs)
     → length (needs_of_parts (survey_rows (map f (take k xs)))) ≤ most_frames
@@ -49,18 +49,18 @@ parts-few f k xs can = omega (
   can.frames,
 )
 
--- what can be joined are some surveys
+-- inputs that can be joined are at least one
 pub can-some : (ss : List SurveyFields) → CanInputsBeJoined ss → 0 < length ss
 can-some [] can = let first = can.first in absurd cc
 can-some (s ∷ ss) can = omega arith
 
--- all are of the first one's class
+-- all inputs are of the first one's class
 pub alike-first : (s : SurveyFields) (ss : List SurveyFields) → CanInputsBeJoined (s ∷ ss)
     → AreInputsOfClass s.class (s ∷ ss)
 alike-first s ss can = let first = can.first in let same : can.class ≡ s.class = cc in
     subst (λ (c : ClassFields). AreInputsOfClass c (s ∷ ss)) same can.alike
 
--- ---- their plan
+-- ---- the plan
 
 alike-parts : (class : ClassFields) (ss : List SurveyFields) → AreInputsOfClass class ss
     → All (IsPartOf class) (survey_rows ss)
@@ -101,11 +101,11 @@ module _ (ss : List SurveyFields) (can : CanInputsBeJoined ss) where
   one-plan placed =
       rw can.first (parts-plan can.class own_choice (survey_rows ss) placed all-fit all-fit.kept)
 
-  -- their plan is the first of all lists with a layout
+  -- the plan is the first of all lists with a layout
   pub the-plan : IsPlan window own_choice parts (least_plan window own_choice parts)
   the-plan = (one-plan _).1 refl
 
-  -- what the planner answers is their plan
+  -- what the planner returns is the plan
   pub plan-is : (placed : List Placed)
       → IsPlan (window_in asked.needs) own_choice (needs_in_parts asked.needs asked.places) placed
       → IsPlanOf ss placed
@@ -118,7 +118,7 @@ module _ (ss : List SurveyFields) (can : CanInputsBeJoined ss) where
         fits = plans-fit window own_choice (survey_rows ss) placed ours;
       }
 
-  -- they have no more frames than are allowed
+  -- the parts have no more frames than are allowed
   pub needs-few : length asked.needs ≤ most_frames
   needs-few = omega (arith, needs-length ss, can.frames)
 
@@ -131,7 +131,7 @@ module _ (ss : List SurveyFields) (can : CanInputsBeJoined ss) where
     can.few,
   )
 
-  -- the plan has at most one place more for each
+  -- the plan has at most one place more than frames for each part
   pub plan-few : length (least_plan_of ss) ≤ most_output_frames
   unfolding least_plan_of
   plan-few = omega (

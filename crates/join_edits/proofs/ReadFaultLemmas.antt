@@ -12,7 +12,7 @@ use Rattle.outside.specs.{Counts.Counts, Files.{Files, IfTold}}
 use Rattle.outside.specs.{Pass.{HasInputCause, IsReadPassFault}, Seen.Seen}
 use Rattle.outside.specs.declared.pass.PassFault.{PassFault, TheVariants.{Read, Shrunk, Write}}
 
--- a pass over one input by its place is one over it among all
+-- a pass over one input that ended early is a pass over one of all inputs that did
 pub stops-among : (inputs : List (List ℕ)) (place : ℕ) (name : List ℕ) (files : Files)
     (before after : Counts) (stopped : Stopped) → place < length inputs
     → name ≡ slice_index_or inputs place [] → StopsAtInput place name files before after stopped
@@ -28,7 +28,7 @@ stops-among inputs place name files before after stopped within named stops = re
   };
 }
 
--- it is a fault of the reading
+-- such a fault is one of reading the inputs
 pub stops-fault : (inputs : List (List ℕ)) (old new : Seen) (stopped : Stopped)
     → new.files ≡ old.files → StopsAmongInputs inputs old.files old.counts new.counts stopped
     → IsInputReadFault inputs old new (pass_edit_fault stopped.place 0 stopped.fault)
@@ -58,7 +58,7 @@ stops-fault inputs old new stopped files is =
     }
     at place Write within cause read = absurd read
 
--- its numbers are in range
+-- the numbers of such a fault are in range
 pub stops-numbers : (inputs : List (List ℕ)) (count : ℕ) (files : Files) (before after : Counts)
     (stopped : Stopped) → length inputs ≡ count → StopsAmongInputs inputs files before after stopped
     → HasJoinNumbers count (pass_edit_fault stopped.place 0 stopped.fault)
@@ -73,13 +73,13 @@ stops-numbers inputs count files before after stopped many is =
         (omega (arith, within, many), (λ e. absurd cc), cause.2)
     at place Write within cause read = absurd read
 
--- the same where more was read before
+-- a fault of reading stays one if more was read before
 pub fault-later : (inputs : List (List ℕ)) (old mid new : Seen) (fault : EditFault) → mid ≡ old
     → IsInputReadFault inputs mid new fault → IsInputReadFault inputs old new fault
 fault-later inputs old mid new fault same = subst (λ s. IsInputReadFault inputs s new fault) same
 
--- A fault of the reading is one that was met before the output was created, where the
--- files aren't refused and the first input is there with a length that it may have.
+-- A fault of reading is one met before the output was created, if the files aren't refused and the
+-- first input is there with a length that it may have.
 pub read-early : (task : Task) (old new : Seen) (fault : EditFault)
     → (new ≡ old → NeedsMemory task.source old new)
     → IfTold old.files (λ f. IfErr (task.makes f) (IsNotBefore fault))

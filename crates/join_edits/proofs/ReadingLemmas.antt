@@ -1,4 +1,5 @@
--- Areas of an input that are read, and the main data of a frame, cut out of those up to its own.
+-- Areas of an input that are read, and the main data of a frame, which are cut out of the areas up
+-- to its own.
 use Rattle.std.proofs.Common.{ap, ap₂, arith, false, length, List, None, refl, slice_get, Some}
 use Rattle.std.proofs.Common.{subst, sym, ℕ, [], ◌*◌, ◌+◌, ◌-◌, ◌/◌, ◌∙◌, ◌≡◌, ◌≤◌}
 use Rattle.bit_fields.specs.Bits.{AreBytes}
@@ -16,7 +17,7 @@ use Rattle.sync_survey.specs.{Survey.IsSurveyLaidOut, declared.places.Head.Head}
 
 -- ---- before the first frame
 
--- there is no head
+-- if there is no head, an empty window is over the areas before the first frame
 pub over-none : (window input : List ℕ) (files : Files) (s : SurveyFields) (first : ℕ) → first ≡ 0
     → s.head ≡ None → IsWindowOver window [] → IsWindowOverLast window input files s first first
 over-none window input files s first zeroth none held =
@@ -27,7 +28,7 @@ over-none window input files s first zeroth none held =
       is = λ file holds. ([], refl, main-first file s.head s.frames ∙ ap (head_bytes file) none);
     })
 
--- the area of the head was read
+-- a window with the area of the head is over the areas before the first frame
 pub over-head : (window area input : List ℕ) (files : Files) (s : SurveyFields) (first : ℕ)
     (head : Head) → first ≡ 0 → s.head ≡ Some head → length area ≡ own_area head.header
     → ((file : List ℕ) → Holds files input file → area ≡ area_bytes file head.offset head.header)
@@ -45,7 +46,7 @@ over-head window area input files s first head zeroth some long is held =
       );
     })
 
--- one more, of a frame at this offset with this header
+-- a window with one more area is over the areas up to this frame
 pub area-next : (before after input : List ℕ) (files now : Files) (s : SurveyFields) (first i : ℕ)
     (r : Row) (offset : ℕ) (h : HeaderFields) → slice_get s.frames i ≡ Some r → now ≡ files
     → offset ≡ r.offset → h ≡ r.header → IsWindowOverLast before input files s first i
@@ -61,7 +62,7 @@ area-next before after input files now s first i r offset h found stay at header
 
 -- ---- one frame
 
--- where the area of a frame ends, a window holds its main data: so many bits, which begin so many
+-- where the area of a frame ends, a window holds its main data: `count` bits, which begin `begin`
 -- bytes before the area
 pub record HoldsData (window input : List ℕ) (files : Files) (s : SurveyFields)
     (i area begin count : ℕ) : Type 0 where
@@ -83,7 +84,7 @@ module _ (window input : List ℕ) (files : Files) (s : SurveyFields) (i : ℕ) 
   least = subst (λ n. count ≤ 8 * n) (ap (λ n. (n + 7) / 8) count_is ∙ sym (bytes-are r.side))
       (bits-least count)
 
-  -- a window over the areas up to its own holds the main data of a frame
+  -- a window over the areas up to the frame's own holds its main data
   pub holds-data : HoldsData window input files s i area begin count
   holds-data = record {
     held = λ few.

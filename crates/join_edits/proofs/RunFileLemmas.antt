@@ -1,5 +1,5 @@
--- The file of inputs that are joined without seams: it is well-formed, it holds its stream, and no
--- frame of it is lost.
+-- The file of inputs that are joined without seams: it is well-formed, holds its stream, and loses
+-- no frame.
 use Rattle.std.proofs.Common.{ap, arith, Bool, cond, drop, Err, false, length, length-append}
 use Rattle.std.proofs.Common.{length-drop, List, None, Ok, Option, refl, Result, Some, subst, sym}
 use Rattle.std.proofs.Common.{take, true, ℕ, [], ◌++◌, ◌+◌, ◌-◌, ◌∙◌, ◌∷◌, ◌≡◌, ◌≤◌}
@@ -33,7 +33,7 @@ use Rattle.sync_survey.specs.{Faults.HoldsStream, MainData.StreamFrame, Row.Row}
 
 -- ---- the Info frame
 
--- an extension without peak and gains is as long
+-- an extension without peak and gains has as many bytes
 without-gain : (extension : List ℕ) → length extension ≡ 36
     → length (take 11 extension ++ (replicate 8 0 ++ drop 19 extension)) ≡ 36
 without-gain extension long =
@@ -137,7 +137,7 @@ module _ (first : FilePart) (parts : List FilePart) where
         subst LosesNoFrame (sym seamless-is)
         (laid-frames-stay class blocks found.0.header info frames [] file-is)
 
--- ---- of inputs that aren't refused
+-- ---- inputs that aren't refused
 
 part-whole : (files : Contents) (c : ClassFields) (place : ℕ) (first : Option ClassFields)
     (allowed : ℕ) (name : List ℕ) (part : FilePart) → join_part place first allowed (files name)
@@ -159,7 +159,7 @@ then-parts : (part : FilePart) (r : Result (List FilePart) EditFault) (parts : L
 then-parts part (Ok later) parts e = (later, refl, cc)
 then-parts part (Err fault) parts e = absurd cc
 
--- those after the first, which are of its class
+-- the inputs after the first, which are of its class
 later-whole : (files : Contents) (c : ClassFields) (place allowed : ℕ) (names : List (List ℕ))
     (parts : List FilePart) → join_parts_from place (Some c) allowed files names ≡ Ok parts
     → AreWholeFiles c parts
@@ -180,7 +180,7 @@ later-whole files c place allowed (name ∷ names) parts e =
       later-whole files c (place + 1) left names more.0 more.1,
     )
 
--- all inputs
+-- all inputs are whole files
 pub record AreInputFiles (parts : List FilePart) : Type 0 where
   pub first : FilePart
   pub more : List FilePart
@@ -188,7 +188,7 @@ pub record AreInputFiles (parts : List FilePart) : Type 0 where
   pub whole : IsWholeFile first.survey.class first
   pub all : AreWholeFiles first.survey.class more
 
--- the parts that files are read as are whole files
+-- the parts that were made from the files are whole files
 pub parts-whole : (files : Contents) (names : List (List ℕ)) (parts : List FilePart)
     → 1 ≤ length names → join_parts files names ≡ Ok parts → AreInputFiles parts
 unfolding join_parts_from
@@ -207,7 +207,7 @@ parts-whole files (name ∷ names) parts some e =
       all = later-whole files part.survey.class (0 + 1) left names more.0 more.1;
     }
 
--- what is made of them holds its stream, and loses no frame
+-- the file made from them holds its stream, and loses no frame
 pub files-hold : (files : Contents) (names : List (List ℕ)) (parts : List FilePart)
     → 1 ≤ length names → join_parts files names ≡ Ok parts
     → HoldsStream (seamless_file parts) (seamless_stream parts)
@@ -216,7 +216,7 @@ files-hold files names parts some e =
     subst (λ (l : List FilePart). HoldsStream (seamless_file l) (seamless_stream l)) is.is
     (seamless-holds is.first is.more is.whole is.all)
 
--- so no frame is lost
+-- the file made from them loses no frame
 pub files-lose-none : (files : Contents) (names : List (List ℕ)) (parts : List FilePart)
     → 1 ≤ length names → join_parts files names ≡ Ok parts → LosesNoFrame (seamless_file parts)
 files-lose-none files names parts some e =

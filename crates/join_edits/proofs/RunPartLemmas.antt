@@ -1,5 +1,5 @@
--- The run of inputs without seams: the frames of their parts, of which the first of an input may be
--- in another slot, have a plan as one part, and can be laid in its slots.
+-- The run of inputs without seams: the frames of their parts, where the first frame of an input may
+-- be in another slot, have a plan as one part, and can be laid in its slots.
 use Rattle.std.proofs.Common.{ap, append-nil, ap₂, arith, Bool, cond, drop, false, flat_map, inl}
 use Rattle.std.proofs.Common.{inr, length, length-append, length-drop, List, map, None, refl}
 use Rattle.std.proofs.Common.{slice_range, subst, sym, take, true, ℕ, [], ◌++◌, ◌+◌, ◌-◌, ◌<◌, ◌∙◌}
@@ -44,8 +44,8 @@ use Rattle.sync_survey.specs.{MainData.StreamFrame, Row.Row}
 
 -- ---- frames in the slots of a plan that was made for them in other slots
 
--- the plan is given a header of the class of the frame's, with a check word where it has one, and
--- the bytes of its main data
+-- the plan is given a header of the frame's class, with a check word if the frame has one, and the
+-- number of bytes of its main data
 record IsNeedOf (need : Need) (f : Frame) : Type 0 where
   class : class_of need.header ≡ class_of f.kept.header
   protected : need.header.protected ≡ f.kept.header.protected
@@ -71,7 +71,7 @@ next-given : (b : Bool) (need : Need) (needs : List Need) (f : Frame) (fs : List
 next-given true need needs f fs are = are
 next-given false need needs f fs are = are.1
 
--- from a place on after which there are so many free bytes within reach
+-- from a place on after which there are `reach` free bytes within reach
 laid-from : (c : ClassFields) (needs : List Need) (fs : List Frame) (placed : List Placed)
     (reach end before : ℕ) → AreStreamEntries c fs → AreGiven needs fs → AreInSlots placed
     → FitsFromReach (window_of c.version) reach needs placed → reach ≤ window_of c.version
@@ -123,12 +123,12 @@ some-from window reach (need ∷ needs) (f ∷ fs) [] given fits some = absurd f
 some-from window reach (need ∷ needs) (f ∷ fs) (p ∷ placed) given fits some =
     omega (arith, ap length (relaid-cons p placed f fs))
 
--- ---- frames that were moved
+-- ---- frames in other slots
 
 own_slots : AreSlots own_choice
 own_slots h slot is has = subst IsSlot (only_one h.slot slot has) is.slot
 
--- what holds of them and of the frames
+-- what is known of the needs and of the frames
 record AreKnown (c : ClassFields) (needs : List Need) (fs : List Frame) : Type 0 where
   given : AreGiven needs fs
   headers : AreHeaders needs
@@ -238,7 +238,7 @@ module _ (c : ClassFields) (p : FilePart) (is : IsWholeFile c p) where
       let many = stream-length p.file own in
       ap length (range-is (stream_of_survey p.file own) many) ∙ many ∙ sym (ap length rows-are)
 
-  -- what the run is given of it
+  -- the needs that the run is given for the input
   pub needs-are : needs_of (part_brought p).frames ≡ map need_of own.frames
   needs-are =
       zip-needs p.survey.class (part_rows (part_without_head p))
@@ -251,7 +251,7 @@ module _ (c : ClassFields) (p : FilePart) (is : IsWholeFile c p) where
       sym (length-map (part_brought p).frames (λ (f : RunFrame). f.need)) ∙ ap length needs-are
       ∙ length-map own.frames need_of ∙ apart-length p.survey
 
-  -- its frames fit behind no bytes
+  -- its frames fit after 0 free bytes
   pub brought-alone : FitsAlone c (part_brought p)
   brought-alone =
       let none = placed-apart p.survey.head p.survey.class p.survey.frames is.had.placed in
@@ -261,7 +261,7 @@ module _ (c : ClassFields) (p : FilePart) (is : IsWholeFile c p) where
       subst (λ (d : ClassFields). FitsAlone d (part_brought p)) is.same
       (subst (FitsBehind (window_of p.survey.class.version) 0) (sym needs-are) fits)
 
-  -- and its frames that are written
+  -- the needs of its frames from one on
   own-needs : (from : ℕ)
       → part_needs (part_from from p) ≡ needs_of (drop from (part_brought p).frames)
   own-needs from =
@@ -273,7 +273,7 @@ module _ (c : ClassFields) (p : FilePart) (is : IsWholeFile c p) where
   part-is from some =
       record { has = has; class = is.same; some = some; within = omega (arith, end) }
 
--- ---- parts of which some may have no frame
+-- ---- parts, some of which may have no frame
 
 abbrev with-frames : List FilePart → List FilePart
 with-frames [] = []
@@ -296,7 +296,7 @@ flat-kept f none (p ∷ parts) = at (nat_lt p.from p.to) refl (flat-kept f none 
     at true e later = ap (λ l. f p ++ l) later
     at false e later = later ∙ ap (λ l. l ++ flat_map f parts) (sym (none p e))
 
--- each that has a frame is one
+-- each part that has a frame is a part of the class
 abbrev AreIf : ClassFields → List FilePart → Type 0
 AreIf c [] = Unit {0}
 AreIf c (p ∷ parts) = (p.from < p.to → IsPart c p) × AreIf c parts
@@ -316,7 +316,7 @@ flat-needs : (parts : List FilePart)
 flat-needs [] = refl
 flat-needs (p ∷ parts) = ap (λ l. part_needs p ++ l) (flat-needs parts)
 
--- what a plan is given of the frames of such parts, and what these are
+-- what a plan is given for the frames of such parts, and the frames
 record AreLaidParts (c : ClassFields) (parts : List FilePart) : Type 0 where
   needs : AreNeedsOf (flat_map part_needs parts) (flat_map part_frames parts)
   entries : AreStreamEntries c (flat_map part_frames parts)
@@ -399,7 +399,7 @@ module _ (first : FilePart) (parts : List FilePart) (is : IsWholeFile first.surv
       inputs-joined class (part_brought first) (map part_brought parts) some
       (brought-alone class first is) (all-alone class parts are)
 
-  -- a frame of the first is written
+  -- at least one frame of the first input is written
   pub front-within : joined.front < length first.survey.frames
   front-within = omega (arith, run-joined.front, brought-many class first is)
 
@@ -432,7 +432,7 @@ module _ (first : FilePart) (parts : List FilePart) (is : IsWholeFile first.surv
       moved-known class (flat_map part_needs all) (needs_of run) (flat_map part_frames all)
       run-moved laid-all.needs laid-all.entries
 
-  -- they are in the slots of the first list in which they can be laid
+  -- the plan is the first list of own slots in which the run has a layout
   pub run-planned : IsPlan window own_choice (needs_of run ∷ []) (run_plan first parts)
   unfolding ArePartsFeasible
   run-planned =
@@ -464,7 +464,7 @@ module _ (first : FilePart) (parts : List FilePart) (is : IsWholeFile first.surv
   given-length (need ∷ needs) [] given = absurd given
   given-length (need ∷ needs) (f ∷ fs) given = omega (arith, given-length needs fs given.1)
 
-  -- as many frames are planned as are written, and there is one
+  -- as many frames are planned as are written, at least one
   pub run-some : 0 < length (needs_of run)
   run-some =
       let same = given-length (needs_of run) (flat_map part_frames all) known.given in
@@ -476,7 +476,7 @@ module _ (first : FilePart) (parts : List FilePart) (is : IsWholeFile first.surv
       ap length (sym laid-all.stream) ∙ length-map (flat_map part_frames all) stream_entry
       ∙ given-length (needs_of run) (flat_map part_frames all) known.given
 
-  -- they can be laid, and are what they were
+  -- the frames can be laid in these slots, and the stream stays the same
   pub run-laid : AreFramesOfStream class (seamless_frames first parts)
       (stream_with_lead_ins (run_plan first parts) (flat_map part_stream all))
   run-laid =

@@ -48,7 +48,7 @@ needs-choose class (n ∷ needs) known same =
     })
     (needs-choose class needs known same.1)
 
--- the class of frames is one
+-- if needs of one class fit after a whole window, they fit after the window of this class
 pub fits-in : (class : ClassFields) (needs : List Need) → 0 < length needs
     → AreNeedsOfClass class needs → FitBehindWindow needs
     → FitsBehind (window_of class.version) (window_of class.version) needs
@@ -92,14 +92,14 @@ module _ (class : ClassFields) (needs : List Need) (known : IsClass class)
       (All-cons (λ part. All (ChoosesInOrder own_choice) part) needs [] (needs-choose class needs
       known same) (All-nil (λ part. All (ChoosesInOrder own_choice) part)))
 
-  -- what the planner answers is the plan
+  -- what the planner returns is the plan
   pub plan-is : (placed : List Placed) → IsPlanAnswer own_choice needs (0 ∷ []) placed
       → placed ≡ plan_of_run_needs window needs
   plan-is placed is =
       is.least in-order ∙ ap₂ (λ w (parts : List (List Need)). least_plan w own_choice parts)
       (window-is class needs some same) parts-one
 
-  -- and it can be written frame by frame
+  -- what the planner returns can be written frame by frame
   pub plan-fits : (placed : List Placed) → IsPlanAnswer own_choice needs (0 ∷ []) placed
       → FitsFromReach window 0 needs placed
   plan-fits placed is =
@@ -137,7 +137,7 @@ behind-same : (b : Bool) (n m : Need) (needs others : List Need) → InSlot n m
 behind-same true n m needs others is are = (is, are)
 behind-same false n m needs others is are = are
 
--- a plan doesn't look at the slots in which they are
+-- whether frames fit in a plan doesn't depend on the slots that they have before
 pub fits-moved : (window reach : ℕ) (needs others : List Need) (placed : List Placed)
     → AreMovedNeeds needs others → FitsFromReach window reach needs placed
     → FitsFromReach window reach others placed

@@ -1,4 +1,4 @@
--- What a seamless join leaves, by its steps.
+-- What a seamless join leaves, given its steps.
 use Rattle.std.proofs.Common.{ap, append-nil, ap₂, arith, drop, Err, inl, inr, length, List, map}
 use Rattle.std.proofs.Common.{None, Ok, Option, refl, Result, Some, subst, suc, sym, unwrap_or, ℕ}
 use Rattle.std.proofs.{Common.{[], ◌++◌, ◌+◌, ◌-◌, ◌<◌, ◌∙◌, ◌∷◌, ◌≡◌, ◌≤◌}, lemmas.List.length-map}
@@ -70,7 +70,7 @@ apart-known first allowed files (name ∷ names) (s ∷ ss) are = (
 )
 apart-known first allowed files _ _ are = absurd are
 
--- and as they were found
+-- the inputs are there, with their surveys as they were found
 pub inputs-known : (first : Option ClassFields) (allowed : ℕ) (files : Files)
     (names : List (List ℕ)) (ss : List SurveyFields) → AreJoinInputs first allowed files names ss
     → AreHeld files names ss
@@ -124,7 +124,7 @@ all-alone : (class : ClassFields) (ss : List SurveyFields) → AreInputsOfClass 
 all-alone class [] are = tt
 all-alone class (s ∷ ss) are = (apart-alone s are.1, all-alone class ss are.3)
 
--- so it can be decided what becomes of them
+-- it can be decided what becomes of inputs whose heads are set apart
 pub apart-decided : (files : Files) (names : List (List ℕ)) (ss : List SurveyFields)
     (bs : List Beginning) → AreJoinInputs None most_frames files names ss → CanInputsBeJoined ss
     → AreBeginnings files names ss bs → CanBeDecided files names (map survey_without_head ss) bs
@@ -135,7 +135,7 @@ apart-decided files names ss bs are can begun = record {
   begun = begun-long files names ss bs begun ∙ sym (length-map ss survey_without_head);
 }
 
--- what is known of the heads, where the files are told
+-- how the inputs begin, where the contents of the files are known
 heads-told : (first : Option ClassFields) (allowed : ℕ) (f : Contents) (names : List (List ℕ))
     (ss : List SurveyFields) (bs : List Beginning) → AreJoinInputs first allowed (Told f) names ss
     → AreBeginnings (Told f) names ss bs → AreHeads f names ss bs
@@ -153,9 +153,9 @@ heads-told first allowed f (name ∷ names) (s ∷ ss) [] are begun = absurd beg
 heads-told first allowed f [] (s ∷ ss) bs are begun = absurd are
 heads-told first allowed f (name ∷ names) [] bs are begun = absurd are
 
--- ---- what is made of them
+-- ---- what is made of the inputs
 
--- they can be written
+-- the frames of the decided run can be written
 pub made-written : (output : List ℕ) (files : Files) (names : List (List ℕ))
     (ss : List SurveyFields) (bs : List Beginning) (made : MadeRun)
     → clash_from (output ∷ []) 0 names ≡ None → AreJoinInputs None most_frames files names ss
@@ -206,7 +206,7 @@ made-written output files names ss bs made free are can is =
         pairs class output first allowed files names ss
         (sources-inputs class output place first allowed files names ss free alike are) are
 
--- the first of them, where there is one
+-- all inputs are of one class
 all-of : (class : ClassFields) (ss : List SurveyFields) → AreInputsOfClass class ss → AllOf class ss
 all-of class [] are = tt
 all-of class (s ∷ ss) are = (are.2, all-of class ss are.3)
@@ -257,13 +257,13 @@ module _ (f : Contents) (name : List ℕ) (names : List (List ℕ)) (s : SurveyF
       ∙ seamless-written f name names s ss b bs made.decided (entries made.work.plan) heads of
       decided is.run.plan made.work.info.items many is.run.fits.fits is.run.info within
 
-  -- and so is the text
+  -- the lines that are sent are the text
   pub made-text : joint_lines names made.decided.joints.items
       ≡ seamless_text (name ∷ names) (parts_in f (name ∷ names) (s ∷ ss))
   made-text = text-same f name names s ss b bs made.decided (entries made.work.plan) heads of
       decided is.run.plan
 
--- ---- what is ready
+-- ---- what was prepared
 
 -- there is one joint fewer than inputs
 pub joints-many : (names : List (List ℕ)) (files : Files) (ready : Ready)
@@ -271,7 +271,7 @@ pub joints-many : (names : List (List ℕ)) (files : Files) (ready : Ready)
 joints-many names files ready is = is.made.decided.run.many ∙ length-map is.ss survey_without_head
     ∙ names-many None most_frames files names is.ss is.inputs
 
--- what is ready can be written
+-- what was prepared can be written
 pub ready-writable : (output : List ℕ) (names : List (List ℕ)) (files : Files) (ready : Ready)
     → clash_from (output ∷ []) 0 names ≡ None → IsSeamlessReady names files ready
     → CanJoinBeWritten output
@@ -287,7 +287,7 @@ module _ (names : List (List ℕ)) (some : 1 ≤ length names) where
   made_of files ready = join_bytes files names (map survey_view ready.surveys.items)
       (left_out_of ready.made.decided) ready.made.work
 
-  -- what is ready makes what the task does
+  -- what was prepared makes what the task makes
   pub ready-making : (files : Files) (ready : Ready) → IsSeamlessReady names files ready
       → IsMaking (seamless_task names) (made_of files ready) files
   ready-making files ready is = at files names is.ss is.bs some
@@ -317,7 +317,7 @@ module _ (names : List (List ℕ)) (some : 1 ≤ length names) where
         );
       }
 
-  -- it holds the stream of the run
+  -- the file holds the stream of the run
   pub ready-holds : (files : Files) (ready : Ready) → IsSeamlessReady names files ready → IfTold
       files (λ f. (bytes : List ℕ) → f (first_input names) ≡ Some bytes → AreSoundFiles f names
       × HoldsStream (made_of files ready bytes) ((seamless_task names).stream f))
@@ -339,7 +339,7 @@ module _ (names : List (List ℕ)) (some : 1 ≤ length names) where
       ok-same : {a b : List ℕ} → ◌≡◌ {A = Result (List ℕ) EditFault} (Ok a) (Ok b) → a ≡ b
       ok-same e = cc
 
-  -- the text is that of what was decided
+  -- the text of the command is the text of what was decided
   pub ready-text : (files : Files) (ready : Ready) (output all : List ℕ)
       → IsSeamlessReady names files ready → IsCommandText (seamless_command output names) files all
       → joint_lines (drop 1 names) ready.made.decided.joints.items ≡ all
@@ -376,14 +376,14 @@ other-err P g h (Ok a) e = tt
 other-err P g h (Err f) e = e
 
 module _ (names : List (List ℕ)) where
-  -- the first input is there
+  -- out of memory after the survey is an early fault, since the first input is there
   pub memory-early : (old new : Seen) (ss : List SurveyFields) → 1 ≤ length names
       → AreJoinInputs None most_frames old.files names ss → new ≡ old
       → NeedsMemory (first_input names) old new
   memory-early old new ss some are stays =
       rw append-nil at (found-input most_frames names [] ss old new are some stays)
 
-  -- a fault of the reading after the survey
+  -- a fault of reading the inputs after the survey is an early fault
   pub read-fault-early : (old mid new : Seen) (ss : List SurveyFields) (fault : EditFault)
       → 1 ≤ length names → AreJoinInputs None most_frames old.files names ss → mid ≡ old
       → IsInputReadFault names mid new fault → IsEarlyFault (seamless_task names) old new fault
@@ -399,14 +399,14 @@ module _ (names : List (List ℕ)) where
           IfErr (then_made r (λ parts. Ok (seamless_file parts))) (IsNotBefore fault))
           (sym (parts-all 0 None most_frames f names ss are)) tt
 
-  -- where the first input is there and not too long, only a late fault refuses the join
+  -- if the first input is there and not too long, only a late fault refuses the join
   pub seamless-late : (f : Contents) (bytes : List ℕ) → f (first_input names) ≡ Some bytes
       → length bytes ≤ longest_file → IfErr ((seamless_task names).makes f) IsLateFault
   seamless-late f bytes held few =
       other-err IsLateFault joined_file seamless_file (join_parts f names)
       (join-late names f bytes held few)
 
--- where names clash, the command leaves everything as it was
+-- if names clash, the command leaves everything as it was
 pub left-clash : (output : List ℕ) (names : List (List ℕ)) (place : ℕ) (now : Seen)
     → clash_in (seamless_task names) output ≡ Some place
     → IsCommandFault (seamless_command output names) now now (EqualNames place)
@@ -423,7 +423,7 @@ module _ (output : List ℕ) (names : List (List ℕ))
   abbrev silent : Command
   silent = one_command (seamless_task names) output
 
-  -- the command leaves what it may after an early fault
+  -- after an early fault the command leaves what it may
   pub left-early : (old new : Seen) (fault : EditFault)
       → IsEarlyFault (seamless_task names) old new fault
       → IsCommandFault (seamless_command output names) old new fault
@@ -435,7 +435,7 @@ module _ (output : List ℕ) (names : List (List ℕ))
     making : IsMaking (seamless_task names) (made_of names some old.files ready) old.files
     making = ready-making names some old.files ready is
 
-    -- where the file was written and no count rose, the command is done
+    -- if the file was written and no count rose, the command is done
     pub left-done : ((bytes : List ℕ) → Holds old.files (first_input names) bytes
         → new.files ≡ files_holding old.files output (made_of names some old.files ready bytes))
         → new.counts ≡ old.counts → IsCommandDone (seamless_command output names) old new
@@ -445,7 +445,7 @@ module _ (output : List ℕ) (names : List (List ℕ))
         done : Result (Unit {0}) EditFault
         done = Ok tt
 
-    -- the command leaves what it may after a pass that ended early
+    -- after a pass that ended early the command leaves what it may
     pub left-part : (fault : EditFault)
         → IsPassFault (made_of names some old.files ready) names output old new fault
         → IsCommandFault (seamless_command output names) old new fault
@@ -456,7 +456,7 @@ module _ (output : List ℕ) (names : List (List ℕ))
         failed : Result (Unit {0}) EditFault
         failed = Err fault
 
-  -- where inputs are ready, the command holds the streams that it says
+  -- if the inputs are prepared, the output holds the streams that the command says
   pub left-streams : (some : 1 ≤ length names) (files : Files) (ready : Ready)
       → IsSeamlessReady names files ready → HoldsStreams (seamless_command output names) files
   left-streams some files ready is =
@@ -467,9 +467,9 @@ module _ (output : List ℕ) (names : List (List ℕ))
       done : Result (Unit {0}) EditFault
       done = Ok tt
 
--- ---- what the numbers of a fault say
+-- ---- the numbers of a fault
 
--- the numbers of a fault of a join are those that a seamless join may tell
+-- the numbers of a fault of a join are numbers that a seamless join may return
 pub seamless-numbers : (output : List ℕ) (names : List (List ℕ)) (count : ℕ) (fault : EditFault)
     → count ≡ length names → HasJoinNumbers count fault
     → HasNumbers (seamless_command output names) fault

@@ -1,4 +1,4 @@
--- What is made of inputs that are told is the file and the text of a seamless join.
+-- A seamless join of inputs whose contents are known makes its file and its text.
 use Rattle.std.proofs.Common.{ap, append-nil, append_assoc, ap₂, arith, Bool, bytes_eq, cond, drop}
 use Rattle.std.proofs.Common.{false, flat_map, if◌then◌else◌, is_some, length, length-append, List}
 use Rattle.std.proofs.Common.{map, min, None, Option, option_and_then, option_map, refl, replicate}
@@ -64,7 +64,7 @@ brought-same file s b head blank =
     (ap₂ (λ (h : Option Info) n. counted_positions h s.class n) head (apart-length s))
     ∙ ap (λ blank. record (part_brought (whole_part file s)) { blank = blank }) blank
 
--- where the files are told
+-- how the inputs begin, where the contents of the files are known
 abbrev pub AreHeads : Contents → List (List ℕ) → List SurveyFields → List Beginning → Type 0
 AreHeads f [] [] [] = Unit {0}
 AreHeads f (name ∷ names) (s ∷ ss) (b ∷ bs) =
@@ -72,7 +72,7 @@ AreHeads f (name ∷ names) (s ∷ ss) (b ∷ bs) =
     × AreHeads f names ss bs
 AreHeads f _ _ _ = ⊥
 
--- what inputs bring with their heads set apart is what they bring as parts
+-- inputs bring the same by their surveys, with heads set apart, and as parts
 pub broughts-same : (f : Contents) (names : List (List ℕ)) (ss : List SurveyFields)
     (bs : List Beginning) → AreHeads f names ss bs
     → broughts_in f names (map survey_without_head ss) bs ≡ map part_brought (parts_in f names ss)
@@ -122,7 +122,7 @@ behind-length : {X Y : Type 0} (b : Bool) (x : X) (y : Y) (xs : List X) (ys : Li
 behind-length true x y xs ys same = omega (arith, same)
 behind-length false x y xs ys same = same
 
--- they are those of the plan
+-- the frames are in the slots of the plan
 pub relaid-slots : (window reach : ℕ) (needs : List Need) (fs : List Frame) (placed : List Placed)
     → length fs ≡ length needs → FitsFromReach window reach needs placed
     → map slot_in (relaid_frames fs placed) ≡ map (λ (p : Placed). p.slot) placed
@@ -138,7 +138,7 @@ relaid-slots window reach (n ∷ needs) (f ∷ fs) (p ∷ placed) same fits =
     (rest_behind p.lead_in f fs) placed
     (behind-length p.lead_in f n fs needs (omega (arith, same))) fits.2)
 
--- there are as many as the plan was made for
+-- there are as many frames as the plan was made for
 frames-long : (file : List ℕ) (s : SurveyFields) → length (all_frames file s) ≡ length s.frames
 unfolding all_frames
 frames-long file s = length-map (enumerate_from 0 s.frames) _ ∙ length-enumerate_from 0 s.frames
@@ -169,7 +169,7 @@ behind-long f (name ∷ names) (s ∷ ss) (from ∷ froms) many =
     (behind-long f names ss froms (omega (arith, many)))
     ∙ sym (length-append (map need_of rows) (needs_of_parts (rest_rows ss froms)))
 
--- ---- the header of the first of them
+-- ---- the header of the first frame
 
 row-apart : (r : Row) (b : Bool)
     → (cond b (record r { side = no_side; lost = false }) r).header ≡ r.header
@@ -200,7 +200,7 @@ unfolding apart_rows
 set-header None rows i r is = map-header rows i r is
 set-header (Some head) rows i r is = rows-header rows 0 rows i r is
 
--- a frame keeps its header where the head is set apart
+-- a frame keeps its header when the head is set apart
 pub apart-header : (s : SurveyFields) (i : ℕ) (r : Row) → slice_get s.frames i ≡ Some r
     → (q : Row) × (slice_get (survey_without_head s).frames i ≡ Some q) × (q.header ≡ r.header)
 apart-header s i r is = set-header s.head s.frames i r is
@@ -229,7 +229,7 @@ all-say-same gain f (name ∷ names) (s ∷ ss) (b ∷ bs) are =
     ∙ ap (λ (h : Option Info). head_says_gain gain h && all_say gain bs) (sym are.0.0)
 all-say-same gain f _ _ _ are = absurd are
 
--- the padding is that of the last
+-- the padding is the padding of the last input
 abbrev pub AllOf : ClassFields → List SurveyFields → Type 0
 AllOf class [] = Unit {0}
 AllOf class (s ∷ ss) = (s.class ≡ class) × AllOf class ss
@@ -249,7 +249,7 @@ padding-same class f name (other ∷ names) s (t ∷ ss) b (c ∷ bs) of are =
     padding-same class f other names t ss c bs of.1 are.1
 padding-same class f name _ s _ b _ of are = absurd are.1
 
--- ---- all of it
+-- ---- the whole join
 
 module _ (f : Contents) (name : List ℕ) (names : List (List ℕ)) (s : SurveyFields) (ss : List
     SurveyFields) (b : Beginning) (bs : List Beginning) (d : Decided) (placed : List Placed)
@@ -293,7 +293,7 @@ module _ (f : Contents) (name : List ℕ) (names : List (List ℕ)) (s : SurveyF
       ∙ ap (λ n. rest_part n file (survey_without_head s)) (sym is.front))
       (parts-same f names ss joined.joints d.joints.items is.joints)
 
-  -- the frames that are written are those of the join
+  -- the frames that are written are the frames of the join
   pub frames-same : relaid_frames
       (flat_map part_frames (rest_parts f (name ∷ names) (map survey_without_head (s ∷ ss))
       (left_out_of d))) placed ≡ seamless_frames first parts
@@ -345,7 +345,7 @@ module _ (f : Contents) (name : List ℕ) (names : List (List ℕ)) (s : SurveyF
       sealed_info row.header (info_for s.class (seamless_frames first parts) q e))
       (ap quality_of heads.0.0) (ap (λ e. gains_kept e bs) same ∙ kept)
 
-  -- the fields of the Info frame are those of the join
+  -- the fields of the Info frame are the fields that the join says
   pub info-same : (row : Row)
       → info_kept (run_kept (b ∷ bs) ends moved) row.header s.class (seamless_frames first parts)
       ≡ seamless_info (delay_of_run first parts) row first parts
@@ -356,7 +356,7 @@ module _ (f : Contents) (name : List ℕ) (names : List (List ℕ)) (s : SurveyF
 
   -- ---- the file
 
-  -- it is what was made ready
+  -- the bytes that are written are the file of the join
   pub seamless-written : (info : List ℕ) → length ss ≤ length names
       → FitsFromReach (window_of s.class.version) 0
       (needs_of_parts (rest_rows (map survey_without_head (s ∷ ss)) (left_out_of d))) placed

@@ -1,4 +1,4 @@
--- What is compared of two frames: whether they sound alike.
+-- What is compared to tell whether two frames sound alike.
 use Rattle.std.proofs.Common.{ap, ap₂, arith, Bool, bytes_eq, drop, false, length, length-append}
 use Rattle.std.proofs.Common.{List, map, refl, subst, suc, sum, sym, take, take-append-drop, true}
 use Rattle.std.proofs.Common.{zero, ℕ, [], ◌&&◌, ◌*◌, ◌++◌, ◌+◌, ◌-◌, ◌/◌, ◌∙◌, ◌∷◌, ◌≡◌}
@@ -26,7 +26,7 @@ use Rattle.sync_survey.specs.MainData.{granule_lengths, no_slot, split_bits}
 
 -- ---- tests
 
--- two tests of bytes say the same where each follows from the other
+-- two tests of bytes are the same if each equality follows from the other
 pub same-tests : (a b c d : List ℕ) → (a ≡ b → c ≡ d) → (c ≡ d → a ≡ b)
     → bytes_eq a b ≡ bytes_eq c d
 same-tests a b c d to from =
@@ -35,22 +35,22 @@ same-tests a b c d to from =
       λ same. (bytes_eq-Decides c d).1 (to same),
     )
 
--- bytes are the same where their bits are
+-- bytes are the same exactly if their bits are
 pub bits-tested : (a b xs ys : List ℕ) → bits a ≡ xs → bits b ≡ ys → AreBytes a → AreBytes b
     → bytes_eq a b ≡ bytes_eq xs ys
 bits-tested a b xs ys first second octets others =
     same-tests a b xs ys (λ same. sym first ∙ ap bits same ∙ second)
     (λ same. bits-injective a b octets others (first ∙ same ∙ sym second))
 
--- two lists are the same where their parts are
+-- two lists are the same if their parts are
 module _ {X : Type 0} where
-  -- the parts in front are the same, if they are of the same length
+  -- the first parts are the same, if they have the same length
   pub front-same : (us vs xs ys : List X) → length us ≡ length vs → us ++ xs ≡ vs ++ ys → us ≡ vs
   front-same us vs xs ys long is =
       sym (take_at us xs (length us) refl) ∙ ap (take (length us)) is ∙ take_at vs ys (length us)
       (sym long)
 
-  -- and so are the parts behind them
+  -- the second parts are the same, if the first have the same length
   pub back-same : (us vs xs ys : List X) → length us ≡ length vs → us ++ xs ≡ vs ++ ys → xs ≡ ys
   back-same us vs xs ys long is =
       sym (drop_at us xs (length us) refl) ∙ ap (drop (length us)) is ∙ drop_at vs ys (length us)
@@ -63,13 +63,13 @@ put-slot slot bs =
     let middle = take 16 bs ++ bits_of 4 slot.rate_index ++ drop 20 bs in
     take 22 middle ++ bits_of 1 (flag_of slot.padding) ++ drop 23 middle
 
--- the bits in another slot are the same but for the slot's
+-- putting a slot into the bits of a header gives the bits of the header in this slot
 slot-bits : (h : HeaderFields) (slot : SlotFields)
     → put-slot slot (header_bits h) ≡ header_bits (record h { slot = slot })
 unfolding put-slot
 slot-bits h slot = slot_put h slot (header_bits h) _ _ refl refl refl
 
--- so headers that are the same in one slot are in every slot
+-- headers that are the same in one slot are the same in every slot
 slot-same : (g h : HeaderFields) (s t : SlotFields)
     → header_bits (record g { slot = s }) ≡ header_bits (record h { slot = s })
     → header_bits (record g { slot = t }) ≡ header_bits (record h { slot = t })
@@ -77,7 +77,7 @@ slot-same g h s t is =
     sym (slot-bits (record g { slot = s }) t) ∙ ap (put-slot t) is ∙ slot-bits
     (record h { slot = s }) t
 
--- whether headers in one slot are the same is whether they are without their slots
+-- headers are the same in one slot exactly if they are the same without their slots
 pub header-alike : (g h : HeaderFields) (a b : List ℕ) (r : Bool)
     → bits a ≡ header_bits (record g { slot = h.slot }) → bits b ≡ header_bits h
     → AreBytes a → AreBytes b → r ≡ bytes_eq a b
@@ -117,7 +117,7 @@ fits-bare c true g fits = record {
 }
 fits-bare c false g none = ap without_gain none
 
--- side information fits, too, without gains and main_data_begin
+-- side information without gains and main_data_begin fits, too
 pub bare-fits : (c : ClassFields) (s : Side) → SideFits c s → SideFits c (compared_side s)
 bare-fits c s fits = record {
   main_data_begin = omega (arith, fits.main_data_begin);
@@ -172,7 +172,7 @@ payload-bare : (s : Side) → payload_bits (compared_side s) ≡ payload_bits s
 unfolding payload_bits
 payload-bare s = sums-bare s.granules
 
--- those of the granules that the class has
+-- the granules and channels that the class has hold all bits of main data
 abbrev LengthsAre : ClassFields → Side → Type 0
 LengthsAre c s = SideFits c s → sum (map length_of (granules_in c s)) ≡ payload_bits s
 
@@ -227,7 +227,7 @@ sum-next n ns =
     let others : sum ns ≡ 0 + sum_by (λ x. x) ns = sum_by_from (λ x. x) 0 ns in
     omega (arith, one, others)
 
--- parts of a list are the list again
+-- parts of a list, joined, are the list
 concat-parts : (ns bs : List ℕ) → concat (split_bits ns bs) ≡ take (sum ns) bs
 unfolding split_bits
 concat-parts [] bs = refl
@@ -273,7 +273,8 @@ module _ (c : ClassFields) (f : Frame) (is : IsStreamEntry c f) where
       ∙ lengths-are c known side (pairs-shaped side is.pairs) is.fits)
       ∙ take_all (payload_bits side) data_bits (omega (arith, data-many))
 
-  -- the sound is the header without its slot, the bare side information and the main data
+  -- the sound is the header without its slot, the side information without gains and
+  -- main_data_begin, and the main data
   pub sound-is : sound_of c (stream_entry f) ≡ header_bits
       (without_slot f.kept.header) ++ (side_bits c (compared_side side) ++ data_bits)
   sound-is = ap (λ (l : List ℕ). header_bits (without_slot f.kept.header) ++ (side_bits c
@@ -302,7 +303,7 @@ module _ (c : ClassFields) (f g : Frame) (first : IsStreamEntry c f)
   header-long = length-header_bits (without_slot f.kept.header) ∙ sym
       (length-header_bits (without_slot g.kept.header))
 
-  -- the same side information has main data as long
+  -- if the compared side information is the same, the main data have the same length
   sides-many : side_bits c (compared_side f.kept.side) ≡ side_bits c (compared_side g.kept.side)
       → payload_bits f.kept.side ≡ payload_bits g.kept.side
   sides-many same =
@@ -360,7 +361,7 @@ module _ (c : ClassFields) (f g : Frame) (first : IsStreamEntry c f)
       sound-is c f first ∙ ap₂ (λ (a b : List ℕ). a ++ b) headers
       (ap₂ (λ (a b : List ℕ). a ++ b) sides datas) ∙ sym (sound-is c g second)
 
-  -- they sound alike where all three are the same
+  -- the frames sound alike exactly if header, side information and main data are the same
   pub sounds-tested : (same_header && same_side) && bytes_eq f.payload g.payload
       ≡ bytes_eq (sound_of c (stream_entry f)) (sound_of c (stream_entry g))
   sounds-tested =

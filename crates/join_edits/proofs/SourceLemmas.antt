@@ -1,4 +1,4 @@
--- The inputs as sources of the frames, and what is written of them.
+-- The inputs as sources of frames, and what is written of them.
 use Rattle.std.proofs.Common.{ap, append-nil, append_assoc, ap₂, arith, inl, inr, is_some, length}
 use Rattle.std.proofs.Common.{List, map, None, Ok, Option, refl, Result, Some, subst, sym, true, ℕ}
 use Rattle.std.proofs.Common.{[], ◌++◌, ◌+◌, ◌-◌, ◌<◌, ◌∙◌, ◌∷◌, ◌≡◌, ◌≢◌, ◌≤◌}
@@ -62,19 +62,19 @@ sources-inputs class output place first allowed files (name ∷ names) (s ∷ ss
     )
 sources-inputs class output place first allowed files _ _ none alike are = absurd are
 
--- the first of several sources is one
+-- the first of several sources is a source
 pub first-source : (class : ClassFields) {output : List ℕ} {files : Files}
     {names later : List (List ℕ)} {ss behind : List SurveyFields} {name : List ℕ} {s : SurveyFields}
     → names ≡ name ∷ later → ss ≡ s ∷ behind → AreSources class output files names ss
     → IsSource output files name s
 first-source class names-are ss-are are = (rw (names-are, ss-are) at are).0.0
 
--- and its class
+-- the first of several sources has the class of all
 pub first-class : {ss behind : List SurveyFields} {s : SurveyFields} {class : ClassFields}
     → ss ≡ s ∷ behind → class_of_first ss ≡ Some class → class ≡ s.class
 first-class ss-are first = let first = rw ss-are at first in cc
 
--- one of them stays where only the output changes
+-- a source stays a source if only the output changes
 source-beside : (output : List ℕ) (old new : Files) (name : List ℕ) (s : SurveyFields)
     → OnlyTouches (output ∷ []) old new → IsSource output old name s
     → IsSource output new name s × (told_contents new name ≡ told_contents old name)
@@ -100,7 +100,7 @@ source-beside output (Untold before) (Untold after) name s only source = (
 )
 source-beside output _ _ name s only source = absurd only
 
--- and so do all of them
+-- all sources stay sources if only the output changes
 pub sources-beside : (class : ClassFields) (output : List ℕ) (old new : Files)
     (names : List (List ℕ)) (ss : List SurveyFields) → OnlyTouches (output ∷ []) old new
     → AreSources class output old names ss → AreSources class output new names ss
@@ -111,7 +111,7 @@ sources-beside class output old new (name ∷ names) (s ∷ ss) only are = (
 )
 sources-beside class output old new _ _ only are = absurd are
 
--- and their frames from any on
+-- the frames of sources stay the same if only the output changes
 pub told-beside : (class : ClassFields) (output : List ℕ) (old new : Files)
     (names : List (List ℕ)) (ss : List SurveyFields) (froms : List ℕ)
     → OnlyTouches (output ∷ []) old new → AreSources class output old names ss
@@ -125,7 +125,7 @@ told-beside class output old new (name ∷ names) (s ∷ ss) (from ∷ froms) on
     (told-beside class output old new names ss froms only are.1)
 told-beside class output old new _ _ _ only are = absurd are
 
--- where the files are told, an input holds its bytes
+-- where the contents of the files are known, a source holds its bytes
 pub source-holds : {output : List ℕ} (files : Files) (key told name : List ℕ) (s : SurveyFields)
     → Holds files key told → IsSource output files name s
     → Holds files name (unwrap_or (told_contents files name) [])
@@ -245,10 +245,9 @@ module _ (output : List ℕ) (f : Contents) (name : List ℕ) (names : List (Lis
       ∙ ap₂ (λ (i b : List ℕ). front ++ (i ++ b)) head (sym (append-nil (bytes_of_frames frames)))
       ∙ sym joined-is
 
--- ---- what is written, where no frame is left out
+-- ---- what is written if no frame is left out
 
--- the joined file is made of these lists as the code has them
--- it can be written
+-- the joined file can be written with the parts that the code prepared
 pub ready-written : (output : List ℕ) (files : Files) (names : List (List ℕ))
     (ss : List SurveyFields) (froms : List ℕ) (work : JoinWork)
     → clash_from (output ∷ []) 0 names ≡ None → AreJoinInputs None most_frames files names ss
@@ -268,7 +267,7 @@ ready-written output files names ss froms work apart are ready within same =
       };
     }
 
--- and is the joined file
+-- the bytes that are written are the joined file
 pub whole-is : (output : List ℕ) (files : Files) (names : List (List ℕ)) (ss : List SurveyFields)
     (froms : List ℕ) (work : JoinWork) → 1 ≤ length names
     → clash_from (output ∷ []) 0 names ≡ None → AreJoinInputs None most_frames files names ss
@@ -292,12 +291,12 @@ whole-is output (Told f) (name ∷ names) (s ∷ ss) froms work some apart are r
     ++ bytes_of_frames (relaid_frames (flat_map part_frames ps) placed)) none
     ∙ rw holds at told
 
--- ---- the command, where all inputs have their surveys
+-- ---- the command, once all inputs have their surveys
 
 abbrev made_whole : List ℕ → Result (List ℕ) EditFault
 made_whole bytes = Ok bytes
 
--- what is made of them
+-- what is made of the inputs
 pub inputs-making : (files : Files) (names : List (List ℕ)) (ss : List SurveyFields)
     → 1 ≤ length names → AreJoinInputs None most_frames files names ss
     → IsMaking (join_task names) (λ _. joined_file (told_parts files names ss)) files
@@ -315,7 +314,7 @@ inputs-making files (name ∷ names) (s ∷ ss) some are =
       rw (parts-all 0 None most_frames f (name ∷ names) (s ∷ ss) are) refl,
     )
 
--- by the bytes that are written
+-- the bytes that are written are what is made of the inputs
 pub written-making : (output : List ℕ) (files : Files) (names : List (List ℕ))
     (ss : List SurveyFields) (froms : List ℕ) (work : JoinWork) → 1 ≤ length names
     → clash_from (output ∷ []) 0 names ≡ None → AreJoinInputs None most_frames files names ss
@@ -361,7 +360,7 @@ inputs-hold output (Told f) (name ∷ names) (s ∷ ss) apart can are = λ bytes
 )
 inputs-hold output (Told f) _ _ apart can are = absurd are
 
--- what the numbers of a fault say
+-- the numbers of a fault are numbers that the command may return
 pub join-numbers : (output : List ℕ) (names : List (List ℕ)) (count : ℕ) (fault : EditFault) → count
     ≡ length names → HasJoinNumbers count fault → HasNumbers (join_command output names) fault
 join-numbers output names count (Input place fault) all is =

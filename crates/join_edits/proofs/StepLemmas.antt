@@ -1,4 +1,4 @@
--- The inputs given to the writer, one more at a time.
+-- Giving the inputs to the writer, one more at a time.
 use Rattle.std.proofs.Common.{ap, append_assoc, arith, drop, get_or, length, List, map, refl}
 use Rattle.std.proofs.Common.{slice_index_or, subst, sym, ℕ, [], ◌++◌, ◌+◌, ◌-◌, ◌<◌, ◌∙◌, ◌∷◌, ◌≡◌}
 use Rattle.std.proofs.{Common.{◌≢◌, ◌≤◌}, lemmas.List.{drop-map, get_or-drop}}
@@ -28,9 +28,10 @@ use Rattle.outside.specs.{Pass.{HasPassCause, route}, declared.pass.PassFault.Pa
 use Rattle.slot_plan.specs.declared.needs.{Need.Need, Placed.Placed}
 use Rattle.sync_survey.specs.Faults.{survey_view, SurveyFields}
 
--- ---- one of them
+-- ---- one input
 
--- from a place on what is made of a list is what is made of the next, and of those behind it
+-- what a list maps to, from item i on, is what that item maps to, and then what those after it map
+-- to
 pub map-next : {X Y : Type 0} (f : X → Y) (xs : List X) (i : ℕ) (x : X) → i < length xs
     → x ≡ get_or xs i x → drop i (map f xs) ≡ f x ∷ drop (i + 1) (map f xs)
 map-next f xs i x within is = drop-map f i xs ∙ ap (map f) (item-next xs i x within is)
@@ -56,14 +57,14 @@ source-ready relay files fed source target long fed_from = record {
   laid = source.laid;
 }
 
--- ---- their frames
+-- ---- the frames of inputs
 
--- the frames from one on as they were planned
+-- the frames from one on, in the slots of their plan
 abbrev frames_behind : ℕ → SurveyFields → List Placed → List ℕ → List Frame
 frames_behind from s placed file =
     relaid_frames (slice_range (all_frames file s) from (length s.frames)) placed
 
--- how many bytes before the next area main data may begin after them
+-- how many bytes before the next area main data may begin after these frames
 abbrev reach_behind : ℕ → ℕ → SurveyFields → List Placed → ℕ
 reach_behind reach from s placed =
     last_reach (window_of s.class.version) reach (needs_from s from (length s.frames)) placed
@@ -78,7 +79,8 @@ needs-append _ more _ gs are behind = absurd are
 abbrev pub told_frames : Files → List (List ℕ) → List SurveyFields → List ℕ → List Frame
 told_frames files names ss froms = flat_map part_frames (told_rest_parts files names ss froms)
 
--- where they are told, their frames are those that the plan was made for
+-- where the contents of the files are known, the inputs' frames are those that the plan was made
+-- for
 sources-needs : (class : ClassFields) (output : List ℕ) (files : Files) (key file : List ℕ)
     (names : List (List ℕ)) (ss : List SurveyFields) (froms : List ℕ) → Holds files key file
     → AreSources class output files names ss
@@ -95,7 +97,7 @@ sources-needs class output files key file (name ∷ names) (s ∷ ss) (from ∷ 
     (sources-needs class output files key file names ss froms holds are.1)
 sources-needs class output files key file _ _ _ holds are = absurd are
 
--- an input's frames are before those of the inputs after it
+-- an input's frames come before the frames of the inputs after it
 own-split : (f : Contents) (name : List ℕ) (s : SurveyFields) (from : ℕ) (names : List (List ℕ))
     (ss : List SurveyFields) (froms : List ℕ) (placed : List Placed) → relaid_frames
     (flat_map part_frames (rest_parts f (name ∷ names) (s ∷ ss) (from ∷ froms))) placed
@@ -117,7 +119,7 @@ unfolding rest_parts
 told-none f [] froms placed = relaid-none placed
 told-none f (s ∷ ss) froms placed = relaid-none placed
 
--- the plan fits the input, and after it those that follow
+-- the plan fits the input, and then the inputs after it
 fits-input : (class : ClassFields) (reach : ℕ) (s : SurveyFields) (from : ℕ)
     (ss : List SurveyFields) (froms : List ℕ) (placed : List Placed) → s.class ≡ class
     → FitsFromReach (window_of class.version) reach
@@ -138,10 +140,10 @@ fits-input class reach s from ss froms placed same fits =
     (drop (places_for n placed) placed))
     (needs-length from s) (fits-append window reach own rest placed fits))
 
--- ---- one after another
+-- ---- input by input
 
--- The inputs before were given to the writer as they were planned. These are left, with these
--- surveys, their frames from these on, and these places of the plan.
+-- The inputs before were given to the writer as planned. Left are these names, with these surveys,
+-- their frames from these numbers on, and these places of the plan.
 pub record IsLaidTo (class : ClassFields) (key output : List ℕ) (whole : List ℕ → List Frame)
     (begun now : Writing) (first files : Files) (names : List (List ℕ)) (ss : List SurveyFields)
     (froms : List ℕ) (placed : List Placed) : Type 0 where
@@ -178,7 +180,7 @@ laid-none key {output} w {files} sources within target new fits = record {
   };
 }
 
--- behind the last all were laid
+-- after the last input all frames were laid
 pub laid-all : {class : ClassFields} {key output : List ℕ} {whole : List ℕ → List Frame}
     {begun now : Writing} {first files : Files} {names : List (List ℕ)} {ss : List SurveyFields}
     {froms : List ℕ} {placed : List Placed} → names ≡ []
@@ -190,14 +192,14 @@ laid-all {class} {key} {output} {whole} {begun} {now} {first} {files} {names} {s
     (λ _. relaid_frames (told_frames first names ss froms) placed) begun now
     first files laid.lays (λ file holds. rw none (told-none (told_contents first) ss froms placed))
 
--- there is a number for each
+-- there is a number for each input
 pub within-long : (ss : List SurveyFields) (froms : List ℕ) → AreCountsWithin ss froms
     → length ss ≤ length froms
 within-long [] froms within = omega arith
 within-long (s ∷ ss) [] within = absurd within
 within-long (s ∷ ss) (from ∷ froms) within = omega (arith, within-long ss froms within.1)
 
--- the next one, in the first of the places that are left
+-- the next input, in the first of the places that are left
 module _ {class : ClassFields} {key output : List ℕ} {whole : List ℕ → List Frame}
     {begun now : Writing} {first files : Files} {names later : List (List ℕ)}
     {ss behind : List SurveyFields} {froms others : List ℕ} {placed left : List Placed}
@@ -209,7 +211,7 @@ module _ {class : ClassFields} {key output : List ℕ} {whole : List ℕ → Lis
       (from ∷ others) left
   here = rw (names-are, ss-are, froms-are, left-is) at laid
 
-  -- it is there, and has its survey
+  -- the input is there, and has its survey
   pub next-source : IsSource output files name s
   next-source =
       let sofar = here.lays.lays in
@@ -218,11 +220,11 @@ module _ {class : ClassFields} {key output : List ℕ} {whole : List ℕ → Lis
       let names = name ∷ later in
       (sources-beside class output first files names (s ∷ behind) touches here.sources).0.0
 
-  -- it has the class of those before it
+  -- the input has the class of those before it
   pub next-class : now.held.class ≡ s.class
   next-class = here.class_is ∙ sym here.sources.0.1
 
-  -- it fits in its places, and the others in those behind them
+  -- the input fits in its places, and the others fit in the places after them
   pub next-within : from ≤ length s.frames
   next-within = here.within.0
 
@@ -256,7 +258,7 @@ module _ {class : ClassFields} {key output : List ℕ} {whole : List ℕ → Lis
       ∙ sym (here.lays.left file holds)
 
   module _ (apart : key ≢ output) (after : Files) where
-    -- where the files are told, the input is
+    -- where the contents of the files are known, the content of this input is
     told : (file : List ℕ) → Holds files key file → Holds files name bytes
     told file holds =
         let sofar = here.lays.lays in
@@ -265,7 +267,7 @@ module _ {class : ClassFields} {key output : List ℕ} {whole : List ℕ → Lis
         input_holds first files name output sofar.passed bytes source.apart sofar.files
         (source-holds first key file name s begun source)
 
-    -- laid in its places it is one input more
+    -- when it was laid in its places, one more input was laid
     pub next-laid : (new : Writing) (more : List Placed) → drop count left ≡ more
         → LaysFrames name output (frames_behind from s left) now new files after
         → new.held.class ≡ s.class
@@ -295,7 +297,7 @@ module _ {class : ClassFields} {key output : List ℕ} {whole : List ℕ → Lis
           };
         })
 
-    -- a part of it is a part of all
+    -- a prefix of its bytes, after those before it, is a prefix of all bytes
     pub next-part : {fault : PassFault}
         → LaysPart name output (frames_behind from s left)
         (reach_behind (reach_of now.held) from s left) now files after fault
@@ -326,7 +328,7 @@ module _ {class : ClassFields} {key output : List ℕ} {whole : List ℕ → Lis
               })),
         )
 
--- ---- why it ends early
+-- ---- why the pass ends early
 
 -- an input is named by its place
 pub cause-named : (names : List (List ℕ)) (place : ℕ) (name output : List ℕ) (rest : List (List ℕ))

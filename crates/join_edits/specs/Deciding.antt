@@ -1,4 +1,4 @@
--- What becomes of inputs whose heads are set apart, one after the other.
+-- Deciding what becomes of inputs whose heads are set apart, in order.
 use Rattle.std.specs.List.{AllZip}
 use Rattle.std.specs.Prelude.{drop, length, List, map, Option, slice_get, Some, take, unwrap_or, ℕ}
 use Rattle.std.specs.Prelude.{[], ◌+◌, ◌<◌, ◌∷◌, ◌≡◌, ◌≤◌}
@@ -21,9 +21,9 @@ use Rattle.seam_plan.specs.declared.run.{Joint.Joint as CodeJoint, Run.Run}
 use Rattle.slot_plan.specs.{FreeBytes.FitsBehind, Parts.AreNeedsOfClass, declared.needs.Need.Need}
 use Rattle.sync_survey.specs.Faults.{SurveyFields}
 
--- ---- what they bring
+-- ---- what inputs bring
 
--- what an input brings, by its survey, whose head is set apart, and by how it begins
+-- what an input brings, given its survey, whose head is set apart, and how it begins
 abbrev pub brought_of : List ℕ → SurveyFields → Beginning → Brought
 brought_of file s b = record {
   frames = run_frames (whole_part file s);
@@ -42,11 +42,11 @@ broughts_in f _ _ _ = []
 abbrev pub input_needs : SurveyFields → List Need
 input_needs s = map need_of s.frames
 
--- its frames fit behind no bytes, since its head is set apart
+-- its frames fit after 0 free bytes, since its head is set apart
 abbrev pub FitsAlone : SurveyFields → Type 0
 FitsAlone s = FitsBehind (window_of s.class.version) 0 (input_needs s)
 
--- so the frames of each input fit
+-- the frames of each input fit after 0 free bytes
 abbrev pub FitAlone : List SurveyFields → Type 0
 FitAlone [] = Unit {0}
 FitAlone (s ∷ ss) = FitsAlone s × FitAlone ss
@@ -58,13 +58,13 @@ pub record CanBeginRun (s : SurveyFields) : Type 0 where
   pub same : AreNeedsOfClass s.class (input_needs s)
   pub fits : FitsAlone s
 
--- this is what such an input brings, but for the sounds of its frames
+-- what such an input brings, except for the sounds of its frames
 pub record BringsNeeds (s : SurveyFields) (b : Beginning) (brought : Brought) : Type 0 where
   pub needs : needs_of brought.frames ≡ input_needs s
   pub blank : brought.blank ≡ b.blank
   pub played : brought.played ≡ counted_positions b.head s.class (length s.frames)
 
--- the run has all frames of the input
+-- the run consists of all frames of the input
 pub record HasBegunRun (s : SurveyFields) (b : Beginning) (d : Deciding) : Type 0 where
   pub run : (first : Brought) → BringsNeeds s b first
       → IsRun s.class first.frames (frame_places 0 0 (length first.frames)) first d.run
@@ -80,11 +80,10 @@ pub record CanBeDecided (files : Files) (names : List (List ℕ)) (ss : List Sur
   pub fit : FitAlone ss
   pub begun : length bs ≡ length ss
 
--- ---- the next of them
+-- ---- the next input
 
--- The run has these frames, which are at these places, all of them
--- of inputs before the one with this number; and this is what the
--- input with this number brings, but for the sounds of its frames.
+-- The run has these frames, at these places, all of them in inputs before the one with this number;
+-- and this is what the input with this number brings, except for the sounds of its frames.
 pub record IsNextInput (ss : List SurveyFields) (number : ℕ) (run : Run)
     (input : Input) : Type 0 where
   pub survey : SurveyFields
@@ -99,7 +98,7 @@ pub record IsNextInput (ss : List SurveyFields) (number : ℕ) (run : Run)
   pub is_run : IsRun class frames places before run
   pub at : AreFramePlaces ss places
 
--- Where the inputs are told, these are the frames that it shares, if they are alike.
+-- if the inputs' contents are known, the frames that it shares, provided they are alike
 abbrev pub IsSharedOverlap : Files → List (List ℕ) → List SurveyFields → ℕ → Run → Input
     → Option Overlap → Type 0
 IsSharedOverlap files names ss number run input alike =
@@ -112,7 +111,7 @@ IsSharedOverlap files names ss number run input alike =
 
 -- ---- what is decided so far
 
--- the same needs, each in its own slot or in another
+-- the same needs, except that each may be in another slot
 abbrev pub AreMovedNeeds : List Need → List Need → Type 0
 AreMovedNeeds needs others =
     AllZip (λ (n m : Need). (n.bytes ≡ m.bytes)
@@ -122,12 +121,12 @@ AreMovedNeeds needs others =
 abbrev pub left_out_counts : List CodeJoint → List ℕ
 left_out_counts joints = map (λ (j : CodeJoint). left_out_count j.seam) joints
 
--- the last of them
+-- what the last input brings
 abbrev pub last_brought : Brought → List Brought → Brought
 last_brought first [] = first
 last_brought first (b ∷ others) = last_brought b others
 
--- this became of what these inputs bring
+-- what became of these inputs, given what they bring
 pub record IsDecidedTo (class : ClassFields) (brought : List Brought) (lists : List (List RunFrame))
     (frames : List RunFrame)
     (places : List FramePlace) (before : Brought) (joints : List CodeJoint) : Type 0 where
@@ -139,8 +138,8 @@ pub record IsDecidedTo (class : ClassFields) (brought : List Brought) (lists : L
   pub joints_are : AllZip IsJoint (joints_of class first others) joints
   pub sounds : map (sound_at lists) places ≡ map (λ (x : RunFrame). x.sound) frames
 
--- The first inputs, so many, are decided. What their frames need is
--- known, in the slots in which they joined, and the run has them.
+-- The first `count` inputs are decided: the needs of their frames are known, in the slots in which
+-- they joined, and the run has them.
 pub record IsDecidingTo (files : Files) (names : List (List ℕ)) (ss : List SurveyFields)
     (bs : List Beginning) (count : ℕ)
     (d : Deciding) : Type 0 where
@@ -165,7 +164,7 @@ pub record IsDecidingTo (files : Files) (names : List (List ℕ)) (ss : List Sur
       IsDecidedTo class (take count (broughts_in f names ss bs))
       (all_run_frames f names ss) frames places before d.joints.items)
 
--- ---- what is decided of all
+-- ---- the whole decision
 
 -- how many frames are left out at the front of each input
 abbrev pub left_out_of : Decided → List ℕ
@@ -175,8 +174,8 @@ left_out_of d = d.front ∷ left_out_counts d.joints.items
 abbrev pub run_needs : Decided → List Need
 run_needs d = drop d.front d.needs.items
 
--- The run can be planned: its frames are those of the inputs but
--- for those that are left out, in their own slots or in others.
+-- The run can be planned: its frames are the inputs' frames except for those left out, each in its
+-- own slot or in another.
 pub record IsRunnable (ss : List SurveyFields) (d : Decided) : Type 0 where
   pub class : ClassFields
   pub class_is : class_of_first ss ≡ Some class
@@ -189,18 +188,18 @@ pub record IsRunnable (ss : List SurveyFields) (d : Decided) : Type 0 where
   pub fits : FitsBehind (window_of class.version) (window_of class.version) (run_needs d)
   pub moved : AreMovedNeeds (run_needs d) (needs_of_parts (rest_rows ss (left_out_of d)))
 
--- this became of them
+-- what became of the inputs, given what the first brings
 pub record IsJoined (first : Brought) (joined : SeamlessJoin) (d : Decided) : Type 0 where
   pub front : d.front ≡ joined.front
   pub joints : AllZip IsJoint joined.joints d.joints.items
   pub needs : d.needs.items ≡ needs_of (run_with first joined.joints)
 
--- this became of the inputs in a list, the first of which begins the run
+-- what became of the inputs in a list, the first of which begins the run
 abbrev pub IsJoinedOf : ClassFields → List Brought → Decided → Type 0
 IsJoinedOf class [] d = ⊥
 IsJoinedOf class (first ∷ others) d = IsJoined first (seamless_join class first others) d
 
--- the run can be planned, and where the inputs are told, it is theirs
+-- the run can be planned, and where the inputs' contents are known, it is the join of them
 pub record IsRunDecided (files : Files) (names : List (List ℕ)) (ss : List SurveyFields)
     (bs : List Beginning) (d : Decided) : Type 0 where
   pub run : IsRunnable ss d

@@ -1,4 +1,4 @@
--- The surveys of the inputs, as they are made one after the other.
+-- The surveys of the inputs, made in order.
 use Rattle.std.specs.Prelude.{Err, length, List, map, None, Ok, Option, Some, true, unwrap_or, ℕ}
 use Rattle.std.specs.Prelude.{[], ◌+◌, ◌-◌, ◌<◌, ◌∷◌, ◌≡◌, ◌≢◌, ◌≤◌}
 use Rattle.commands.specs.{AfterCall.{by_why, no_cause, why_of}, FaultKinds.HasRightNumbers}
@@ -16,7 +16,7 @@ use Rattle.sync_survey.specs.declared.survey_fault.SurveyFault.TheVariants.{Memo
 
 -- ---- one input
 
--- an input is there and has a frame, and this is its survey, where `allowed` frames are allowed
+-- an input is there and has a frame, and this is its survey, which allows `allowed` frames
 pub record IsJoinInput (allowed : ℕ) (files : Files) (name : List ℕ)
     (s : SurveyFields) : Type 0 where
   pub there : IsFileThere files name
@@ -26,12 +26,12 @@ pub record IsJoinInput (allowed : ℕ) (files : Files) (name : List ℕ)
   pub few : length s.frames ≤ allowed
   pub octets : HoldsOctets name files
 
--- where the files are told, an input gives this refusal
+-- where the contents of the files are known, an input gives this refusal
 abbrev pub GivesFault : ℕ → Option ClassFields → ℕ → List ℕ → Files → EditFault → Type 0
 GivesFault place first allowed name files fault =
     IfTold files (λ f. join_part place first allowed (f name) ≡ Err fault)
 
--- what the fault of an input says of its cause
+-- what the fault of an input says about its cause
 abbrev pub IsPartFault : ℕ → Option ClassFields → ℕ → List ℕ → Seen → Seen → EditFault → Type 0
 IsPartFault place first allowed name old new fault = by_why
     (record no_cause {
@@ -44,8 +44,8 @@ IsPartFault place first allowed name old new fault = by_why
     })
     (why_of fault)
 
--- the fault is one of `count` inputs, of the output, or
--- want of memory; the class of the first input can't differ
+-- the fault is one of `count` inputs, of the output, or out of memory; the class of the first input
+-- can't differ
 abbrev pub HasJoinNumbers : ℕ → EditFault → Type 0
 HasJoinNumbers count (Input place fault) =
     (place < count) × (fault ≢ NoRoom) × HasRightNumbers fault
@@ -56,13 +56,13 @@ HasJoinNumbers count _ = ⊥
 
 -- ---- all inputs
 
--- the class is that of the first, where there is one
+-- the class is the first input's class, if there is one
 abbrev pub HasClassOfFirst : Option ClassFields → ClassFields → Type 0
 HasClassOfFirst None class = Unit {0}
 HasClassOfFirst (Some first) class = class ≡ first
 
--- each is there with its survey, is of the class of the
--- first, and has no more frames than those before it leave
+-- each is there with its survey, is of the class of the first, and has no more frames than those
+-- before it leave
 abbrev pub AreJoinInputs : Option ClassFields → ℕ → Files → List (List ℕ) → List SurveyFields
     → Type 0
 AreJoinInputs first allowed files [] [] = Unit {0}
@@ -71,19 +71,19 @@ AreJoinInputs first allowed files (name ∷ names) (s ∷ ss) =
     × AreJoinInputs (Some (unwrap_or first s.class)) (allowed - length s.frames) files names ss
 AreJoinInputs first allowed files _ _ = ⊥
 
--- the class of the first of these
+-- the class of the first of these inputs, if there is one
 abbrev pub class_of_first : List SurveyFields → Option ClassFields
 class_of_first [] = None
 class_of_first (s ∷ ss) = Some s.class
 
--- how many frames they have
+-- how many frames these inputs have together
 unfoldable pub frames_together : List SurveyFields → ℕ
 frames_together [] = 0
 frames_together (s ∷ ss) = length s.frames + frames_together ss
 
--- ---- what they are as parts
+-- ---- inputs as parts
 
--- the frames of each
+-- the frames of each input
 abbrev pub survey_rows : List SurveyFields → List (List Row)
 survey_rows ss = map (λ (s : SurveyFields). s.frames) ss
 
@@ -93,7 +93,8 @@ AreInputsOfClass class [] = Unit {0}
 AreInputsOfClass class (s ∷ ss) =
     (0 < length s.frames) × IsSurveyLaidOut s × (s.class ≡ class) × AreInputsOfClass class ss
 
--- there are some, of one class, with no more frames than may be planned at once
+-- there is at least one input, all are of one class, and they have no more frames than may be
+-- planned at once
 pub record CanInputsBeJoined (ss : List SurveyFields) : Type 0 where
   pub class : ClassFields
   pub first : class_of_first ss ≡ Some class
@@ -107,11 +108,11 @@ parts_in files (name ∷ names) (s ∷ ss) =
     whole_part (unwrap_or (files name) []) s ∷ parts_in files names ss
 parts_in files _ _ = []
 
--- what the folder tells of each name; nothing where it doesn't tell its files
+-- the content of each name; nothing where the contents of the folder aren't known
 abbrev pub told_contents : Files → Contents
 told_contents (Told files) = files
 told_contents (Untold touched) = λ name. None
 
--- the same parts by what the folder tells
+-- the same parts, with the contents that the folder has
 abbrev pub told_parts : Files → List (List ℕ) → List SurveyFields → List FilePart
 told_parts files names ss = parts_in (told_contents files) names ss

@@ -1,4 +1,4 @@
--- One file of all frames of several.
+-- One file of all frames of several files.
 use Rattle.std.specs.Prelude.{Bool, Err, false, flat_map, if◌then◌else◌, length, List, map, nat_lt}
 use Rattle.std.specs.Prelude.{None, Ok, Option, Result, slice_get, Some, true, unwrap_or, ℕ, []}
 use Rattle.std.specs.Prelude.{◌&&◌, ◌+◌, ◌-◌, ◌∷◌}
@@ -22,22 +22,22 @@ use Rattle.sync_survey.specs.declared.survey_fault.SurveyFault.{SurveyFault, The
 abbrev pub whole_part : List ℕ → SurveyFields → FilePart
 whole_part file s = record { file = file; survey = s; from = 0; to = length s.frames }
 
--- an input of this class may follow: any where there is
--- no input before it, else one of the first input's class
+-- an input of this class may follow: any if there is no input before it, otherwise one of the first
+-- input's class
 abbrev pub may_join : Option ClassFields → ClassFields → Bool
 may_join None class = true
 may_join (Some first) class = same_class class first
 
--- all frames of the input with this number, by its survey, or why it is refused
+-- all frames of the input with this number, given its survey, or why it is refused
 abbrev pub surveyed_part : ℕ → Option ClassFields → List ℕ → Result SurveyFields SurveyFault
     → Result FilePart EditFault
 surveyed_part place first file (Err fault) = Err (Input place fault)
 surveyed_part place first file (Ok s) =
     if may_join first s.class then Ok (whole_part file s) else Err (Refused (Differ place))
 
--- All frames of the input with this number, counted from 0, of which `allowed`
--- frames are allowed. It is refused where it isn't there, or else is at fault,
--- or else its frames are of another class than those of the first.
+-- All frames of the input with this number, counted from 0, which may have `allowed` frames. It is
+-- refused if it isn't there, then if it has a fault, and then if its frames are of another class
+-- than the first input's.
 abbrev pub join_part : ℕ → Option ClassFields → ℕ → Option (List ℕ) → Result FilePart EditFault
 join_part place first allowed None = Err (Input place Absent)
 join_part place first allowed (Some file) = surveyed_part place first file (survey_of file allowed)
@@ -51,14 +51,14 @@ join_parts_from place first allowed files (name ∷ names) =
     (λ part. then_made (join_parts_from (place + 1) (Some (unwrap_or first part.survey.class))
     (allowed - length part.survey.frames) files names) (λ parts. Ok (part ∷ parts)))
 
--- the inputs of these names, or the first refusal
+-- the inputs with these names, or the first refusal
 abbrev pub join_parts : Contents → List (List ℕ) → Result (List FilePart) EditFault
 join_parts files names = join_parts_from 0 None most_frames files names
 
--- ---- the file of them
+-- ---- the joined file
 
--- the slots of their plan: of all lists of their own slots the first for
--- which there is a layout, with the lead-in that each part has alone
+-- The slots of their plan: of all lists of the frames' own slots the first for which there is a
+-- layout, with the lead-in that each part has alone.
 abbrev pub joined_plan : ClassFields → List FilePart → List Placed
 joined_plan class parts = least_plan (window_of class.version) own_choice (map part_needs parts)
 
@@ -89,7 +89,7 @@ joined_stream (part ∷ parts) =
 
 -- ---- the command
 
--- that of the inputs; empty where they are refused
+-- the stream of the inputs; empty if they are refused
 abbrev pub join_stream : Result (List FilePart) EditFault → List StreamFrame
 join_stream (Err fault) = []
 join_stream (Ok parts) = joined_stream parts
@@ -99,7 +99,7 @@ abbrev pub join_refuses : ℕ → Refusal → Bool
 join_refuses count (Differ place) = nat_lt 0 place && nat_lt place count
 join_refuses count _ = false
 
--- what is made is the file of all frames of the inputs
+-- it makes the file of all frames of the inputs
 abbrev pub join_task : List (List ℕ) → Task
 join_task inputs = record {
   source = first_input inputs;
@@ -110,6 +110,6 @@ join_task inputs = record {
   refuses = join_refuses (length inputs);
 }
 
--- all frames of the inputs, one input after the other, are the output
+-- the output is all frames of the inputs, joined in order
 abbrev pub join_command : List ℕ → List (List ℕ) → Command
 join_command output inputs = one_command (join_task inputs) output

@@ -1,5 +1,4 @@
 -- The second pass over the inputs of a join.
--- The second pass over the inputs.
 use Rattle.std.specs.List.{AllZip}
 use Rattle.std.specs.Prelude.{drop, IfErr, IfSome, length, List, map, None, OnOk, Option, Result}
 use Rattle.std.specs.Prelude.{slice_get, slice_index_or, Some, ℕ, [], ◌<◌, ◌∷◌, ◌≡◌, ◌≢◌}
@@ -24,12 +23,12 @@ abbrev pub window_for : Option ClassFields → ℕ
 window_for None = 0
 window_for (Some class) = window_of class.version
 
--- the slots of the plan of all frames of these
+-- the slots of the plan of all frames of these inputs
 unfoldable pub least_plan_of : List SurveyFields → List Placed
 least_plan_of ss =
     least_plan (window_for (class_of_first ss)) own_choice (map (map need_of) (survey_rows ss))
 
--- it can be written frame by frame
+-- the plan can be written frame by frame
 abbrev pub FitsAll : List SurveyFields → List Placed → Type 0
 FitsAll ss placed =
     FitsFromReach (window_for (class_of_first ss)) 0 (needs_of_parts (survey_rows ss)) placed
@@ -56,7 +55,7 @@ pub record IsJoinReady (ss : List SurveyFields) (work : JoinWork) : Type 0 where
 
 -- ---- the inputs
 
--- an input of another name than the output is there, and the survey tells of its frames
+-- an input with another name than the output is there, and its frames are as the survey says
 pub record IsSource (output : List ℕ) (files : Files) (name : List ℕ)
     (s : SurveyFields) : Type 0 where
   pub apart : name ≢ output
@@ -64,13 +63,13 @@ pub record IsSource (output : List ℕ) (files : Files) (name : List ℕ)
   pub exact : (file : List ℕ) → Holds files name file → CanBeRelaid file s
   pub laid : IsSurveyLaidOut s
 
--- so is each of these, and its frames are of this class
+-- each of these is such an input, and its frames are of this class
 abbrev pub AreSources : ClassFields → List ℕ → Files → List (List ℕ) → List SurveyFields → Type 0
 AreSources class output files names ss =
     AllZip (λ name s. IsSource output files name s × (s.class ≡ class)) names ss
 
--- The inputs are joined: this pass is over the first of them, whose
--- survey is the first, and writes another file that is there.
+-- The inputs are joined: this pass is over the first of them, with the first survey, and writes
+-- another file that is there.
 pub record IsJoinPass (first : Relay) (inputs : List (List ℕ)) (surveys : List SurveyFields)
     (files : Files) : Type 0 where
   pub names : inputs ≡ first.pass.input.now ∷ drop 1 inputs
@@ -81,7 +80,7 @@ pub record IsJoinPass (first : Relay) (inputs : List (List ℕ)) (surveys : List
       (survey_view first.survey.now).class first.pass.output.now files inputs surveys
   pub target : IsFileThere files first.pass.output.now
 
--- ---- why it ends early
+-- ---- why the pass ends early
 
 -- the pass over one of these inputs ended early, for this cause
 pub record HasJoinCause (inputs : List (List ℕ)) (output : List ℕ) (files : Files)
@@ -91,9 +90,10 @@ pub record HasJoinCause (inputs : List (List ℕ)) (output : List ℕ) (files : 
   pub cause : HasPassCause
       (route (slice_index_or inputs stopped.place []) output size) files before after stopped.fault
 
--- ---- what a step answers
+-- ---- what a step returns
 
--- What is made of the inputs was added to what waits for the output, or only a prefix was appended.
+-- The bytes made from the inputs were added to what waits for the output, or only a prefix was
+-- appended.
 pub record AddsJoined (first : Relay) (inputs : List (List ℕ)) (made : List ℕ → List ℕ)
     (before after : List ℕ) (old new : Seen) (result : Result (Unit {0}) Stopped) : Type 0 where
   pub written : OnOk result (WritesMadeBytes first.pass made before after old.files new.files)
@@ -103,7 +103,7 @@ pub record AddsJoined (first : Relay) (inputs : List (List ℕ)) (made : List �
   pub cause : IfErr result
       (HasJoinCause inputs first.pass.output.now old.files old.counts new.counts)
 
--- What is made of the inputs was appended to the output, or only a prefix.
+-- The bytes made from the inputs were appended to the output, or only a prefix.
 pub record AppendsJoined (first : Relay) (inputs : List (List ℕ)) (made : List ℕ → List ℕ)
     (old new : Seen) (result : Result (Unit {0}) Stopped) : Type 0 where
   pub written : OnOk result

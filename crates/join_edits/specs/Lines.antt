@@ -1,4 +1,4 @@
--- The lines that say what became of each input after the first.
+-- The lines that say what becomes of each input after the first.
 use Rattle.std.specs.Prelude.{flat_map, List, zip, ℕ}
 use Rattle.join_edits.specs.Seamless.{seam_line}
 use Rattle.seam_plan.specs.declared.run.Joint.{Joint}

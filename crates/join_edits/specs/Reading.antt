@@ -34,8 +34,8 @@ pub record ReadsInput {T : Type 0} (source : Source) (old new : Seen)
       (survey_view source.survey.now).length old.files old.counts new.counts)
   pub read : IfErr result IsReadPassFault
 
--- The area of a frame with this header, which begins at this offset, is
--- behind what the window held. If the input is told, it is the one in it.
+-- The area of a frame with this header, at this offset, comes after what the window held. If the
+-- input's content is known, it is the area in the input.
 pub record ReadsArea (input : List ℕ) (files : Files) (offset : ℕ) (h : HeaderFields)
     (old new : List ℕ) : Type 0 where
   pub area : List ℕ
@@ -43,7 +43,7 @@ pub record ReadsArea (input : List ℕ) (files : Files) (offset : ℕ) (h : Head
   pub is : (file : List ℕ) → Holds files input file → area ≡ area_bytes file offset h
   pub over : (main : List ℕ) → IsWindowOver old main → IsWindowOver new (main ++ area)
 
--- these are the main data of frame i, if the input is told
+-- the main data of frame i, if the input's content is known
 abbrev pub IsMainDataOf : List ℕ → Files → SurveyFields → ℕ → List ℕ → Type 0
 IsMainDataOf input files s i bytes =
     (file : List ℕ) → Holds files input file → (r : Row) → slice_get s.frames i ≡ Some r
@@ -51,11 +51,11 @@ IsMainDataOf input files s i bytes =
 
 -- ---- all inputs
 
--- so much is known of each of the inputs
+-- each of the inputs is there, with a survey by which its frames can be read
 abbrev pub AreHeld : Files → List (List ℕ) → List SurveyFields → Type 0
 AreHeld files names ss = AllZip (IsHeld files) names ss
 
--- ---- why they can't be read
+-- ---- why the inputs can't be read
 
 -- the pass over this input ended early, for this cause
 pub record StopsAtInput (place : ℕ) (name : List ℕ) (files : Files) (before after : Counts)
@@ -65,14 +65,14 @@ pub record StopsAtInput (place : ℕ) (name : List ℕ) (files : Files) (before 
   pub cause : HasInputCause name size files before after stopped.fault
   pub read : IsReadPassFault stopped.fault
 
--- the pass over one of these inputs did
+-- the pass over one of these inputs ended early, for this cause
 pub record StopsAmongInputs (inputs : List (List ℕ)) (files : Files) (before after : Counts)
     (stopped : Stopped) : Type 0 where
   pub within : stopped.place < length inputs
   pub stops : StopsAtInput stopped.place (slice_index_or inputs stopped.place []) files before after
       stopped
 
--- one of the inputs could not be read or became shorter, or there was no memory
+-- one of the inputs could not be read
 pub record ReadsNone (inputs : List (List ℕ)) (old new : Seen) (fault : EditFault) : Type 0 where
   pub place : ℕ
   pub within : place < length inputs
@@ -84,7 +84,7 @@ pub record LosesOne (inputs : List (List ℕ)) (old new : Seen) (fault : EditFau
   pub within : place < length inputs
   pub loses : LosesInput place (slice_index_or inputs place []) old new fault
 
--- this fault is one of these, or that there was no memory
+-- one of the inputs could not be read or became shorter, or memory ran out
 abbrev pub IsInputReadFault : List (List ℕ) → Seen → Seen → EditFault → Type 0
 IsInputReadFault inputs old new fault = by_why
     (record no_cause {

@@ -1,4 +1,4 @@
--- The frames of inputs from one on: those at the front of each that are left out aren't written.
+-- The frames of inputs from one on: those left out at the front of each aren't written.
 use Rattle.std.specs.List.{concat}
 use Rattle.std.specs.Prelude.{flat_map, length, List, slice_range, Some, unwrap_or, ℕ, [], ◌++◌}
 use Rattle.std.specs.Prelude.{◌∷◌, ◌≡◌, ◌≤◌}
@@ -20,28 +20,28 @@ rest_part from file s = record { file = file; survey = s; from = from; to = leng
 
 -- ---- all inputs
 
--- there is a number for each, and it has so many frames
+-- for each input there is a number, and the input has at least this many frames
 abbrev pub AreCountsWithin : List SurveyFields → List ℕ → Type 0
 AreCountsWithin [] froms = Unit {0}
 AreCountsWithin (s ∷ ss) [] = ⊥
 AreCountsWithin (s ∷ ss) (from ∷ froms) = (from ≤ length s.frames) × AreCountsWithin ss froms
 
--- the frames from these on
+-- the frames of each input from the one with the given number on
 unfoldable pub rest_rows : List SurveyFields → List ℕ → List (List Row)
 rest_rows (s ∷ ss) (from ∷ froms) = slice_range s.frames from (length s.frames) ∷ rest_rows ss froms
 rest_rows _ _ = []
 
--- the inputs as parts, each from its frame on
+-- the inputs as parts, each from the frame with the given number on
 unfoldable pub rest_parts : Contents → List (List ℕ) → List SurveyFields → List ℕ → List FilePart
 rest_parts files (name ∷ names) (s ∷ ss) (from ∷ froms) =
     rest_part from (unwrap_or (files name) []) s ∷ rest_parts files names ss froms
 rest_parts files _ _ _ = []
 
--- the same by what the folder tells
+-- the same parts, with the contents that the folder has
 abbrev pub told_rest_parts : Files → List (List ℕ) → List SurveyFields → List ℕ → List FilePart
 told_rest_parts files names ss froms = rest_parts (told_contents files) names ss froms
 
--- the frames in the slots of a plan, by what the folder tells
+-- the frames in the slots of a plan, with the contents that the folder has
 abbrev pub placed_rest_frames : Files → List (List ℕ) → List SurveyFields → List ℕ → List Placed
     → List ℕ → List Frame
 placed_rest_frames files names ss froms placed _ =
@@ -61,7 +61,7 @@ join_bytes files names ss froms work file =
     (first_front_bytes file ss ++ work.info.items)
     ++ bytes_of_frames (placed_rest_frames files names ss froms (entries work.plan) file)
 
--- it can be written frame by frame, and the buffers are for frames of this class
+-- the plan can be written frame by frame, and the buffers are for frames of this class
 pub record FitsWork (class : ClassFields) (ss : List SurveyFields) (froms : List ℕ)
     (work : JoinWork)
     : Type 0 where
@@ -70,7 +70,7 @@ pub record FitsWork (class : ClassFields) (ss : List SurveyFields) (froms : List
       (entries work.plan)
   pub fresh : IsRelayFresh class work.buffers
 
--- the inputs are there, and so it is of them
+-- the inputs are there, and their frames can be written by the prepared plan
 pub record CanJoinBeWritten (output : List ℕ) (files : Files) (names : List (List ℕ))
     (ss : List SurveyFields) (froms : List ℕ) (work : JoinWork) : Type 0 where
   pub class : ClassFields

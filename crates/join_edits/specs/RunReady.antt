@@ -12,20 +12,20 @@ use Rattle.slot_plan.specs.{LeastPlan.least_plan, Plans.entries, declared.needs.
 use Rattle.slot_plan.specs.declared.needs.Placed.{Placed}
 use Rattle.sync_survey.specs.{Faults.SurveyFields, Row.Row}
 
--- the plan of a run whose frames need this: it is one part, and each frame keeps its slot
+-- the plan of a run with these needs: it is one part, and each frame keeps its slot
 abbrev pub plan_of_run_needs : ℕ → List Need → List Placed
 plan_of_run_needs window needs = least_plan window own_choice (needs ∷ [])
 
--- so many frames are left out at its front, and it has so many lead-ins
+-- how many frames are left out at the front of the run, and how many lead-ins it has
 abbrev pub moved_of : Decided → List Placed → Moved
 moved_of d placed = record { left_out = d.front; lead_ins = length placed - length (run_needs d) }
 
--- the class of the first input, and how many frames the first and the last have
+-- how many frames the last input has
 abbrev pub last_length : SurveyFields → List SurveyFields → ℕ
 last_length s [] = length s.frames
 last_length s (t ∷ ss) = last_length t ss
 
--- these are the ends of these inputs
+-- the class of the inputs, and how many frames the first and the last have
 abbrev pub AreEnds : List SurveyFields → Ends → Type 0
 AreEnds [] ends = ⊥
 AreEnds (s ∷ ss) ends =

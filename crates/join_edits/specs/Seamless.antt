@@ -1,5 +1,5 @@
--- One file of the frames of several, without seams, which `join --seamless` writes: the frames that
--- only a piece needs are left out, and what is before an input serves as its bit reservoir. In
+-- One file of the frames of several files, without seams, which `join --seamless` writes: frames
+-- that only a piece needs are left out, and the run before an input serves as its bit reservoir. In
 -- every input the head is set apart, so none of its frames has main data that begin in it.
 use Rattle.std.specs.List.{concat, list_all}
 use Rattle.std.specs.Prelude.{Bool, bytes_eq, codes, decimal, drop, Err, false, flat_map}
@@ -32,17 +32,17 @@ use Rattle.sync_survey.specs.{MainData.StreamFrame, Row.Row}
 
 -- ---- what an input brings
 
--- the part of the survey whose head is set apart
+-- the part with its survey's head set apart
 abbrev pub part_without_head : FilePart → FilePart
 part_without_head p = record p { survey = survey_without_head p.survey }
 
--- without its gains
+-- the side information without its gains
 abbrev pub without_gains : Side → Side
 without_gains s =
     record s { granules = map (map (λ (g : Granule). record g { global_gain = 0 })) s.granules }
 
--- The sound of a frame of a stream of this class: its header, its side information
--- without the gains, and its main data. Two frames are alike where these are the same.
+-- The sound of a frame of a stream of this class: its header, its side information without the
+-- gains, and its main data. Two frames are alike if their sounds are the same.
 abbrev pub sound_of : ClassFields → StreamFrame → List ℕ
 sound_of class f =
     header_bits f.header ++ (side_bits class (without_gains f.side) ++ concat f.payload)
@@ -55,11 +55,11 @@ run_frame class f = record { need = need_of f.0; sound = sound_of class f.1 }
 abbrev pub run_frames : FilePart → List RunFrame
 run_frames p = map (run_frame p.survey.class) (zip (part_rows p) (part_stream p))
 
--- all bits of its side information are 0
+-- all bits of the frame's side information are 0
 abbrev pub is_side_blank : Row → Bool
 is_side_blank r = list_all (λ bit. bit == 0) (side_bits (class_of r.header) r.side)
 
--- those of the first of these frames are, as it is in the file
+-- all bits of the side information of the first of these frames are 0, as it is in the file
 abbrev pub begins_blank : List Row → Bool
 begins_blank [] = false
 begins_blank (r ∷ rows) = is_side_blank r
@@ -83,7 +83,7 @@ abbrev pub join_of_parts : FilePart → List FilePart → SeamlessJoin
 join_of_parts first parts =
     seamless_join first.survey.class (part_brought first) (map part_brought parts)
 
--- the frames of an input that are written: all but so many at its front
+-- the frames of an input that are written: all but the first `from`
 abbrev pub part_from : ℕ → FilePart → FilePart
 part_from from p = record (part_without_head p) { from = from }
 
@@ -98,8 +98,8 @@ run_parts first parts =
     let joined = join_of_parts first parts in
     part_from joined.front first ∷ later_parts joined.joints parts
 
--- The slots of the plan of the run, which is one part: each frame keeps
--- its own, but the first of an input has the one in which it joined.
+-- The slots of the plan of the run, which is one part: each frame keeps its own, except that the
+-- first of an input has the one in which it joined.
 abbrev pub run_plan : FilePart → List FilePart → List Placed
 run_plan first parts =
     least_plan (window_of first.survey.class.version) own_choice
@@ -128,19 +128,19 @@ part_rest p =
     let frames = length p.survey.frames in
     rest_of p.survey.class frames (played_of (part_head p) p.survey.class frames)
 
--- The delay: that of the first input, with a lead-in more where
--- the run has one, and one less where that of the input left it.
+-- The delay: the delay of the first input, plus a frame for each lead-in of the run, and less a
+-- frame if the first input's lead-in was left out.
 abbrev pub seamless_delay : Played → FilePart → List FilePart → ℕ
 seamless_delay played first parts =
     let samples = samples_in first.survey.class in
     played.start + run_lead_ins first parts * samples - (join_of_parts first parts).front * samples
     - decoder_delay
 
--- the padding: that of the last input
+-- the padding: the padding of the last input
 abbrev pub seamless_padding : FilePart → List FilePart → ℕ
 seamless_padding first parts = part_rest (last_part first parts) + decoder_delay
 
--- delay and padding are written where the first head counts and the delay has 12 bits
+-- delay and padding are written if the first head counts and the delay has 12 bits
 abbrev pub delay_of_run : FilePart → List FilePart → Option ℕ
 delay_of_run first parts =
     option_and_then
@@ -150,30 +150,30 @@ delay_of_run first parts =
 
 -- ---- the Info frame
 
--- the bytes 11 to 18 of an extension, the peak and two gains
--- of ReplayGain, which are those of a whole song or album
+-- the bytes 11 to 18 of an extension: the peak and the two gains of ReplayGain, which are values of
+-- a whole song or album
 abbrev pub replay_gain : List ℕ → List ℕ
 replay_gain extension = take 8 (drop 11 extension)
 
--- what a head says of peak and gains; nothing where there is none
+-- what a head says of peak and gains; nothing if there is no head
 abbrev pub gain_of : Option Info → List ℕ
 gain_of None = []
 gain_of (Some head) = replay_gain head.extension
 
--- the head counts, and says this of peak and gains
+-- the head counts and has these values of peak and gains
 abbrev pub part_says_gain : List ℕ → FilePart → Bool
 part_says_gain gain p = is_some (part_brought p).played && bytes_eq (gain_of (part_head p)) gain
 
--- the extension with this delay: that of the first head, whose
--- peak and gains stay only where those of all inputs are the same
+-- the extension with this delay: the first head's extension, whose peak and gains stay only if the
+-- heads of all inputs have the same values
 abbrev pub run_extension : ℕ → FilePart → List FilePart → List ℕ
 run_extension delay first parts =
     let extension = extension_of (part_head first) delay (seamless_padding first parts) in
     if list_all (part_says_gain (replay_gain extension)) parts then extension
     else take 11 extension ++ (replicate 8 0 ++ drop 19 extension)
 
--- The fields of the Info frame: with numbers, the first head's quality and
--- this extension, with music length and tag CRC; else no quality, and all 0.
+-- The fields of the Info frame: with numbers, the first head's quality and this extension, with
+-- music length and tag CRC; otherwise no quality, and all 0.
 abbrev pub seamless_info : Option ℕ → Row → FilePart → List FilePart → Info
 seamless_info None row first parts =
     info_for first.survey.class (seamless_frames first parts) None (replicate 36 0)
@@ -199,8 +199,8 @@ seamless_file [] = []
 seamless_file (first ∷ parts) =
     seamless_row_file (slice_get first.survey.frames (join_of_parts first parts).front) first parts
 
--- its stream: at most one lead-in, and the frames of the
--- run as they are in the streams whose heads are set apart
+-- its stream: at most one lead-in, and the frames of the run as they are in the streams whose heads
+-- are set apart
 unfoldable pub seamless_stream : List FilePart → List StreamFrame
 seamless_stream [] = []
 seamless_stream (first ∷ parts) =
@@ -208,7 +208,7 @@ seamless_stream (first ∷ parts) =
 
 -- ---- the text
 
--- what a line says of a seam
+-- what a line says about a seam
 abbrev pub seam_text : Seam → List ℕ
 seam_text (Follows frames) = codes "follows, " ++ (decimal frames ++ codes " frames left out")
 seam_text LeadIn = codes "lead-in left out"
@@ -223,19 +223,19 @@ abbrev pub seam_lines : List (List ℕ) → List JointFrames → List ℕ
 seam_lines names joints =
     flat_map (λ (j : List ℕ × JointFrames). seam_line j.0 j.1.seam) (zip names joints)
 
--- the lines of these inputs
+-- the lines for these inputs
 unfoldable pub seamless_text : List (List ℕ) → List FilePart → List ℕ
 seamless_text names [] = []
 seamless_text names (first ∷ parts) = seam_lines (drop 1 names) (join_of_parts first parts).joints
 
 -- ---- the command
 
--- the stream of the inputs; empty where they are refused
+-- the stream of the inputs; empty if they are refused
 abbrev pub seamless_stream_or_none : Result (List FilePart) EditFault → List StreamFrame
 seamless_stream_or_none (Err fault) = []
 seamless_stream_or_none (Ok parts) = seamless_stream parts
 
--- the text of the inputs; empty where they are refused
+-- the text for the inputs; empty if they are refused
 abbrev pub seamless_text_or_none : List (List ℕ) → Result (List FilePart) EditFault → List ℕ
 seamless_text_or_none names (Err fault) = []
 seamless_text_or_none names (Ok parts) = seamless_text names parts

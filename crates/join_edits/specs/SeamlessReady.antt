@@ -1,4 +1,4 @@
--- What is made ready for a seamless join before its output is created.
+-- What is prepared for a seamless join before its output is created.
 use Rattle.std.specs.Prelude.{List, map, None, ℕ, [], ◌≡◌}
 use Rattle.commands.specs.SingleOutput.{most_frames}
 use Rattle.cut_edits.specs.Exact.{survey_without_head}
@@ -9,14 +9,14 @@ use Rattle.join_edits.specs.declared.seamless_file.Ready.{Ready}
 use Rattle.outside.specs.Files.{Files}
 use Rattle.sync_survey.specs.Faults.{survey_view, SurveyFields}
 
--- this was decided of inputs whose heads are set apart, and all is ready for the run and the text
+-- this was decided about inputs whose heads are set apart, and the run and the text are prepared
 pub record IsRunMade (files : Files) (names : List (List ℕ)) (ss : List SurveyFields)
     (bs : List Beginning) (made : MadeRun) : Type 0 where
   pub decided : IsRunDecided files names ss bs made.decided
   pub run : IsRunReady ss bs made.decided made.work
   pub unsaid : made.sending ≡ []
 
--- the inputs are there with their surveys, whose heads were set apart, and so it is of them
+-- the inputs are there with their surveys, the heads were set apart, and the run is prepared
 pub record IsSeamlessReady (names : List (List ℕ)) (files : Files) (ready : Ready) : Type 0 where
   pub ss : List SurveyFields
   pub bs : List Beginning

@@ -1,4 +1,4 @@
--- Frames of inputs by their places, and what is compared of them.
+-- Frames of inputs by their places, and what is compared when two may sound alike.
 use Rattle.std.specs.Prelude.{All, Bool, bytes_eq, length, List, None, Option, option_and_then}
 use Rattle.std.specs.Prelude.{slice_get, Some, unwrap_or, ℕ, [], ◌&&◌, ◌<◌, ◌∷◌, ◌≡◌}
 use Rattle.frame_header.specs.{Fields.{ClassFields, HeaderFields}, HeaderBits.header_bits}
@@ -19,18 +19,18 @@ without_slot h = record h { slot = no_slot }
 abbrev pub without_gain : Granule → Granule
 without_gain g = record g { global_gain = 0 }
 
--- without gains and main_data_begin
+-- side information without gains and main_data_begin
 abbrev pub compared_side : Side → Side
 compared_side s = without_gains (record s { main_data_begin = 0 })
 
--- header and side information are the same but for these and the slot
+-- header and side information are the same except for slot, gains and main_data_begin
 abbrev pub same_front : ClassFields → Row → Row → Bool
 same_front class r q =
     bytes_eq (header_bits (without_slot r.header)) (header_bits (without_slot q.header))
     && bytes_eq (side_bits class (compared_side (row_side r)))
     (side_bits class (compared_side (row_side q)))
 
--- ---- frames by their places
+-- ---- frames by place
 
 -- the row of this frame of an input, if there is one
 abbrev pub frame_row : ℕ → Option SurveyFields → Option Row
@@ -47,11 +47,11 @@ pub record IsFramePlace (ss : List SurveyFields) (place : FramePlace) : Type 0 w
   pub input : slice_get ss place.input ≡ Some survey
   pub frame : place.frame < length survey.frames
 
--- so it is with each of these places
+-- there is a frame at each of these places
 abbrev pub AreFramePlaces : List SurveyFields → List FramePlace → Type 0
 AreFramePlaces ss places = All (IsFramePlace ss) places
 
--- they are all of the first one's class
+-- all surveys are of this class
 abbrev pub AreSurveysOfClass : ClassFields → List SurveyFields → Type 0
 AreSurveysOfClass class ss = All (λ (s : SurveyFields). s.class ≡ class) ss
 
@@ -67,7 +67,7 @@ all_run_frames f (name ∷ names) (s ∷ ss) =
     run_frames (whole_part (unwrap_or (f name) []) s) ∷ all_run_frames f names ss
 all_run_frames f _ _ = []
 
--- the sound of a frame, or nothing where there is no frame
+-- the sound of a frame; nothing if there is no frame
 abbrev pub sound_of_frame : Option RunFrame → List ℕ
 sound_of_frame None = []
 sound_of_frame (Some frame) = frame.sound
@@ -82,18 +82,18 @@ sound_at lists place =
 abbrev pub same_sounds : List (List RunFrame) → FramePlace → FramePlace → Bool
 same_sounds lists p q = bytes_eq (sound_at lists p) (sound_at lists q)
 
--- the main data of the frame at this place
+-- the main data of frame `i`, given its row; nothing if there is no such row
 abbrev pub row_payload : List ℕ → ℕ → SurveyFields → Option Row → List ℕ
 row_payload file i s None = []
 row_payload file i s (Some r) = payload_of file s i r
 
--- the same, by the name and the survey of its input
+-- the main data of frame i, given the name and the survey of its input
 abbrev pub named_payload : Contents → ℕ → Option (List ℕ) → Option SurveyFields → List ℕ
 named_payload f i (Some name) (Some s) =
     row_payload (unwrap_or (f name) []) i s (slice_get s.frames i)
 named_payload f i _ _ = []
 
--- the same, by its place among all inputs
+-- the main data of a frame, given its place among all inputs
 abbrev pub payload_at_place : Contents → List (List ℕ) → List SurveyFields → FramePlace → List ℕ
 payload_at_place f names ss place =
     named_payload f place.frame (slice_get names place.input) (slice_get ss place.input)

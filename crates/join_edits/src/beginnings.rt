@@ -55,7 +55,8 @@ fn is_blank(row: &Row) -> bool
     are_zeros(bytes)
 }
 
-/// Whether those of the first of these frames are.
+/// Whether all bits of the side information of the first of these frames are 0; false if there is
+/// no frame.
 fn begins_blank(rows: &[Row]) -> bool
     ensures { result ≡ begins_blank rows.now }
 {
@@ -91,10 +92,11 @@ fn head_of<D: Folder>(
     }
 }
 
-/// How the inputs begin, one after the other. The files stay.
+/// How each input begins, in order. The files stay.
 ///
 /// # Errors
-/// `Input` with the number of an input and `Read` or `Shrunk`, where its head could not be read; `Memory`.
+/// `Input` with the number of an input and `Read` or `Shrunk`, if its head could not be read;
+/// `Memory`.
 pub(crate) fn beginnings_of<D: Folder>(
     alloc: Global,
     folder: &mut D,

@@ -41,7 +41,7 @@ fn needs_of(alloc: Global, survey: &Survey) -> Result<Parts, AllocError>
     Ok(parts)
 }
 
-/// What an input of this class brings whose frames need this.
+/// What an input of this class brings whose frames have these needs.
 fn brought<'a>(class: Class, needs: &'a [Need], beginning: &Beginning) -> Input<'a>
     requires { length needs.now ≤ most_frames }
     ensures needs { result.needs.now ≡ needs.now }
@@ -66,10 +66,11 @@ fn put_slot(slot: Slot, needs: &mut [Need])
     }
 }
 
-/// Adds what the frames of an input need that are left, the first of them in the slot in which it joined.
+/// Adds the needs of the frames of an input that are kept, the first of them in the slot in which
+/// it joined.
 ///
 /// # Errors
-/// Where there is no memory. Then nothing is added.
+/// If memory runs out. Then nothing is added.
 fn add_needs(joint: &Joint, needs: &[Need], run: &mut Vec<Need>) -> Result<(), AllocError>
     requires out { left_out_count joint.now.seam ≤ length needs.now }
     ensures added { OnOk result (run.new.items ≡ run.old.items
@@ -84,11 +85,11 @@ fn add_needs(joint: &Joint, needs: &[Need], run: &mut Vec<Need>) -> Result<(), A
 }
 
 impl<'a> Sources<'a> {
-    /// The frames that the input with the number `number` shares with the one before it, if those of them that have to be
-    /// alike are the last of the run.
+    /// The frames that the input with the number `number` shares with the one before it, if those
+    /// of them that have to be alike match the last frames of the run.
     ///
     /// # Errors
-    /// `Read` or `Shrunk` where an input can't be read.
+    /// `Read` or `Shrunk` if an input can't be read.
     fn alike<D: Folder>(
         &self,
         folder: &mut D,
@@ -132,8 +133,8 @@ impl<'a> Sources<'a> {
     }
 }
 
-/// What is decided so far: what becomes of each later input, the run, and what its frames need, in the slots in which they
-/// joined; and the memory in which frames are compared.
+/// The decision so far: what becomes of each later input, the run, and the needs of its frames, in
+/// the slots in which they joined; and the memory in which frames are compared.
 #[derive(Drop)]
 struct Deciding {
     joints: Vec<Joint>,
@@ -146,7 +147,7 @@ impl Deciding {
     /// The first input begins the run with all its frames.
     ///
     /// # Errors
-    /// Where there is no memory.
+    /// If memory runs out.
     fn begin(alloc: Global, survey: &Survey, beginning: &Beginning) -> Result<Deciding, AllocError>
         requires { CanBeginRun (survey_view survey.now) }
         ensures { IfOk result (HasBegunRun (survey_view survey.now) beginning.now) }
@@ -162,10 +163,10 @@ impl Deciding {
         })
     }
 
-    /// What becomes of the input with this number, after those before it.
+    /// Decides what becomes of the input with this number, given those before it.
     ///
     /// # Errors
-    /// `Input` with `Read` or `Shrunk` where an input can't be read; `Memory`.
+    /// `Input` with `Read` or `Shrunk` if an input can't be read; `Memory`.
     fn add<D: Folder>(
         &mut self,
         alloc: Global,
@@ -202,8 +203,9 @@ impl Deciding {
     }
 }
 
-/// What is decided of all inputs: how many frames are left out at the front of the first, 0 or 1, what becomes of each later
-/// one, and what all frames of the run need, in the slots in which they joined, those at its front that are left out among them.
+/// The decision about all inputs: how many frames are left out at the front of the first, 0 or 1,
+/// what becomes of each later one, and the needs of all frames of the run, in the slots in which
+/// they joined, including those left out at its front.
 #[derive(Drop)]
 pub(crate) struct Decided {
     pub front: u32,
@@ -212,7 +214,7 @@ pub(crate) struct Decided {
 }
 
 impl Decided {
-    /// What the frames need that are written.
+    /// The needs of the frames that are written.
     pub fn run(&self) -> &[Need]
         requires { self.now.front ≤ length self.now.needs.items }
         ensures { result.now ≡ run_needs self.now }
@@ -234,8 +236,8 @@ impl Decided {
     }
 }
 
-/// How many frames leave the whole run at its front, 1 or 0: the lead-in of the first input, if the others want one. The run
-/// needs this.
+/// How many frames are left out at the front of the whole run, 0 or 1: the lead-in of the first
+/// input, if it has one and the frames after it need one. `run` has the needs of the run's frames.
 fn front_of(survey: &Survey, beginning: &Beginning, run: &[Need]) -> u32
     requires begin { CanBeginRun (survey_view survey.now) }
     requires same { AreNeedsOfClass (survey_view survey.now).class run.now }
@@ -253,10 +255,11 @@ fn front_of(survey: &Survey, beginning: &Beginning, run: &[Need]) -> u32
     front_left_out(&first, run)
 }
 
-/// What becomes of all inputs, whose heads are set apart. The files stay.
+/// Decides what becomes of all inputs, whose heads are set apart. The files stay.
 ///
 /// # Errors
-/// `Input` with the number of an input and `Read` or `Shrunk`, where frames that are compared could not be read; `Memory`.
+/// `Input` with the number of an input and `Read` or `Shrunk`, if frames to be compared could not
+/// be read; `Memory`.
 pub(crate) fn decide_all<D: Folder>(
     alloc: Global,
     folder: &mut D,

@@ -1,10 +1,10 @@
-//! The inputs by their numbers.
+//! The inputs by number.
 ghost use Rattle.std.specs.Prelude.{◌≡◌, ◌+◌, ◌<◌, ◌∷◌, length, map, drop, string_bytes};
 ghost use Rattle.sync_survey.specs.Faults.{survey_view};
 
 use sync_survey::Survey;
 
-/// The name of an input, counted from 0.
+/// The name of the input with this number, counted from 0.
 pub(crate) fn name_at(inputs: &[String], place: usize) -> &str
     requires { place < length inputs.now }
     ensures { drop place (map string_bytes inputs.now)
@@ -13,7 +13,7 @@ pub(crate) fn name_at(inputs: &[String], place: usize) -> &str
     inputs[place].as_str()
 }
 
-/// What is known of an input, counted from 0.
+/// The survey of the input with this number, counted from 0.
 pub(crate) fn known_at(surveys: &[Survey], place: usize) -> &Survey
     requires { place < length surveys.now }
     ensures { drop place (map survey_view surveys.now)

@@ -12,7 +12,7 @@ use commands::EditFault;
 use outside::Folder;
 use std::alloc::Global;
 
-/// The first of these names that is the output's, counted from 0.
+/// The number of the first of these names that equals the output's, counted from 0.
 pub(crate) fn clash(output: &str, inputs: &[String]) -> Option<u32>
     requires { length inputs.now ≤ 64 }
     ensures { result ≡ clash_from (output.now ∷ []) 0 (map string_bytes inputs.now) }
@@ -25,22 +25,26 @@ pub(crate) fn clash(output: &str, inputs: &[String]) -> Option<u32>
     None
 }
 
-/// Writes the output, which is all frames of the inputs, 1 to 64 of one class, in their order and with all main data: the
-/// ID3v2 blocks of the first input before its first frame, an Info frame, and the frames in the slots of their plan, each
-/// with its own bit rate and padding (ISO/IEC 11172-3, 2.4.2.7). A lead-in, one silent frame, comes before the frames of each
-/// input whose first frames need more room for their main data than there is. No other block of any input is written.
+/// Writes the output: all frames of the inputs, 1 to 64 of one class, in their order and with all
+/// main data. It consists of the ID3v2 blocks of the first input before its first frame, an Info
+/// frame, and the frames in the slots of their plan, each with its own bit rate and padding
+/// (ISO/IEC 11172-3, 2.4.2.7). A lead-in, one silent frame, comes before the frames of each input
+/// whose first frames need more room for their main data than there is. No other block of any input
+/// is written.
 ///
 /// # Errors
-/// In this order: `EqualNames` with the first input, counted from 0, whose name is the output's, byte for byte;
-/// then for each input in turn `Input` with its number and the fault of its survey, of which as many frames are allowed as
-/// those before leave of 2,900,000, and `Differ` with its number where its version, frequency or channels aren't those of
-/// the first. After these nothing was created. A file may be named twice.
+/// In this order: `EqualNames` with the number of the first input, counted from 0, whose name is
+/// the output's, byte for byte; then for each input in order `Input` with its number and the fault
+/// of its survey, which allows as many frames as the inputs before it leave of 2,900,000, and
+/// `Differ` with its number if its version, frequency or channels differ from the first input's.
+/// After these nothing was created. A file may be named twice.
 ///
-/// `Input` with `Read` and `Write(0)` come only where a call of that kind failed, `Input` with `Absent` only where that
-/// input isn't there, and every other answer only where none failed. `Input` with `Read` or `Shrunk` may also come while the
-/// output is written; after it, and after `Write(0)`, the output is as it was or holds a prefix of its bytes, and after
-/// `Write(0)` not all of them. `Memory` may come once the first input was found with a length that it may have, before the
-/// output is created, and not from then on.
+/// `Input` with `Read` and `Write(0)` are returned only if a call of that kind failed, `Input` with
+/// `Absent` only if that input isn't there, and any other result only if no call failed. `Input`
+/// with `Read` or `Shrunk` may also be returned while the output is written; after it, and after
+/// `Write(0)`, the output is as it was or holds a prefix of its bytes, and after `Write(0)` not all
+/// of them. `Memory` may be returned once the first input was found with a length that it may have,
+/// before the output is created, but not from then on.
 pub fn join<D: Folder>(
     alloc: Global,
     folder: &mut D,

@@ -1,4 +1,4 @@
-//! The frames of all inputs, read one input after the other and given to one writer.
+//! The frames of all inputs, read in order and given to one writer.
 ghost use Rattle.std.specs.Prelude.{◌≡◌, ◌+◌, ◌<◌, ◌≤◌, ◌∷◌, length, drop, map, string_bytes};
 ghost use Rattle.frame_header.specs.Tables.{window_of};
 ghost use Rattle.laying.specs.Needs.{needs_of_parts};
@@ -24,16 +24,16 @@ fn from_at(froms: &[u32], place: usize) -> usize
     froms[place] as usize
 }
 
-/// Which frames are laid: of each input those from the frame on whose number is given, in these places of their plan, one input
-/// after the other.
+/// Which frames are laid: those of each input from the frame with the given number on, in order, in
+/// these places of their plan.
 #[derive(Clone, Copy)]
 pub(crate) struct LaidFrames<'a> {
     pub froms: &'a [u32],
     pub placed: &'a [Placed],
 }
 
-/// Adds to what waits for the output these frames of all inputs, one input after the other. The writer is new. The clauses about
-/// the output speak of folders that tell the bytes of the first input.
+/// Adds these frames of all inputs, in order, to what waits for the output. The writer is new. The
+/// clauses about the output apply where the content of the first input is known.
 ///
 /// # Errors
 /// Those of `Relay::frames`, with the number of the input. Then a prefix of what waited and the frames' bytes was appended,

@@ -1,4 +1,4 @@
-//! One file of all frames of several, or of those that are left where they are joined without seams.
+//! Joining inputs into one file: all their frames, or only those that a join without seams keeps.
 #![tactic(auto)]
 
 mod beginnings;

@@ -11,7 +11,7 @@ use list_edits::Line;
 use outside::{Failed, SendBuffer, Sink};
 use seam_plan::{Joint, Seam};
 
-/// Makes the text what the line of an input says after its name.
+/// Sets the text to the part of an input's line after its name.
 fn set_line(line: &mut Line, seam: Seam)
     ensures { line.new ≡ codes ": " ++ (seam_text seam ++ codes "\n") }
 {
@@ -29,7 +29,7 @@ fn set_line(line: &mut Line, seam: Seam)
 /// Adds the line of an input to what waits.
 ///
 /// # Errors
-/// Where a write failed. Then a prefix of what waited and the line was sent.
+/// If a write failed. Then a prefix of what waited and the line was sent.
 fn push_line<T: Sink>(
     name: &str,
     seam: Seam,
@@ -48,10 +48,10 @@ fn push_line<T: Sink>(
     buffer.push(out, line.bytes())
 }
 
-/// Sends a line for each input after the first, which says what became of it. It takes no memory.
+/// Sends a line for each input after the first, with what became of it. It takes no memory.
 ///
 /// # Errors
-/// Where a write failed. Then a prefix of the text was sent.
+/// If a write failed. Then a prefix of the text was sent.
 pub(crate) fn send_lines<T: Sink>(
     inputs: &[String],
     joints: &[Joint],

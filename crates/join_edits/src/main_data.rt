@@ -14,7 +14,7 @@ use outside::{Folder, PassFault, read_exact};
 use reservoir::Window;
 use sync_survey::{Row, Survey};
 
-/// An input that is read before there is an output: its name, and what is known of it.
+/// An input that is read before there is an output: its name and its survey.
 #[derive(Clone, Copy)]
 pub(crate) struct Source<'a> {
     pub name: &'a str,
@@ -25,7 +25,7 @@ impl<'a> Source<'a> {
     /// Adds to the window the area of a frame with this header, which begins at this offset.
     ///
     /// # Errors
-    /// `Read` or `Shrunk` where the input can't be read.
+    /// `Read` or `Shrunk` if the input can't be read.
     fn push_area<D: Folder>(
         &self,
         folder: &mut D,
@@ -49,11 +49,11 @@ impl<'a> Source<'a> {
         Ok(())
     }
 
-    /// Begins to read the areas of frames from this first one on: with that of the head, if it is the first
-    /// frame of all.
+    /// Starts reading areas of frames at this first one: reads the head's area, if it is the first
+    /// frame of all and there is a head.
     ///
     /// # Errors
-    /// As `push_area`.
+    /// Those of `push_area`.
     fn begin_at<D: Folder>(
         &self,
         folder: &mut D,
@@ -76,11 +76,11 @@ impl<'a> Source<'a> {
         self.push_area(folder, head.offset, &head.header, window)
     }
 
-    /// Reads into the window, whatever it held, the last 2,048 bytes of the areas of the head and of all
-    /// frames before frame `i`, or all where there are fewer.
+    /// Reads into the window, replacing what it held, the last 2,048 bytes of the areas of the head
+    /// and of all frames before frame `i`, or all if there are fewer.
     ///
     /// # Errors
-    /// As `push_area`.
+    /// Those of `push_area`.
     fn read_before<D: Folder>(
         &self,
         folder: &mut D,
@@ -107,10 +107,10 @@ impl<'a> Source<'a> {
         Ok(())
     }
 
-    /// Puts the main data of frame `i` into a list, in place of what is in it. No frame is lost.
+    /// Puts the main data of frame `i` into a list, replacing its content. No frame is lost.
     ///
     /// # Errors
-    /// As `push_area`.
+    /// Those of `push_area`.
     pub fn main_data<D: Folder>(
         &self,
         folder: &mut D,

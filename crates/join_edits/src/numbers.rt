@@ -9,22 +9,23 @@ use frame_header::Class;
 use info_header::Info;
 use laying::Kept;
 
-/// By how many samples a decoder is late, as players reckon it.
+/// By how many samples a decoder is late, as players count it.
 const DECODER_DELAY: u64 = 529;
 
 /// The greatest number of 12 bits.
 const MOST: u64 = 4095;
 
-/// How often what a player leaves out at the front changes by a whole frame: for each frame that is left out there, and for each
-/// lead-in before the first.
+/// By how many whole frames the part that a player skips at the front changes: less one for each
+/// frame left out there, and one more for each lead-in before the first.
 #[derive(Clone, Copy)]
 pub(crate) struct Moved {
     pub left_out: u32,
     pub lead_ins: u32,
 }
 
-/// The delay in samples of a run that begins with an input of so many frames and with this head: as many frames more or fewer
-/// than the head's own. `None` where the head doesn't count, or where the delay has more than 12 bits.
+/// The delay in samples of a run that begins with an input of `frames` frames and with this head:
+/// the head's own, plus a frame for each lead-in and less a frame for each frame left out. `None`
+/// if the head doesn't count, or if the delay has more than 12 bits.
 fn delay_of(class: Class, head: Option<&Info>, frames: u32, moved: Moved) -> Option<u16>
     ensures delay { result ≡ counted_delay class (option_copied head.entry) frames moved }
     ensures most { IfSome result (λ delay. delay < 4096) }
@@ -42,7 +43,7 @@ fn delay_of(class: Class, head: Option<&Info>, frames: u32, moved: Moved) -> Opt
     }
 }
 
-/// The padding in samples of a run that ends with an input of so many frames and with this head.
+/// The padding in samples of a run that ends with an input of `frames` frames and with this head.
 fn padding_of(class: Class, head: Option<&Info>, frames: u32) -> u16
     ensures padding { result ≡ ends_padding class (option_copied head.entry) frames }
     ensures most { result < 4096 }
@@ -54,7 +55,7 @@ fn padding_of(class: Class, head: Option<&Info>, frames: u32) -> u16
     (rest + DECODER_DELAY) as u16
 }
 
-/// Whether a head counts, and says this of peak and gains.
+/// Whether a head counts and has these values of peak and gains.
 fn says_gain(gain: &[u8], head: Option<&Info>) -> bool
     ensures { result ≡ head_says_gain gain.now (option_copied head.entry) }
 {
@@ -64,7 +65,7 @@ fn says_gain(gain: &[u8], head: Option<&Info>) -> bool
     }
 }
 
-/// Whether the heads of all these do.
+/// Whether all these heads count and have these values of peak and gains.
 fn all_say(gain: &[u8], beginnings: &[Beginning]) -> bool
     ensures { result ≡ all_say gain.now beginnings.now }
 {
@@ -76,7 +77,8 @@ fn all_say(gain: &[u8], beginnings: &[Beginning]) -> bool
     true
 }
 
-/// The extension, whose peak and gains stay only where the heads of all these inputs say the same.
+/// Clears peak and gains of the extension unless the heads of all these inputs count and have the
+/// same values.
 fn keep_gains(extension: &mut [u8; 36], beginnings: &[Beginning])
     ensures { extension.new ≡ gains_kept extension.old beginnings.now }
 {
@@ -85,14 +87,14 @@ fn keep_gains(extension: &mut [u8; 36], beginnings: &[Beginning])
     }
 }
 
-/// The quality that a head says.
+/// The quality given by a head, if there is one.
 fn quality_of(head: Option<&Info>) -> Option<u32>
     ensures { result ≡ quality_of (option_copied head.entry) }
 {
     head?.quality
 }
 
-/// How the first input begins, and how the last ends, whose frames are so many.
+/// The class of the inputs, and how many frames the first and the last have.
 #[derive(Clone, Copy)]
 pub(crate) struct Ends {
     pub class: Class,
@@ -100,8 +102,8 @@ pub(crate) struct Ends {
     pub last: u32,
 }
 
-/// What the Info frame keeps of the heads: the quality of the first, and its extension with the delay and the padding of the
-/// run. `None` where no numbers are written. There is an input.
+/// What the Info frame keeps of the heads: the quality of the first, and its extension with the
+/// delay and the padding of the run. `None` if no numbers are written. There is at least one input.
 pub(crate) fn kept_of(beginnings: &[Beginning], ends: Ends, moved: Moved) -> Option<Kept>
     requires { 0 < length beginnings.now }
     ensures { result ≡ run_kept beginnings.now ends moved }

@@ -33,7 +33,7 @@ use slot_plan::{Keep, Need, Placed, Plan, plan};
 use std::alloc::{AllocError, Global};
 use sync_survey::Survey;
 
-/// All frames of these, each survey a part.
+/// The parts of a plan: the frames of each survey are one part.
 fn parts_of(alloc: Global, surveys: &[Survey]) -> Result<Parts, AllocError>
     requires { CanInputsBeJoined (map survey_view surveys.now) }
     ensures { IfOk result (λ parts. parts ≡ plan_input (survey_rows (map survey_view surveys.now))) }
@@ -54,8 +54,8 @@ fn plan_all(alloc: Global, surveys: &[Survey]) -> Result<Plan, AllocError>
     plan(alloc, parts.needs(), parts.places(), &Keep)
 }
 
-/// The plan of all frames, the bytes of the Info frame before them, at most 1,441, whose header is that of the first frame,
-/// and the memory of the second pass.
+/// The plan of all frames; the bytes of the Info frame before them, at most 1,441, with the header
+/// of the first frame; and the memory of the second pass.
 #[derive(Drop)]
 pub(crate) struct JoinWork {
     pub plan: Plan,
@@ -63,7 +63,7 @@ pub(crate) struct JoinWork {
     pub buffers: RelayBuffers,
 }
 
-/// All that is made ready before the output is created.
+/// Prepares all that is needed before the output is created.
 pub(crate) fn prepare(alloc: Global, surveys: &[Survey]) -> Result<JoinWork, AllocError>
     requires { CanInputsBeJoined (map survey_view surveys.now) }
     ensures { IfOk result (IsJoinReady (map survey_view surveys.now)) }
@@ -79,15 +79,17 @@ pub(crate) fn prepare(alloc: Global, surveys: &[Survey]) -> Result<JoinWork, All
     })
 }
 
-/// The extension has 36 bytes. It runs nothing: the type says so, and its contract hands that to a proof.
+/// The extension has 36 bytes. It runs nothing: the type says so, and its contract gives that to a
+/// proof.
 fn has_all(extension: &[u8; 36])
     ensures { length extension.now ≡ 36 }
 {
     let _ = extension;
 }
 
-/// The bytes of the Info frame before frames of a surveyed input in the slots of a plan, with what it keeps of the heads, sealed
-/// where it keeps something. The first of the frames is frame `from`, whose header it has.
+/// The bytes of the Info frame before frames of a surveyed input in the slots of a plan, with what
+/// it keeps of the heads, sealed if it keeps something. The first of the frames is frame `from`,
+/// whose header it has.
 fn info_of(
     survey: &Survey,
     from: usize,
@@ -142,7 +144,7 @@ fn plan_run(alloc: Global, needs: &[Need]) -> Result<Plan, AllocError>
     plan(alloc, needs, &[0], &Keep)
 }
 
-/// All that is made ready for a run before the output is created.
+/// Prepares all that is needed for a run before the output is created.
 pub(crate) fn prepare_run(
     alloc: Global,
     surveys: &[Survey],

@@ -27,7 +27,7 @@ use outside::{Failed, Folder, SendBuffer, Sink};
 use std::alloc::Global;
 use sync_survey::Survey;
 
-/// What is decided, what is made ready for the second pass, and the memory of the text.
+/// The decision, what the second pass needs, and the memory of the text.
 #[derive(Drop)]
 struct MadeRun {
     decided: Decided,
@@ -35,15 +35,15 @@ struct MadeRun {
     sending: SendBuffer,
 }
 
-/// All that is made ready before the output is created: what is known of the inputs, whose heads are set apart, and what is
-/// made of them.
+/// All that is prepared before the output is created: the surveys of the inputs, with their heads
+/// set apart, and what is made from them.
 #[derive(Drop)]
 struct Ready {
     surveys: Vec<Survey>,
     made: MadeRun,
 }
 
-/// Decides which frames are left out, and makes all ready for the second pass.
+/// Decides which frames are left out, and prepares the second pass.
 ///
 /// # Errors
 /// `Input` with the number of an input and `Read` or `Shrunk`; `Memory`. The files stay.
@@ -75,7 +75,7 @@ fn make_ready<D: Folder>(
     })
 }
 
-/// Surveys the inputs, decides which frames are left out, and makes all ready for the second pass.
+/// Surveys the inputs, decides which frames are left out, and prepares the second pass.
 ///
 /// # Errors
 /// Those of `join_seamless` before the output is created. The files stay.
@@ -104,10 +104,11 @@ fn prepare_all<D: Folder>(
     Ok(Ready { surveys, made })
 }
 
-/// Writes the output, and then sends to `out` what became of each input. No name clashes, and all is ready.
+/// Writes the output, and then sends to `out` what became of each input. No names clash, and all is
+/// prepared.
 ///
 /// # Errors
-/// Those of `join_seamless` from the first byte on that is written.
+/// Those of `join_seamless` from the first byte written on.
 fn write_and_tell<D: Folder, T: Sink>(
     folder: &mut D,
     inputs: &[String],
@@ -140,33 +141,38 @@ fn write_and_tell<D: Folder, T: Sink>(
     }
 }
 
-/// Writes the output, which is the frames of the inputs, 1 to 64 of one class, in their order and with all main data, but for
-/// those that only a piece needs: the ID3v2 blocks of the first input before its first frame or head, an Info frame, and the
-/// frames in the slots of their plan, which are one part (ISO/IEC 11172-3, 2.4.2.7). Then it sends to `out` a line for each
-/// input after the first. What is before an input serves as its bit reservoir. The first of these that can be decides what
-/// becomes of an input:
+/// Writes the output: the frames of the inputs, 1 to 64 of one class, in their order and with all
+/// main data, but without those that only a piece needs. It consists of the ID3v2 blocks of the
+/// first input before its first frame or head, an Info frame, and the frames in the slots of their
+/// plan, which are one part (ISO/IEC 11172-3, 2.4.2.7). Then it sends to `out` a line for each
+/// input after the first. The run before an input serves as its bit reservoir. What becomes of an
+/// input is the first of these that is possible:
 ///
 /// | line | what is left out at its front |
 /// |---|---|
-/// | `NAME: follows, X frames left out` | the X frames that it shares with the input before it, where the heads of both count, these frames are whole frames, and those of them that are played sound as the last frames before it |
-/// | `NAME: lead-in left out` | the lead-in in front, where the frames after it want one |
+/// | `NAME: follows, X frames left out` | the X frames that it shares with the input before it, if the heads of both count, these frames are whole frames, and the played ones among them sound like the last frames before it |
+/// | `NAME: lead-in left out` | its lead-in, if the frames after it need one |
 /// | `NAME: whole` | nothing |
 ///
-/// Frames join where their main data have room behind the frames before them, the first of them in its own slot or in the least
-/// greater one. At last the lead-in of the first input goes where the others want one, and the plan gives them one again.
+/// Frames can join if there is room for their main data after the frames before them, the first of
+/// them in its own slot or in the least greater one. Finally, the lead-in of the first input is
+/// left out if the frames after it need one, and the plan adds one again.
 ///
-/// In every input the head is set apart, as players leave it out: a frame whose main data begin in its area, before which every
-/// frame is silent or lost, is lost too, and lost frames are written as empty ones. The Info frame has the quality of the first
-/// input's head, and an extension with encoder delay, padding, music length and tag CRC, where this head counts and the delay
-/// has 12 bits: the delay of the first input, by as many frames more or fewer as are at the front now, and the padding of the
-/// last. Peak and ReplayGain stay where the heads of all inputs say the same.
+/// In every input the head is set apart, as players leave it out: a frame whose main data begin in
+/// the head's area is lost too, if every frame before it is silent or lost, and lost frames are
+/// written as empty ones. If the first input's head counts and the delay has 12 bits, the Info
+/// frame has the quality of this head, and an extension with encoder delay, padding, music length
+/// and tag CRC: the delay of the first input, plus or minus the frames by which the front changed,
+/// and the padding of the last. Peak and ReplayGain stay only if the heads of all inputs have the
+/// same values.
 ///
 /// # Errors
-/// Those of `join`, in their order, and for `Input` with `Read` and `Shrunk` also where a head, or a frame that is compared,
-/// could not be read. After these nothing was created and nothing sent, but for those of the second pass: `Input` with `Read`
-/// or `Shrunk`, and `Write(0)`, after which the output is as it was or holds a prefix of its bytes, with `Write(0)` not all of
-/// them, and nothing was sent. `Sent` where a write to `out` failed; then the output is whole, and `out` got a prefix of the
-/// text.
+/// Those of `join`, in their order; `Input` with `Read` and `Shrunk` also if a head, or a frame
+/// that is compared, could not be read. After these nothing was created and nothing sent, except
+/// for those of the second pass: `Input` with `Read` or `Shrunk`, and `Write(0)`, after which the
+/// output is as it was or holds a prefix of its bytes, after `Write(0)` not all of them, and
+/// nothing was sent. `Sent` if a write to `out` failed; then the output is whole, and a prefix of
+/// the text was sent.
 pub fn join_seamless<D: Folder, T: Sink>(
     alloc: Global,
     folder: &mut D,
@@ -182,11 +188,11 @@ pub fn join_seamless<D: Folder, T: Sink>(
     ensures left { IfErr result (IsCommandFault (seamless_command output.now (map string_bytes inputs.now))
         (D.seen folder.old)
         (D.seen folder.new)) }
-    // The text, of which a prefix was sent where a write failed.
+    // The text; a prefix of it was sent if a write failed.
     ensures says { SaysText (seamless_command output.now (map string_bytes inputs.now))
         (D.seen folder.old).files (T.heard out.old) (T.heard out.new)
         (answer_fault result) }
-    // Over a folder that tells nothing too.
+    // Also over a folder whose contents aren't known.
     ensures numbers { IfErr result (HasNumbers (seamless_command output.now
         (map string_bytes inputs.now))) }
     ensures names { (place : ℕ) → IsErrOf result (EditFault.EqualNames place)

@@ -1,4 +1,5 @@
-//! Whether frames of inputs sound alike: whether they are the same but for slot, gains, and where their main data begin.
+//! Whether frames of inputs sound alike: whether they are the same except for slot, gains and
+//! main_data_begin.
 ghost use Rattle.std.specs.Prelude.{◌≡◌, ◌<◌, length, map, take, string_bytes, bytes_eq, slice_get, IfOk, IfErr, OnOk};
 ghost use Rattle.bit_fields.specs.Bits.{bits, AreBytes};
 ghost use Rattle.frame_header.specs.Tables.{class_of, side_size_of};
@@ -22,7 +23,7 @@ use seam_plan::FramePlace;
 use side_info::{Granule, Side};
 use sync_survey::{Row, Survey};
 
-/// Whether two headers are the same but for their slots.
+/// Whether two headers are the same except for their slots.
 fn same_header(first: &Header, second: &Header) -> bool
     ensures { result ≡ bytes_eq (header_bits (without_slot first.now))
         (header_bits (without_slot second.now)) }
@@ -30,7 +31,7 @@ fn same_header(first: &Header, second: &Header) -> bool
     first.with_slot(second.slot).bytes() == second.bytes()
 }
 
-/// The fields of a granule and channel without its gain.
+/// The fields of a granule and channel without its global gain.
 fn without_gain_of(granule: &Granule) -> Granule
     ensures { result ≡ without_gain granule.now }
 {
@@ -39,7 +40,7 @@ fn without_gain_of(granule: &Granule) -> Granule
     bare
 }
 
-/// Those of both channels of a granule.
+/// The fields of both channels of a granule without their global gains.
 fn pair_without_gains(pair: &[Granule; 2]) -> [Granule; 2]
     ensures pair { result ≡ map without_gain pair.now }
     ensures two { length pair.now ≡ 2 }
@@ -80,7 +81,8 @@ fn side_room(class: Class, side: &Side) -> [u8; 32]
     room
 }
 
-/// Whether the side information of two frames of a class is the same but for gains and main_data_begin.
+/// Whether the side information of two frames of a class is the same except for gains and
+/// main_data_begin.
 fn same_side(class: Class, first: &Side, second: &Side) -> bool
     requires first { SideFits class first.now }
     requires second { SideFits class second.now }
@@ -93,7 +95,7 @@ fn same_side(class: Class, first: &Side, second: &Side) -> bool
     first[..size] == second[..size]
 }
 
-/// The side information of a frame, all 0 if the frame is lost.
+/// The side information of a frame; all 0 if the frame is lost.
 fn side_of(row: &Row) -> Side
     ensures side { result ≡ row_side row.now }
     ensures fits { SideFits (class_of row.now.header) result }
@@ -105,7 +107,8 @@ fn side_of(row: &Row) -> Side
     }
 }
 
-/// Whether header and side information of two frames of a class are the same but for slot, gains and main_data_begin.
+/// Whether header and side information of two frames of a class are the same except for slot, gains
+/// and main_data_begin.
 fn same_front(class: Class, first: &Row, second: &Row) -> bool
     requires first { class_of first.now.header ≡ class }
     requires second { class_of second.now.header ≡ class }
@@ -115,7 +118,7 @@ fn same_front(class: Class, first: &Row, second: &Row) -> bool
         && same_side(class, &side_of(first), &side_of(second))
 }
 
-/// All inputs, with their names and what is known of them, the heads set apart.
+/// All inputs: their names and their surveys, with the heads set apart.
 #[derive(Clone, Copy)]
 pub(crate) struct Sources<'a> {
     pub inputs: &'a [String],
@@ -123,7 +126,7 @@ pub(crate) struct Sources<'a> {
 }
 
 impl<'a> Sources<'a> {
-    /// An input by its number, counted from 0.
+    /// The input with this number, counted from 0.
     pub fn at(&self, place: u32) -> Source<'a>
         requires inputs { place < length self.now.inputs.now }
         requires surveys { place < length self.now.surveys.now }
@@ -138,7 +141,7 @@ impl<'a> Sources<'a> {
         }
     }
 
-    /// A frame of an input.
+    /// The row of a frame of an input.
     fn row(&self, place: FramePlace) -> &'a Row
         requires { IsFramePlace (map survey_view self.now.surveys.now) place }
         ensures { row_at (map survey_view self.now.surveys.now) place ≡ Some result.now }
@@ -146,10 +149,10 @@ impl<'a> Sources<'a> {
         &self.surveys[place.input as usize].frames()[place.frame as usize]
     }
 
-    /// Puts the main data of a frame into a list, in place of what is in it.
+    /// Puts the main data of a frame into a list, replacing its content.
     ///
     /// # Errors
-    /// `Read` or `Shrunk` where the input can't be read.
+    /// `Read` or `Shrunk` if the input can't be read.
     fn main_data<D: Folder>(
         &self,
         folder: &mut D,
@@ -177,10 +180,10 @@ impl<'a> Sources<'a> {
         }
     }
 
-    /// Whether two frames of inputs are the same but for slot, gains, and where their main data begin.
+    /// Whether two frames of inputs are the same except for slot, gains and main_data_begin.
     ///
     /// # Errors
-    /// `Read` or `Shrunk` where an input can't be read.
+    /// `Read` or `Shrunk` if an input can't be read.
     pub fn sound_alike<D: Folder>(
         &self,
         folder: &mut D,

@@ -5,7 +5,8 @@ ghost use Rattle.commands.specs.PassFaults.{pass_edit_fault};
 use commands::EditFault;
 use outside::PassFault;
 
-/// The input whose pass ended, counted from 0, and why. What is written before and after all frames is of the first.
+/// The input whose pass ended early, counted from 0, and why. What is written before and after all
+/// frames belongs to the first.
 #[derive(Clone, Copy)]
 pub(crate) struct Stopped {
     pub place: u32,

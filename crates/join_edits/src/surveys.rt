@@ -13,7 +13,8 @@ use outside::Folder;
 use std::alloc::Global;
 use sync_survey::Survey;
 
-/// Whether an input of this class may follow: any where there is no input before it, else one of the first input's class.
+/// Whether an input of this class may follow: any if there is no input before it, otherwise one of
+/// the first input's class.
 fn may_follow(first: Option<Class>, class: Class) -> bool
     ensures value { result ≡ may_join first class }
     ensures follows { result ≡ true → HasClassOfFirst first class }
@@ -24,12 +25,12 @@ fn may_follow(first: Option<Class>, class: Class) -> bool
     }
 }
 
-/// The survey of the input with the number `place`, counted from 0, of which `allowed` frames are allowed, after a first input
-/// of this class.
+/// The survey of the input with the number `place`, counted from 0, which may have `allowed`
+/// frames, after a first input of this class.
 ///
 /// # Errors
-/// `Input` with that number and the fault of the survey; `Differ` with it where the input's frames are of another class;
-/// `Memory`. The files stay.
+/// `Input` with that number and the fault of the survey; `Differ` with it if the input's frames are
+/// of another class; `Memory`. The files stay.
 fn survey_part<D: Folder>(
     alloc: Global,
     folder: &mut D,
@@ -56,7 +57,7 @@ fn survey_part<D: Folder>(
     }
 }
 
-/// The class of the first of these.
+/// The class of the first of these surveys.
 fn first_class(surveys: &[Survey]) -> Option<Class>
     ensures { result ≡ class_of_first (map survey_view surveys.now) }
 {
@@ -66,7 +67,7 @@ fn first_class(surveys: &[Survey]) -> Option<Class>
     }
 }
 
-/// The surveys of all inputs, one after the other; together they may have 2,900,000 frames.
+/// The surveys of all inputs, in order; together they may have 2,900,000 frames.
 ///
 /// # Errors
 /// Those of `survey_part`, for the first input that has one.

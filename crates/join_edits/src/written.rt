@@ -46,12 +46,12 @@ fn append_front<D: Folder>(
     relay.write_front(folder, info, &mut buffers.feed, &mut buffers.waiting)
 }
 
-/// Appends the file of these frames to the output, beginning with the ID3v2 blocks of the first input: of each input those from
-/// the frame on whose number is given. It takes no memory.
+/// Appends the joined file to the output: the ID3v2 blocks of the first input, the Info frame, and
+/// the frames of each input from the frame with the given number on. It takes no memory.
 ///
 /// # Errors
-/// Those of `Relay::write`, with the number of the input. Then a prefix of the file was appended, and with `Write` not all of
-/// it.
+/// Those of `Relay::write`, with the number of the input. Then a prefix of the file was appended,
+/// and with `Write` not all of it.
 fn append_joined<'a, D: Folder>(
     first: &Relay<'a>,
     folder: &mut D,
@@ -90,11 +90,12 @@ fn append_joined<'a, D: Folder>(
     }
 }
 
-/// Creates the output and writes it, with the frames of each input from the frame on whose number is given. It takes no memory.
+/// Creates the output and writes it, with the frames of each input from the frame with the given
+/// number on. It takes no memory.
 ///
 /// # Errors
-/// `Input` with the number of an input and `Read` or `Shrunk`, and `Write(0)`. Then the output is as it was or holds a prefix
-/// of its bytes, and with `Write` not all of them.
+/// `Input` with the number of an input and `Read` or `Shrunk`, and `Write(0)`. Then the output is
+/// as it was or holds a prefix of its bytes, and with `Write` not all of them.
 pub(crate) fn write_joined<D: Folder>(
     folder: &mut D,
     inputs: &[String],

@@ -1,4 +1,4 @@
--- One byte after another.
+-- Byte by byte.
 use Rattle.std.proofs.Common.{ap, arith, get_or, length, sym, take, true, ◌<◌, ◌==◌, ◌∙◌}
 use Rattle.std.{proofs.lemmas.List.take_more, specs.List.list_all}
 use Rattle.bit_fields.proofs.BitsLemmas.{AreBytes-from_slice, bits-nil, places_below}

@@ -1,4 +1,4 @@
--- One input after another.
+-- Input by input.
 use Rattle.std.proofs.Common.{ap, ap₂, arith, length, map, refl, string_bytes, subst, sym, take}
 use Rattle.std.proofs.{Common.{◌<◌, ◌∙◌, ◌≤◌}, lemmas.List.{length-map, take_all}}
 use Rattle.std.proofs.lemmas.Slice.Zip.{AllZip-long}

@@ -1,4 +1,4 @@
--- One survey more.
+-- The head of one more survey is set apart.
 use Rattle.std.proofs.Common.{ap, arith, length, map, sym, ◌<◌, ◌∙◌}
 use Rattle.std.proofs.lemmas.List.{get_or-map, length-map, map-set}
 use Rattle.cut_edits.specs.Exact.{survey_without_head}

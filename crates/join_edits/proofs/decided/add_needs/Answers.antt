@@ -1,4 +1,4 @@
--- The frames that are left stand behind those of the run.
+-- The needs of the frames that are kept come after the needs of the run.
 use Rattle.std.proofs.Common.{ap, append_assoc, ap₂, arith, drop, length, length-append, List}
 use Rattle.std.proofs.Common.{Option, refl, Some, sym, take, ℕ, ◌++◌, ◌-◌, ◌∙◌, ◌≡◌, ◌≤◌}
 use Rattle.std.proofs.lemmas.List.{drop_at, length-drop, take_all, take_at}
@@ -8,7 +8,7 @@ use Rattle.seam_plan.specs.Seams.{left_out_count}
 use Rattle.slot_plan.specs.{FreeBytes.needs_with_first_slot, declared.needs.Need.Need}
 use Rattle.join_edits.proofs.decided.add_needs.Goals as goal
 
--- the last of them were borrowed, and came back with the first in another slot
+-- the last needs were borrowed, and came back with the first in another slot
 back : (old new part items : List Need) (at len : ℕ) (slot : SlotFields)
     (put behind rest : List Need) → at ≡ length old → items ≡ old ++ new → part ≡ items
     → len ≡ length items → put ≡ needs_with_first_slot slot (take (length part - at) (drop at part))

@@ -29,7 +29,7 @@ front_left_out-requires-clause-run c =
       fits = c.requires.fits;
     })
 
--- the answer is the front of frames without a sound
+-- the result is the front count for frames without a sound
 front : (c : After-front_left_out)
     → c.front_left_out.result ≡ front_left_out_count (survey_view c.args.survey.now).class
     (silent_brought (survey_view c.args.survey.now) c.args.beginning.now)

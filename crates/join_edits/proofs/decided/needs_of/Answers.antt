@@ -1,4 +1,4 @@
--- The one part's needs.
+-- The needs of the one part.
 use Rattle.std.proofs.Common.{ap, append-nil, map, [], ◌∙◌}
 use Rattle.laying.specs.Needs.{need_of, needs_of_parts, PlanInput}
 use Rattle.join_edits.proofs.decided.needs_of.Goals as goal

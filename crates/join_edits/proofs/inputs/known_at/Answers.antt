@@ -1,4 +1,4 @@
--- The survey is the first of those from its place on.
+-- The survey is the first of the surveys from its place on.
 use Rattle.join_edits.proofs.StepLemmas.{map-next}
 use Rattle.sync_survey.specs.Faults.{survey_view}
 use Rattle.join_edits.proofs.inputs.known_at.Goals as goal

@@ -1,4 +1,4 @@
--- The name is the first of those from its place on.
+-- The name is the first of the names from its place on.
 use Rattle.std.proofs.Common.{ap, drop, map, string_bytes, sym, ◌+◌, ◌∙◌, ◌∷◌}
 use Rattle.join_edits.proofs.StepLemmas.{map-next}
 use Rattle.join_edits.proofs.inputs.name_at.Goals as goal

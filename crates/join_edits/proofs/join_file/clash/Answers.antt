@@ -1,4 +1,4 @@
--- One name after another.
+-- Name by name.
 use Rattle.std.proofs.Common.{bytes_eq, false, rules, true, ◌≡◌}
 use Rattle.join_edits.proofs.join_file.clash.Goals as goal
 

@@ -1,4 +1,4 @@
--- No name before is the output's.
+-- None of the names before equals the output's.
 use Rattle.std.proofs.Common.{drop, map, string_bytes, [], ◌∷◌, ◌≡◌}
 use Rattle.commands.specs.Command.{clash_from}
 use Rattle.join_edits.proofs.join_file.clash.Given as goal

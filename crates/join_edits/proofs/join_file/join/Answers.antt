@@ -1,4 +1,4 @@
--- A clash of names, what was met before the output is created, and the second pass.
+-- A clash of names, faults met before the output is created, and the second pass.
 use Rattle.std.proofs.Common.{append-nil, ap₂, arith, length, List, map, None, refl, rules}
 use Rattle.std.proofs.Common.{string_bytes, sym, ℕ, [], ◌∙◌, ◌∷◌, ◌≡◌, ◌≤◌}
 use Rattle.std.{proofs.lemmas.{List.length-map, Result.IfErr-weaker}, specs.Prelude.replicate}
@@ -72,7 +72,7 @@ module _ (g : given.Over) (c : In_ok-surveys g) where
       inputs-join old names _ are some
       (omega (arith, c.requires.few, length-map c.args.inputs.now string_bytes))
 
-  -- what is written of the inputs, by what is known of them after the survey
+  -- what is written from the inputs, given what is known of them after the survey
   module _ (mid : Files) (known : List Survey) (same : mid ≡ old)
       (items : known ≡ c.in_ok-surveys.surveys.items) (work : JoinWork)
       (ready : IsJoinReady (map survey_view known) work) where

@@ -1,4 +1,4 @@
--- The number is the first of those from its place on.
+-- The number is the first of the numbers from its place on.
 use Rattle.std.proofs.lemmas.List.{drop_more}
 use Rattle.join_edits.proofs.laid.from_at.Goals as goal
 

@@ -1,4 +1,4 @@
--- One input after another.
+-- Input by input.
 use Rattle.std.proofs.Common.{ap, arith, drop, length, List, map, refl, rules, string_bytes, sym}
 use Rattle.std.proofs.Common.{take, ℕ, ◌+◌, ◌-◌, ◌∙◌}
 use Rattle.std.proofs.lemmas.List.{drop-drop, drop_all, length-drop, length-map, take_rest}
@@ -120,7 +120,7 @@ loop-i-preserved g c =
       counts = c.in-Ok.ensures.gives.done ∙ c.loop-i.invariant.counts;
     }
 
--- all of them were given to the writer
+-- all inputs were given to the writer
 module _ (g : given.Over) (c : After-finish g) where
   abbrev old : Files
   old = (g.D.Folder.seen c.args.folder.now).files

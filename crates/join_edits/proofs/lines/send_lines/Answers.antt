@@ -1,4 +1,4 @@
--- One line after another, then what waits.
+-- Line by line, then what waits.
 use Rattle.std.proofs.Common.{arith, drop, map, refl, string_bytes, subst, sym, zip, ◌++◌, ◌+◌, ◌∙◌}
 use Rattle.join_edits.proofs.LineLemmas.{left-from, left-next, left-none, line_of}
 use Rattle.join_edits.specs.Seamless.{seam_line}

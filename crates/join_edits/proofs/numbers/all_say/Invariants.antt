@@ -1,4 +1,4 @@
--- The heads so far say it.
+-- The heads so far count and have these values.
 use Rattle.std.proofs.Common.{drop, ◌≡◌}
 use Rattle.join_edits.specs.Numbers.{all_say}
 use Rattle.join_edits.proofs.numbers.all_say.Given as goal

@@ -1,4 +1,4 @@
--- What is after the last played position, where the head counts.
+-- What is after the last played position, if the head counts.
 use Rattle.std.proofs.Common.{ap, sym, ◌+◌, ◌∙◌}
 use Rattle.join_edits.proofs.NumberLemmas.{rest-counted, rest-none}
 use Rattle.join_edits.proofs.numbers.padding_of.Goals.{in-None, in-Some}

@@ -1,4 +1,4 @@
--- The Info frame, sealed where something is kept.
+-- The Info frame, sealed if something is kept.
 use Rattle.std.proofs.Common.{ap, Option, sym, ◌∙◌}
 use Rattle.cut_edits.proofs.SealedLemmas.{info-room, sealed-is}
 use Rattle.exact_span.specs.TagWord.{sealed_frame}

@@ -1,4 +1,4 @@
--- The frames of some surveys are no more than those of all.
+-- The frames of some surveys are no more than the frames of all.
 use Rattle.std.proofs.Common.{ap, arith, length}
 use Rattle.join_edits.proofs.PlanLemmas.{parts-few}
 use Rattle.laying.specs.Needs.{PlanInput}

@@ -1,4 +1,4 @@
--- The surveys before are the parts.
+-- The surveys before have become parts.
 use Rattle.std.proofs.Common.{map, take, ◌≡◌}
 use Rattle.join_edits.specs.Inputs.{survey_rows}
 use Rattle.laying.specs.Needs.{plan_input}

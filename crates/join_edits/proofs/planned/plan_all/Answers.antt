@@ -1,4 +1,4 @@
--- What the planner answers is the plan.
+-- What the planner returns is the plan.
 use Rattle.std.proofs.{Common.{ap, arith, length}, lemmas.Result.IfOk-weaker}
 use Rattle.join_edits.proofs.PlanLemmas.{all-fit, needs-few, places-few, plan-is}
 use Rattle.laying.specs.Needs.{PlanInput}

@@ -1,4 +1,4 @@
--- The Info frame tells of the slots of the plan.
+-- The Info frame is about frames in the slots of the plan.
 use Rattle.std.proofs.Common.{ap, arith, length, map, subst, sym, ◌∙◌, ◌≡◌}
 use Rattle.std.{proofs.lemmas.List.length-map, specs.Prelude.{slice_get, Some}}
 use Rattle.info_header.specs.InfoFrame.{info_frame}

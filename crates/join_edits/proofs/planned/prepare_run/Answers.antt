@@ -1,4 +1,4 @@
--- All that is made ready for a run.
+-- All that is prepared for a run.
 use Rattle.std.proofs.Common.{ap, append-nil, ap₂, arith, drop, length, List, map, Option, Some}
 use Rattle.std.proofs.Common.{subst, sym, ℕ, [], ◌+◌, ◌-◌, ◌∙◌, ◌∷◌, ◌≡◌, ◌≤◌}
 use Rattle.std.{proofs.lemmas.List.length-drop, specs.Prelude.{IfSome, slice_get}}

@@ -1,4 +1,4 @@
--- One step after another, and what was met before the output is created.
+-- Step by step, with the faults met before the output is created.
 use Rattle.std.proofs.Common.{ap, ap₂, arith, length, List, map, None, string_bytes, subst, sym, ℕ}
 use Rattle.std.proofs.{Common.{◌∙◌, ◌≡◌, ◌≤◌}, lemmas.List.{length-map, take_at, with_items_is}}
 use Rattle.commands.{proofs.RefusingLemmas.err_with, specs.SingleOutput.most_frames}

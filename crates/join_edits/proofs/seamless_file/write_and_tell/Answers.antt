@@ -84,7 +84,7 @@ returns-in-Ok-clause-run g c =
     (omega (arith, c.requires.some, length-map c.args.inputs.now string_bytes)) old.files
     c.args.ready.now c.requires.ready) c.write_joined.ensures.counts
 
--- the text of the command is that of what was decided
+-- the text of the command is the text of what was decided
 told : (g : given.Over) (c : After-send_lines g) (all : List ℕ)
     → IsCommandText (seamless_command c.args.output.now (map string_bytes c.args.inputs.now))
     (g.D.Folder.seen c.args.folder.now).files all

@@ -1,4 +1,4 @@
--- In one slot they are the same where they are in any other.
+-- Headers are the same in one slot exactly if they are in any other.
 use Rattle.std.proofs.Common.{ap, ◌∙◌}
 use Rattle.frame_header.specs.{Fields.HeaderFields, HeaderBits.header_bits}
 use Rattle.join_edits.proofs.SoundLemmas.{header-alike}

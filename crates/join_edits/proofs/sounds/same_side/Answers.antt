@@ -1,4 +1,4 @@
--- The bytes are the same where the bits are.
+-- The bytes are the same exactly if the bits are.
 use Rattle.std.proofs.Common.{ap, bytes_eq, subst, sym, take, ◌∙◌}
 use Rattle.frame_header.specs.Tables.{side_size_of}
 use Rattle.join_edits.{proofs.SoundLemmas.{bare-fits, bits-tested}, specs.Sounds.compared_side}

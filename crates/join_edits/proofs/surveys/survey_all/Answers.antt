@@ -1,4 +1,4 @@
--- One input after another.
+-- Input by input.
 use Rattle.std.proofs.Common.{ap, append_assoc, ap₂, arith, drop, length, length-append, map, None}
 use Rattle.std.proofs.Common.{refl, string_bytes, take, [], ◌++◌, ◌+◌, ◌-◌, ◌∙◌, ◌∷◌, ◌≡◌}
 use Rattle.std.proofs.lemmas.List.{length-map, length-take, map-append, take-append-drop}
@@ -38,7 +38,7 @@ returns-in_err-survey-clause-refused g c =
     ∙ ap (λ l. class_of_first (map survey_view l)) c.deref.ensures.value)
     inv.allowed (ap₂ seen_folder inv.files inv.counts) inv.surveyed c.in_err-survey.ensures.refused)
 
--- the inputs so far, with this one
+-- the inputs so far, including this one
 are : (g : given.Over) (c : In_ok-survey g)
     → AreJoinInputs None most_frames (g.D.Folder.seen c.args.folder.now).files
     (take c.loop-place.place (map string_bytes c.args.inputs.now) ++ c.name_at-name.result.now ∷ [])

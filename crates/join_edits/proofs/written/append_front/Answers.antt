@@ -1,4 +1,4 @@
--- What is before the frames is written whole.
+-- The blocks and the Info frame are written whole.
 use Rattle.std.proofs.Common.{ap, append-nil, List, sym, ℕ, [], ◌++◌, ◌∙◌, ◌≡◌}
 use Rattle.frame_writer.proofs.WritingLemmas.{ok-both}
 use Rattle.outside.proofs.BufferOutputLemmas.{err_by}

@@ -1,5 +1,5 @@
 -- The ID3v2 blocks of the first input and the Info frame, the frames of all inputs, and then what
--- waits of them.
+-- waits.
 use Rattle.std.proofs.Common.{ap, append-nil, arith, flat_map, length, List, map, refl, rules}
 use Rattle.std.{proofs.Common.{string_bytes, sym, ℕ, [], ◌++◌, ◌∷◌, ◌≡◌, ◌≢◌}, specs.List.concat}
 use Rattle.cut_edits.proofs.LaidPassLemmas.{appends-as_prefix}

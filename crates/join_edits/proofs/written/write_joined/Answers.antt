@@ -61,7 +61,7 @@ module _ (g : given.Over) (c : In-Ok g) where
   apart : c.name_at.result.now ≢ c.args.output.now
   apart = (first-source _ c.name_at.ensures c.known_at-survey.ensures sources).apart
 
-  -- what is written is the same beside the output that was created
+  -- the bytes to write don't change when the output is created
   beside : (file : List ℕ) → join_bytes mid names known c.args.froms.now c.args.work.now file
       ≡ join_bytes old names known c.args.froms.now c.args.work.now file
   beside file =

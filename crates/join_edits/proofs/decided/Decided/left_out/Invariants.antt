@@ -1,4 +1,4 @@
--- The number of each seam so far is there.
+-- There is a number for each seam so far.
 use Rattle.std.proofs.Common.{take, ◌∷◌, ◌≡◌}
 use Rattle.join_edits.specs.Deciding.{left_out_counts}
 use Rattle.join_edits.proofs.decided.Decided.left_out.Given as goal

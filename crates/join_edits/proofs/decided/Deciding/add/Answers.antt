@@ -1,4 +1,4 @@
--- What becomes of one input more.
+-- What becomes of one more input.
 use Rattle.std.proofs.Common.{ap, ap₂, arith, false, get_or, IfSome, length, map, None, Some}
 use Rattle.std.proofs.{Common.{string_bytes, subst, [], ◌<◌, ◌∙◌, ◌≡◌}, lemmas.List.length-map}
 use Rattle.std.{proofs.lemmas.Slice.Zip.AllZip-long, specs.Prelude.slice_get}

@@ -1,4 +1,4 @@
--- Nothing is read, unless the first is the first frame of all and there is a head.
+-- Nothing is read, unless this is the first frame of all and there is a head.
 use Rattle.std.proofs.{Common.{arith, sym, [], ◌∙◌}, lemmas.Result.on_ok_weaker}
 use Rattle.join_edits.proofs.ReadingLemmas.{over-head, over-none}
 use Rattle.laying.proofs.ReadLemmas.{head-within, last-none}

@@ -1,4 +1,4 @@
--- The areas up to its own are read, and the main data are cut out of them.
+-- The areas up to the frame's own are read, and its main data are cut out of them.
 use Rattle.std.proofs.Common.{ap, slice_get, Some, subst, sym, true, ◌∙◌, ◌≡◌}
 use Rattle.join_edits.proofs.{FramePlaceLemmas.get-one, ReadingLemmas.{holds-data, HoldsData}}
 use Rattle.join_edits.proofs.main_data.Source.main_data.Goals.{After-from}

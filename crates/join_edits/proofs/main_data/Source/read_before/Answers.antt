@@ -1,4 +1,4 @@
--- One area more is read, up to frame i; then the last 2,048 bytes are there, or all.
+-- One more area is read, up to frame i; then the last 2,048 bytes are there, or all.
 use Rattle.std.proofs.Common.{ap, arith, slice_get, Some, subst, ◌∙◌, ◌≡◌}
 use Rattle.frame_header.specs.Tables.{class_of, length_of}
 use Rattle.join_edits.proofs.ReadingLemmas.{area-next}

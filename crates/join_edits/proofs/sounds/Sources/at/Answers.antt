@@ -1,4 +1,4 @@
--- The first of those from its place on.
+-- The first of the names and of the surveys from the place on.
 use Rattle.std.proofs.Common.{drop, map, string_bytes, ◌+◌}
 use Rattle.join_edits.proofs.FramePlaceLemmas.{drop-get}
 use Rattle.sync_survey.specs.Faults.{survey_view}

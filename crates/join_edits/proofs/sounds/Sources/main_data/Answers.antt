@@ -1,4 +1,4 @@
--- The main data of the frame of that input, or why it can't be read.
+-- The main data of the frame of the input, or why the input can't be read.
 use Rattle.std.proofs.{Common.{arith, map, refl, string_bytes, []}, lemmas.List.length-map}
 use Rattle.join_edits.proofs.FramePlaceLemmas.{frame-within, get-index, get-within, held-at}
 use Rattle.join_edits.proofs.FramePlaceLemmas.{input-within, payload-told}

@@ -1,4 +1,4 @@
--- Two frames sound alike where header, side information and main data are the same.
+-- Two frames sound alike if header, side information and main data are the same.
 use Rattle.std.proofs.Common.{ap, ap₂, bytes_eq, map, string_bytes, subst, sym, ◌∙◌, ◌≡◌}
 use Rattle.join_edits.proofs.FramePlaceLemmas.{class-first, class-here, places-compared}
 use Rattle.join_edits.proofs.FramePlaceLemmas.{places-differ}
@@ -9,7 +9,7 @@ use Rattle.sync_survey.specs.Faults.{survey_view}
 use Rattle.join_edits.proofs.sounds.Sources.sound_alike.Given as given
 use Rattle.join_edits.proofs.sounds.Sources.sound_alike.Goals as goal
 
--- it is the class of all inputs
+-- this is the class of all inputs
 of-one : (g : given.Over) (c : After-class-class g) → c.class-class.result ≡ c.requires.one.0
 of-one g c =
     let one = c.requires.one in
