@@ -1,5 +1,5 @@
--- Frames that a command chooses from a surveyed file: they have a
--- plan, and the file of them holds the stream that the command says.
+-- Frames that a command chooses from a surveyed file: they have a plan, and their file holds the
+-- stream that the command says.
 use Rattle.std.proofs.Common.{ap, append-nil, arith, Bool, cond, drop, Err, false, inl, inr, length}
 use Rattle.std.proofs.Common.{length-append, List, map, None, Ok, Option, refl, Result, rules, Some}
 use Rattle.std.proofs.Common.{subst, sym, take, true, ℕ, [], ◌&&◌, ◌++◌, ◌+◌, ◌∙◌, ◌∷◌, ◌≡◌}
@@ -41,13 +41,13 @@ use Rattle.sync_survey.specs.declared.{places.Head.Head, survey_fault.SurveyFaul
 
 -- ---- the choice
 
--- it has a frame, all its frames are there, and the extension has 36 bytes
+-- there is a chosen frame, all chosen frames are there, and the extension has 36 bytes
 pub record IsRight (chosen : Chosen) (s : SurveyFields) : Type 0 where
   pub some : chosen.from < chosen.to
   pub within : chosen.to ≤ length s.frames
   pub extension : length chosen.extension ≡ 36
 
--- the usual choices are of the 28 slots
+-- the usual choices are among the 28 slots
 pub usual_slots : (choices : HeaderFields → List SlotFields) → AreUsualChoices choices
     → AreSlots choices
 usual_slots choices (inl own) h slot is has = subst IsSlot (only_one h.slot slot
@@ -69,7 +69,7 @@ pub by_usual : (least : Bool) → AreUsualChoices (slot_choices least)
 by_usual true = inr refl
 by_usual false = inl refl
 
--- rows with headers of the standard need such headers
+-- rows with headers of the standard have needs with headers of the standard
 pub headers-known : (rows : List Row) → AreKnown rows → AreHeaders (map need_of rows)
 headers-known [] known = tt
 headers-known (r ∷ rows) known = (known.0, headers-known rows known.1)
@@ -84,7 +84,7 @@ module _ (chosen : Chosen) (s : SurveyFields) (placed : IsPlacedSurvey s)
   abbrev asked : PlanInput
   asked = plan_input (part_rows ∷ [])
 
-  -- they can be planned
+  -- the chosen frames can be planned
   pub rows-fit : IsFitPlanInput s.class asked
   rows-fit = one-part-fits s chosen.from chosen.to placed some within
 
@@ -95,19 +95,19 @@ module _ (chosen : Chosen) (s : SurveyFields) (placed : IsPlacedSurvey s)
     one_plan ps = parts-plan s.class choices (part_rows ∷ []) ps rows-fit
         (usual_order choices usual s.class asked rows-fit)
 
-    -- the first of all lists with a layout is their plan
+    -- the plan is the first of all lists with a layout
     pub the-plan : IsPlan (window_of s.class.version) choices (map need_of part_rows ∷ [])
         (first_plan choices s.class (chosen_needs chosen s))
     the-plan = (one_plan (first_plan choices s.class (chosen_needs chosen s))).1 refl
 
-    -- what the planner answers where it is given these frames alone
+    -- what the planner returns for these frames alone is their plan
     pub plan_is : (ps : List Placed)
         → IsPlan (window_in asked.needs) choices (needs_in_parts asked.needs asked.places) ps
         → ps ≡ first_plan choices s.class (chosen_needs chosen s)
     plan_is ps answer =
         (one_plan ps).0 (asked-plans s.class choices (part_rows ∷ []) ps rows-fit answer)
 
-    -- and it can be laid
+    -- the frames can be laid by the plan
     pub plan-fitting : IsFittingPlan (window_of s.class.version) (chosen_needs chosen s)
         (first_plan choices s.class (chosen_needs chosen s))
     plan-fitting =
@@ -117,7 +117,7 @@ module _ (chosen : Chosen) (s : SurveyFields) (placed : IsPlacedSurvey s)
         (chosen_needs chosen s ∷ []) (first_plan choices s.class (chosen_needs chosen s))
         (headers-known part_rows (part-known s chosen.from chosen.to placed), tt) the-plan)
 
-    -- their plan has at most one lead-in
+    -- the plan has at most one lead-in
     pub plan-few : length (first_plan choices s.class (chosen_needs chosen s))
         ≤ length (chosen_needs chosen s) + 1
     plan-few = omega (
@@ -126,10 +126,10 @@ module _ (chosen : Chosen) (s : SurveyFields) (placed : IsPlacedSurvey s)
       length-append (chosen_needs chosen s) [],
     )
 
--- in their own slots
+-- the file of chosen frames in their own slots
 module _ (chosen : Chosen) (file : List ℕ) (s : SurveyFields) (is : CanBeRelaid file s)
     (some : chosen.from < chosen.to) (within : chosen.to ≤ length s.frames) where
-  -- the file of them holds their stream
+  -- the file of the chosen frames holds their stream
   pub chosen-holds : length chosen.extension ≡ 36
       → HoldsStream (chosen_file chosen file s) (chosen_stream chosen file s)
   unfolding chosen_file chosen_stream
@@ -138,14 +138,14 @@ module _ (chosen : Chosen) (file : List ℕ) (s : SurveyFields) (is : CanBeRelai
 
 -- ---- a command that lays chosen frames in the slots of a plan
 
--- a planner whose refusals come once memory was taken, and by whose plans frames can be laid
+-- a planner that refuses only after memory was taken, and whose plans allow the frames to be laid
 pub record IsPlanning (plan : Planning) : Type 0 where
   pub late : (class : ClassFields) (needs : List Need) → IfErr (plan class needs) IsLateFault
   pub fitting : (chosen : Chosen) (s : SurveyFields) → IsPlacedSurvey s → chosen.from < chosen.to
       → chosen.to ≤ length s.frames → (placed : List Placed) → plan s.class (chosen_needs chosen s)
       ≡ Ok placed → IsFittingPlan (window_of s.class.version) (chosen_needs chosen s) placed
 
--- the first of all lists of slots is a planning
+-- the first list of slots with a layout is such a planning
 pub first_is_planning : (choices : HeaderFields → List SlotFields) → AreUsualChoices choices
     → IsPlanning (first_planning choices)
 first_is_planning choices usual = record {
@@ -156,14 +156,14 @@ first_is_planning choices usual = record {
       (plan-fitting chosen s well some within choices usual);
 }
 
--- what it chooses comes once memory was taken, and is right
+-- the command refuses only after memory was taken, and what it chooses is right
 pub record IsChoosing (choose : Choosing) : Type 0 where
   pub late : (file : List ℕ) (s : SurveyFields) → IfErr (choose file s) IsLateFault
   pub right : (file : List ℕ) (s : SurveyFields) (chosen : Chosen) → choose file s ≡ Ok chosen
       → IsRight chosen s
 
 module _ (choose : Choosing) (plan : Planning) where
-  -- what is made, by its steps
+  -- what is made, given its steps
   pub record IsLaidBy (file : List ℕ) (s : SurveyFields) (made : List ℕ) : Type 0 where
     pub chosen : Chosen
     pub chose : choose file s ≡ Ok chosen
@@ -172,7 +172,7 @@ module _ (choose : Choosing) (plan : Planning) where
     pub laid : laying_part choose plan file s ≡ Ok (placed_part chosen placed)
     pub is : file_laid (placed_part chosen placed) file s ≡ made
 
-  -- what was laid has a choice, a plan of it, and the file by that plan
+  -- if a file was made, there are a choice, its plan, and the file made by that plan
   pub laid-parts : (file : List ℕ) (s : SurveyFields) (made : List ℕ)
       → laying_making choose plan file s ≡ Ok made → IsLaidBy file s made
   unfolding laying_part
@@ -193,7 +193,7 @@ module _ (choose : Choosing) (plan : Planning) where
         is = ap (λ (l : LaidPart). file_laid l file s) same ∙ bytes;
       }
 
-  -- the frames that were chosen have their plan
+  -- what is laid are the chosen frames in the slots of their plan
   laid-is : (file : List ℕ) (s : SurveyFields) (chosen : Chosen)
       (r : Result (List Placed) EditFault) → choose file s ≡ Ok chosen
       → plan s.class (chosen_needs chosen s) ≡ r
@@ -202,7 +202,7 @@ module _ (choose : Choosing) (plan : Planning) where
   laid-is file s chosen r chose planned = ap (λ r. then_made r (planned_part plan s)) chose
       ∙ ap (λ r. then_made r (λ placed. Ok (placed_part chosen placed))) planned
 
-  -- a choice and its plan lay the file
+  -- a choice and its plan make the file
   pub laying-is : (file : List ℕ) (s : SurveyFields) (chosen : Chosen)
       (r : Result (List Placed) EditFault) → choose file s ≡ Ok chosen
       → plan s.class (chosen_needs chosen s) ≡ r → laying_making choose plan file s ≡ then_made
@@ -210,7 +210,7 @@ module _ (choose : Choosing) (plan : Planning) where
   laying-is file s chosen r chose planned = ap (λ r. then_made r
       (λ laid. Ok (file_laid laid file s))) (laid-is file s chosen r chose planned)
 
-  -- why nothing is made: nothing is chosen, or there is no plan
+  -- if nothing is made, nothing was chosen, or there is no plan
   pub laid-fault : (file : List ℕ) (s : SurveyFields) (fault : EditFault)
       → laying_making choose plan file s ≡ Err fault
       → (choose file s ≡ Err fault) ⊎ ((chosen : Chosen) × (choose file s ≡ Ok chosen)
@@ -315,7 +315,7 @@ chosen-within quality extension from to frames chosen e =
     outside-none from to frames (nat_lt from to && nat_le to frames) refl
     (unless_ok (outside_fault from to frames) _ chosen e).0
 
--- frames that are chosen so are frames of the survey, with an extension of 36 bytes
+-- frames chosen by a range are frames of the survey, with an extension of 36 bytes
 pub with_right : (quality : Option ℕ) (extension : List ℕ) (from to : ℕ) (s : SurveyFields)
     (chosen : Chosen) → length extension ≡ 36
     → chosen_range quality extension from to (length s.frames) ≡ Ok chosen → IsRight chosen s
@@ -325,7 +325,7 @@ with_right quality extension from to s chosen size e =
     subst (λ (c : Chosen). IsRight c s)
     ok.1 (record { some = there.0; within = there.1; extension = size })
 
--- so are those that cut chooses
+-- what `cut` chooses is right
 pub cut_choosing : (from to : Place) → IsChoosing (cut_choice from to)
 unfolding cut_choice
 cut_choosing from to = record {
@@ -363,7 +363,7 @@ all-whole file s chosen e =
     let same = (unless_ok (outside_fault 0 (length s.frames) (length s.frames)) _ chosen e).1 in
     (sym (ap (λ (c : Chosen). c.from) same), sym (ap (λ (c : Chosen). c.to) same))
 
--- so they are a choice
+-- what `pack` chooses is right
 pub all_choosing : IsChoosing all_choice
 unfolding all_choice
 all_choosing = record { late = λ file s. unless_late _ _; right = all_right }

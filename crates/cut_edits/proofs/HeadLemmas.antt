@@ -1,5 +1,4 @@
--- A head that could not be read; and a survey whose
--- head is set apart is one by which frames can be laid.
+-- A head that could not be read, and surveys whose head is set apart, by which frames can be laid.
 use Rattle.std.proofs.Common.{Bool, cond, false, length, List, map, None, Option, Some, true, ℕ, []}
 use Rattle.std.proofs.{Common.{◌+◌, ◌∙◌, ◌∷◌, ◌≡◌}, lemmas.List.length-map}
 use Rattle.std.specs.List.{enumerate_from}
@@ -17,7 +16,7 @@ use Rattle.sync_survey.specs.Faults.{SurveyFields}
 use Rattle.sync_survey.specs.HeadApart.{apart_row, apart_rows, emptied_row, rows_set_apart}
 use Rattle.sync_survey.specs.{Row.Row, Survey.AreWellPlaced, declared.places.Head.Head}
 
--- a head that could not be read is a fault of the only input, whatever is made of it
+-- a head that could not be read is a fault of the only input, whatever the command makes
 pub head_is_input : (make : Making) (name : List ℕ) (old new : Seen) (fault : EditFault)
     → IsHeadFault name old new fault → IsInputFault make name old new fault
 head_is_input make name old new fault h = each_why (why_of fault) h (record {
@@ -30,7 +29,7 @@ head_is_input make name old new fault h = each_why (why_of fault) h (record {
   no_memory = λ n. absurd n;
 })
 
--- its numbers are in range
+-- the numbers of such a fault are in range
 pub head_numbers : (refuses : Refusal → Bool) (fault : EditFault) → HasHeadNumbers fault
     → HasInputNumbers refuses fault
 head_numbers refuses (Input place fault) is = is
@@ -53,24 +52,25 @@ row_whole : (file : List ℕ) (r : Row) (lost : Bool) → IsWholeRow file r
 row_whole file r true is = record { frame = is.frame; pairs = side_paired true r.side is.pairs }
 row_whole file r false is = is
 
--- so are those with lost frames as empty ones
+-- whole rows stay whole if the lost ones are emptied
 pub emptied_whole : (file : List ℕ) (rows : List Row) → AreWholeRows file rows
     → AreWholeRows file (map emptied_row rows)
 emptied_whole file [] are = tt
 emptied_whole file (r ∷ rows) are = (row_whole file r r.lost are.0, emptied_whole file rows are.1)
 
--- it has as many frames
+-- a survey has as many frames when its head is set apart
 pub apart-length : (s : SurveyFields) → length (survey_without_head s).frames ≡ length s.frames
 apart-length s =
     length-map (rows_set_apart s.head s.frames) emptied_row ∙ length_apart s.head s.frames
 
--- their main data are where they may be
+-- the main data of its frames are still well placed
 pub apart-placed : (s : SurveyFields) → AreWellPlaced s.head s.class s.frames
     → AreWellPlaced s.head s.class (survey_without_head s).frames
 apart-placed s placed = placed-emptied s.head s.class (rows_set_apart s.head s.frames)
     (placed-apart s.head s.class s.frames placed)
 
--- its frames are whole, and if their main data are where they may be, so is all of it
+-- a file can be relaid by the survey whose head is set apart, if the main data are well placed
+-- there
 pub apart-had : (file : List ℕ) (s : SurveyFields) → CanBeRelaid file s
     → AreWellPlaced s.head s.class (survey_without_head s).frames
     → CanBeRelaid file (survey_without_head s)

@@ -1,4 +1,4 @@
--- The second pass, which lays chosen frames anew, and the work that is ready for it.
+-- The second pass, which repacks chosen frames, and the work that is prepared for it.
 use Rattle.std.proofs.Common.{ap, ap₂, arith, length, List, subst, sym, take, ℕ, ◌∙◌, ◌≡◌, ◌≢◌}
 use Rattle.commands.specs.SingleOutput.{IsMaking, Task}
 use Rattle.cut_edits.specs.Chosen.{Chosen, chosen_file, own_slots_part}
@@ -13,7 +13,7 @@ use Rattle.outside.specs.{Pass.AppendsPrefix, declared.pass.PassFault.PassFault}
 use Rattle.sync_survey.specs.{Faults.{survey_view, SurveyFields}, Survey.IsSurveyLaidOut}
 use Rattle.sync_survey.specs.declared.surveys.Survey.{Survey}
 
--- a prefix of the same by another function that gives the same bytes of the input
+-- a prefix stays one with another function that gives the same bytes for the input
 pub appends-as_prefix : {input output : List ℕ} (made other : List ℕ → List ℕ) {old new : Files}
     {fault : PassFault} → ((file : List ℕ) → Holds old input file → made file ≡ other file)
     → AppendsPrefix input output made old new fault → AppendsPrefix input output other old new fault
@@ -25,7 +25,7 @@ appends-as_prefix made other same h = record {
   files = h.files;
 }
 
--- once the output was created, all is ready for the pass
+-- once the output was created, the pass can begin
 pub relay-ready : (relay : Relay) (old mid : Files) (fed : Fed)
     → relay.pass.input.now ≢ relay.pass.output.now → IsFileThere old relay.pass.input.now
     → IsSurveyLaidOut (survey_view relay.survey.now) → ((file : List ℕ)
@@ -54,7 +54,7 @@ relay-ready relay old mid fed apart there laid has long created fed_from =
       laid = laid;
     }
 
--- where they are the chosen frames in the slots of their own plan, it is the file of these
+-- if the chosen frames are in the slots of their own plan, the file is the file of these
 pub file-is : (chosen : Chosen) (laid : LaidPart) (file : List ℕ) (s : SurveyFields)
     → laid ≡ own_slots_part chosen s → file_laid laid file s ≡ chosen_file chosen file s
 unfolding chosen_file
@@ -64,7 +64,7 @@ file-is chosen laid file s own = ap (λ l. file_laid l file s) own
 
 module _ (survey : Survey) (selected : Selected) (work : LaidWork)
     (of : IsWorkOf survey selected work) where
-  -- it is ready for the pass over the file that was read
+  -- the work is prepared for the pass over the file that was read
   pub work_layable : (input : List ℕ) (files : Files) → IsFileThere files input
       → IsSurveyLaidOut (survey_view survey)
       → ((bytes : List ℕ) → Holds files input bytes → CanBeRelaid bytes (survey_view survey))
@@ -81,7 +81,7 @@ module _ (survey : Survey) (selected : Selected) (work : LaidWork)
     unsent = of.unsent;
   }
 
-  -- and makes the file of the chosen frames
+  -- the work makes the file of the chosen frames
   pub work_makes : (task : Task) (files : Files)
       → IsMaking task (λ file. file_laid (selected_part selected) file (survey_view survey)) files
       → IsMaking task (work_file work) files

@@ -1,5 +1,5 @@
--- Exact pieces: their spans are of frames that are there, and
--- the file of a piece holds the stream that the command says.
+-- Exact pieces: the frames of their spans are there, and the file of a piece holds the stream that
+-- the command says.
 use Rattle.std.proofs.Common.{ap, arith, Bool, cond, Err, false, length, List, None, Ok, Option}
 use Rattle.std.proofs.Common.{refl, Result, rules, Some, subst, sym, true, ℕ, [], ◌&&◌, ◌*◌, ◌+◌}
 use Rattle.std.proofs.Common.{◌∙◌, ◌≡◌}
@@ -41,7 +41,7 @@ use Rattle.sync_survey.specs.declared.{places.Head.Head, survey_fault.SurveyFaul
 abbrev no_fault : Option Refusal
 no_fault = None
 
--- samples that aren't refused are some, and within the file
+-- samples that aren't refused are at least one, and within the file
 pub samples_there : (a b samples : ℕ) (test : Bool) → (nat_lt a b && nat_le b samples) ≡ test
     → cond test None (Some (NoSpan a b samples)) ≡ no_fault → (a < b) × (b ≤ samples)
 samples_there a b samples true is e = search rules
@@ -99,7 +99,7 @@ pub head_long : (file : List ℕ) (head : Option Head)
 head_long file None = tt
 head_long file (Some head) = head-extension file (Some head)
 
--- setting the head apart leaves the number of frames
+-- a span stays within the file when the head is set apart
 pub span_apart : (s : SurveyFields) (span : Span) → IsSpanIn s span
     → IsSpanIn (survey_without_head s) span
 span_apart s span is = record {
@@ -109,20 +109,20 @@ span_apart s span is = record {
       subst (λ (n : ℕ). span.last ≤ n) (sym (apart-length s)) is.within;
 }
 
--- a file without fault is one of which frames can be laid, once its head is set apart
+-- a file without fault can be relaid once its head is set apart
 pub apart_had : (file : List ℕ) (s : SurveyFields) → survey_of file most_frames ≡ Ok s
     → CanBeRelaid file (survey_without_head s)
 apart_had file s is = let had = survey-had file most_frames s is in
     apart-had file s had (apart-placed s had.placed)
 
--- what is laid of it holds its stream
+-- what is laid of a span holds its stream
 module _ (head : Option Info) (long : IfSome head (λ (i : Info). length i.extension ≡ 36))
     (span : Span) (file : List ℕ) (s : SurveyFields) (is : CanBeRelaid file s)
     (there : IsSpanIn s span) where
   abbrev plain : LaidPart
   plain = span_part head span s
 
-  -- an extension that says nothing has 36 bytes
+  -- the extension with delay and padding has 36 bytes
   pub plain-long : length plain.extension ≡ 36
   plain-long = extension-length head (delay_of s.class (span_lead_ins span plain.placed) span)
       (padding_of span) long
@@ -157,7 +157,7 @@ module _ (head : Option Info) (long : IfSome head (λ (i : Info). length i.exten
       (sealed-whole first.header (info_laid plain file s) (for-whole s.class
       (frames_laid plain file s) plain.quality plain.extension plain-long)).extension
 
-  -- and no frame of it is lost
+  -- the file of the piece loses no frame
   pub piece-loses-none : LosesNoFrame (file_laid (span_piece head span file s) file s)
   unfolding span_piece
   piece-loses-none = sealed_loses_none (slice_get s.frames span.first) refl
@@ -175,7 +175,7 @@ module _ (from to : ExactPlace) where
       (λ span. tt))
       (λ laid. tt)
 
-  -- what is made, by its steps
+  -- what is made, given its steps
   pub record IsPieceBy (file : List ℕ) (s : SurveyFields) (made : List ℕ) : Type 0 where
     pub span : Span
     pub span_is : file_span from to (fields_of_head file s.head) s ≡ Ok span
@@ -185,7 +185,7 @@ module _ (from to : ExactPlace) where
         file (survey_without_head s)
         ≡ made
 
-  -- a piece that was made has a span, and is made of it
+  -- a piece that was made has a span, and is made from it
   pub piece-parts : (file : List ℕ) (s : SurveyFields) (made : List ℕ)
       → exact_making from to file s ≡ Ok made → IsPieceBy file s made
   unfolding exact_part
@@ -206,7 +206,7 @@ module _ (from to : ExactPlace) where
             ap (λ (l : LaidPart). file_laid l file (survey_without_head s)) same ∙ bytes;
       }
 
-  -- the piece of a span that was found
+  -- the piece of a span that was found is made
   pub exact-is : (file : List ℕ) (s : SurveyFields) (span : Span)
       → file_span from to (fields_of_head file s.head) s ≡ Ok span → exact_making from to file s
       ≡ Ok (file_laid (span_piece (fields_of_head file s.head) span file (survey_without_head s))
@@ -218,7 +218,7 @@ module _ (from to : ExactPlace) where
       (λ r. then_made (then_made r (λ span. Ok (span_piece head span file (survey_without_head s))))
       (λ laid. Ok (file_laid laid file (survey_without_head s)))) found
 
-  -- why there is none
+  -- if no piece is made, no span was found
   pub exact-refused : (file : List ℕ) (s : SurveyFields) (fault : EditFault)
       → file_span from to (fields_of_head file s.head) s ≡ Err fault
       → exact_making from to file s ≡ Err fault

@@ -1,4 +1,4 @@
--- By the Info frame of an exact piece exactly the samples of its span are played.
+-- From the Info frame of an exact piece, players play exactly the samples of its span.
 use Rattle.std.proofs.Common.{ap, arith, Bool, cond, drop, false, length, List, None, Option, refl}
 use Rattle.std.proofs.Common.{Some, subst, sym, take, true, ℕ, ◌&&◌, ◌+◌, ◌-◌, ◌≡◌}
 use Rattle.std.proofs.lemmas.Bool.{and_parts, leb-true}
@@ -26,7 +26,7 @@ use Rattle.laying.specs.Written.{head_info, slot_in}
 use Rattle.slot_plan.specs.declared.needs.Placed.{Placed}
 use Rattle.sync_survey.specs.{Faults.SurveyFields, Row.Row, declared.places.Head.Head}
 
--- ---- the fields of a head are those that a struct can have
+-- ---- the fields that a head can have
 
 table_by : (place : ℕ) (bytes : List ℕ) (flagged : Bool) (test : Bool)
     → (flagged && nat_le (place + 100) (length bytes)) ≡ test
@@ -64,7 +64,7 @@ module _ (head : Option Info) (whole : IfSome head AreInfoFields)
   abbrev leads : ℕ
   leads = span_lead_ins span plain.placed
 
-  -- its lead-ins are those that the span has to have
+  -- the piece has the lead-ins that its span has to have
   pub leads-are : AreLeads span leads
   leads-are = with-leads (span_chosen head span) s is.placed there.some there.within span refl refl
 
@@ -97,7 +97,7 @@ module _ (head : Option Info) (whole : IfSome head AreInfoFields)
         numbers = sealed.says (delay_of s.class leads span) (padding_of span) said;
       }
 
-  -- the fields of its Info frame say the span
+  -- the fields of the piece's Info frame give the span
   pub piece-head : IsPieceHead s.class leads span (info_laid (span_piece head span file s) file s)
   unfolding span_piece
   piece-head = says (slice_get s.frames span.first) refl
@@ -114,7 +114,7 @@ piece_placed : (head : Option Info) (span : Span) (file : List ℕ) (s : SurveyF
 unfolding span_piece
 piece_placed head span file s = sealed_placed head span file s (slice_get s.frames span.first)
 
--- nor the frames
+-- sealing doesn't change which frames are laid
 sealed_from_same : (head : Option Info) (span : Span) (file : List ℕ) (s : SurveyFields)
     (o : Option Row) → (row_sealed_part o (span_part head span s) file s).from ≡ span.first
 sealed_from_same head span file s None = refl
@@ -125,19 +125,19 @@ sealed_to_same : (head : Option Info) (span : Span) (file : List ℕ) (s : Surve
 sealed_to_same head span file s None = refl
 sealed_to_same head span file s (Some first) = refl
 
--- a piece has the frames from the first of its span
+-- the first frame of a piece is the first of its span
 pub piece-from : (head : Option Info) (span : Span) (file : List ℕ) (s : SurveyFields)
     → (span_piece head span file s).from ≡ span.first
 unfolding span_piece
 piece-from head span file s = sealed_from_same head span file s (slice_get s.frames span.first)
 
--- up to the last
+-- the last frame of a piece is the last of its span
 pub piece-to : (head : Option Info) (span : Span) (file : List ℕ) (s : SurveyFields)
     → (span_piece head span file s).to ≡ span.last
 unfolding span_piece
 piece-to head span file s = sealed_to_same head span file s (slice_get s.frames span.first)
 
--- exactly the samples of its span are played of a piece
+-- of a piece exactly the samples of its span are played
 pub pieces-play : PiecesPlayTheirSamples
 unfolding file_span
 pieces-play file s from to span is e =

@@ -1,4 +1,5 @@
--- The sealed Info frame of a piece: it is that of the fields with the extension that is in it.
+-- The sealed Info frame of a piece: it is the Info frame of the fields with the extension that is
+-- in it.
 use Rattle.std.proofs.Common.{ap, drop, length, List, map, Option, refl, Some, subst, sym, take, ℕ}
 use Rattle.std.proofs.{Common.{[], ◌+◌, ◌∙◌, ◌∷◌, ◌≡◌, ◌≤◌}, lemmas.List.length-map}
 use Rattle.std.{proofs.lemmas.List.FromFn.length-range_with_len, specs.List.range_with_len}
@@ -28,7 +29,7 @@ for-whole c frames quality extension long = record {
   extension = long;
 }
 
--- the Info frame before frames in these slots, by the slots alone
+-- the Info frame before frames in these slots, which depends on the slots alone
 abbrev pub IsInfoFor : (SurveyFields) → ℕ → List Placed → Option ℕ → List ℕ → List ℕ → Type 0
 IsInfoFor s from placed quality extension bytes =
     (first : Row) (frames : List Frame) → slice_get s.frames from ≡ Some first
@@ -41,7 +42,7 @@ module _ (s : SurveyFields) (well : IsPlacedSurvey s) (from : ℕ) (inside : fro
   class_is : (first : Row) → slice_get s.frames from ≡ Some first → class_of first.header ≡ s.class
   class_is first found = (well from first found).class_is
 
-  -- whatever fields it has, if all of them are there, it can be sealed
+  -- an Info frame with any fields that a head can have has room for all of them
   room-with : (fields : HeaderFields → List Frame → Info) (bytes : List ℕ)
       → ((h : HeaderFields) (frames : List Frame) → AreInfoFields (fields h frames))
       → ((first : Row) (frames : List Frame) → slice_get s.frames from ≡ Some first
@@ -60,13 +61,13 @@ module _ (s : SurveyFields) (well : IsPlacedSurvey s) (from : ℕ) (inside : fro
   whole-for : (frames : List Frame) → AreInfoFields (info_for s.class frames quality extension)
   whole-for frames = for-whole s.class frames quality extension long
 
-  -- its Info frame has room for the fields
+  -- the Info frame of the piece has room for the fields
   pub info-room : text_place s.class + 156 ≤ length old
   info-room =
       room-with (λ h frames. info_for s.class frames quality extension) old (λ h. whole-for) is
 
   module _ (new : List ℕ) (seals : new ≡ sealed_frame s.class old) where
-    -- and then it is the Info frame of the sealed fields
+    -- the sealed frame is the Info frame of the sealed fields
     pub sealed-is : (first : Row) (frames : List Frame) → slice_get s.frames from ≡ Some first
         → map slot_in frames ≡ map (λ (p : Placed). p.slot) placed → new ≡ info_frame first.header
         (sealed_info first.header (info_for s.class frames quality extension))
@@ -84,7 +85,7 @@ module _ (s : SurveyFields) (well : IsPlacedSurvey s) (from : ℕ) (inside : fro
         (λ h frames. sealed-whole h (info_for s.class frames quality extension) (whole-for frames))
         sealed-is
 
--- the extension that is read of a sealed Info frame is that of the sealed fields
+-- the extension that is read from a sealed Info frame is the extension of the sealed fields
 pub sealed-read : (c : ClassFields) (first : HeaderFields) (info : Info) (bytes : List ℕ)
     → AreInfoFields info → class_of first ≡ c → bytes ≡ info_frame first (sealed_info first info)
     → take 36 (drop (text_place c + 120) bytes) ≡ (sealed_info first info).extension

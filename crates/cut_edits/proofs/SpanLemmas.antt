@@ -1,5 +1,5 @@
--- The frames of a span in the slots of their plan: at most one
--- lead-in is before them, and one where the span has to have it.
+-- The frames of a span in the slots of their plan: at most one lead-in comes before them, and one
+-- if the span has to have it.
 use Rattle.std.proofs.Common.{append-nil, arith, Bool, drop, false, IsTrue, length, List, map, refl}
 use Rattle.std.proofs.Common.{subst, true, ℕ, [], ◌+◌, ◌-◌, ◌∷◌, ◌≡◌}
 use Rattle.std.proofs.lemmas.List.{length-drop, length-map, length-take}
@@ -43,7 +43,7 @@ unfolding led_items
 led_open [] are = tt
 led_open (need ∷ needs) are = ((λ slot has. slot_among slot has), frames_open (need ∷ needs) are)
 
--- a list that is placed for items is as long as they
+-- a list of slots for items is as long as the items
 pub for_length : (items : List PlanItem) (placed : List Placed) → AreItemSlots items placed
     → length placed ≡ length items
 unfolding AreItemSlots
@@ -102,7 +102,7 @@ module _ (chosen : Chosen) (s : SurveyFields) (placed : IsPlacedSurvey s)
   parts_is : needs_in_parts asked.needs asked.places ≡ needs ∷ []
   parts_is = parts_are [] 0 (chosen_rows chosen s ∷ []) refl
 
-  -- what the planner answers of them is the led plan
+  -- what the planner returns for these needs is the led plan
   pub led-is : (ps : List Placed) → IsLedPlan (window_of s.class.version) own_choice needs ps
       ↔ (ps ≡ led_plan (window_of s.class.version) own_choice needs)
   led-is ps =
@@ -117,7 +117,7 @@ module _ (chosen : Chosen) (s : SurveyFields) (placed : IsPlacedSurvey s)
   unfolding needs_of_parts
   flat = append-nil needs
 
-  -- the plan with a lead-in is the value of the definition
+  -- a plan with a lead-in is the one of the definition
   pub led-answer : (ps : List Placed) → IsLedPlan (window_in asked.needs) own_choice asked.needs ps
       → ps ≡ led_plan (window_of s.class.version) own_choice needs
   led-answer ps plan =
@@ -138,7 +138,7 @@ module _ (chosen : Chosen) (s : SurveyFields) (placed : IsPlacedSurvey s)
   known : AreHeaders needs
   known = headers-known (chosen_rows chosen s) (part-known s chosen.from chosen.to placed)
 
-  -- by either plan the frames can be laid
+  -- the frames can be laid by either plan
   pub with-fitting : (led : Bool)
       → IsFittingPlan (window_of s.class.version) needs (span_plan led s.class needs)
   with-fitting false = plan-fitting chosen s placed some within own_choice (by_usual false)
@@ -162,13 +162,13 @@ module _ (chosen : Chosen) (s : SurveyFields) (placed : IsPlacedSurvey s)
         needs-length,
       )
 
-  -- it has at most one place more than frames
+  -- the plan has at most one place more than frames
   pub with-few : (led : Bool) → length (span_plan led s.class needs) ≤ chosen.to - chosen.from + 1
   with-few false =
       omega (arith, plan-few chosen s placed some within own_choice (by_usual false), needs-length)
   with-few true = omega (arith, led_many)
 
-  -- and no fewer
+  -- the plan has no fewer places than frames
   pub with-many : (led : Bool) → chosen.to - chosen.from ≤ length (span_plan led s.class needs)
   with-many led = omega (
     arith,
@@ -182,7 +182,7 @@ module _ (chosen : Chosen) (s : SurveyFields) (placed : IsPlacedSurvey s)
   with_led false is = absurd cc
   with_led true is = omega (arith, led_many)
 
-  -- it has a lead-in where the span has to have one
+  -- the plan has a lead-in if the span has to have one
   pub with-leads : (span : Span) → chosen.from ≡ span.first → chosen.to ≡ span.last
       → AreLeads span (span_lead_ins span (span_plan span.led s.class needs))
   with-leads span from to = record {

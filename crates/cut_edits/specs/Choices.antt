@@ -11,7 +11,7 @@ abbrev pub choosing_of : FrameChoice → Choosing
 choosing_of (Between from to) = cut_choice from.now to.now
 choosing_of All = all_choice
 
--- which refusals it may give
+-- which refusals the command may return
 abbrev pub refuses_of_choice : FrameChoice → Refusal → Bool
 refuses_of_choice (Between from to) = cut_refuses
 refuses_of_choice All = pack_refuses
@@ -22,7 +22,7 @@ task_of_choice choice least input =
     laying_task (choosing_of choice) (first_planning (slot_choices least))
     (refuses_of_choice choice) input
 
--- both positions are sound: a time has 1 to 100 parts a second
+-- both positions are sound: a time has 1 to 100 parts per second
 abbrev pub IsSoundChoice : FrameChoice → Type 0
 IsSoundChoice (Between from to) = IsPlace from.now × IsPlace to.now
 IsSoundChoice All = Unit {0}

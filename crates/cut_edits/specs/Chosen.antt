@@ -1,4 +1,5 @@
--- A file of frames chosen from another, laid anew in slots: what is cut out, and what is packed.
+-- A file of frames chosen from another and repacked into slots: what is cut out, and what is
+-- packed.
 use Rattle.std.specs.Prelude.{Bool, Err, false, if◌then◌else◌, length, List, map, nat_le, nat_lt}
 use Rattle.std.specs.Prelude.{None, Ok, Option, replicate, Result, slice_range, Some, true, ℕ, []}
 use Rattle.std.specs.Prelude.{◌&&◌, ◌<◌, ◌∷◌, ◌≡◌, ◌≤◌, ◌⊎◌}
@@ -18,22 +19,22 @@ use Rattle.sync_survey.specs.declared.survey_fault.SurveyFault.{SurveyFault}
 
 -- ---- what is chosen
 
--- The frames from one up to, but not including, another,
--- and the quality and extension for the Info frame.
+-- The frames from one up to, but not including, another, and the quality and extension for the Info
+-- frame.
 pub record Chosen : Type 0 where
   pub from : ℕ
   pub to : ℕ
   pub quality : Option ℕ
   pub extension : List ℕ
 
--- there is a frame between them, and all are there, of a survey with at most so many frames
+-- there is a frame between them, and all are there, in a survey with at most `most` frames
 pub record AreChosenThere (most : ℕ) (chosen : Chosen) (s : SurveyFields) : Type 0 where
   pub laid : IsSurveyLaidOut s
   pub few : length s.frames ≤ most
   pub some : chosen.from < chosen.to
   pub within : chosen.to ≤ length s.frames
 
--- that of the code
+-- the choice that the code holds in a struct
 abbrev pub chosen_in : CodeChosen → Chosen
 chosen_in chosen = record {
   from = chosen.from;
@@ -47,13 +48,13 @@ abbrev pub outside_fault : ℕ → ℕ → ℕ → Option Refusal
 outside_fault from to frames =
     if nat_lt from to && nat_le to frames then None else Some (Range from to frames)
 
--- ---- the file of them
+-- ---- the file of the chosen frames
 
 -- the chosen frames, as they are in the survey
 abbrev pub chosen_rows : Chosen → SurveyFields → List Row
 chosen_rows chosen s = slice_range s.frames chosen.from chosen.to
 
--- what they need, which is what is planned
+-- the needs of the chosen frames, for which the plan is made
 abbrev pub chosen_needs : Chosen → SurveyFields → List Need
 chosen_needs chosen s = map need_of (chosen_rows chosen s)
 
@@ -61,12 +62,12 @@ chosen_needs chosen s = map need_of (chosen_rows chosen s)
 abbrev pub AreUsualChoices : (HeaderFields → List SlotFields) → Type 0
 AreUsualChoices choices = (choices ≡ own_choice) ⊎ (choices ≡ any_choice)
 
--- The slots of their plan: of all lists the first, in the order of areas, for which there is a
--- layout, after a lead-in only where there is none without.
+-- The slots of their plan: of all lists the first, in order of areas, for which there is a layout,
+-- with a lead-in only if there is none without.
 abbrev pub first_plan : (HeaderFields → List SlotFields) → ClassFields → List Need → List Placed
 first_plan choices class needs = least_plan (window_of class.version) choices (needs ∷ [])
 
--- that of their own slots
+-- the plan of the chosen frames in their own slots
 abbrev pub own_slots_plan : Chosen → SurveyFields → List Placed
 own_slots_plan chosen s = first_plan own_choice s.class (chosen_needs chosen s)
 
@@ -80,7 +81,7 @@ placed_part chosen placed = record {
   extension = chosen.extension;
 }
 
--- these were made ready: the chosen frames in the slots of their plan, which can be written
+-- these were prepared: the chosen frames in the slots of their plan, which can be written
 pub record IsSelected (choices : HeaderFields → List SlotFields) (chosen : Chosen)
     (s : SurveyFields) (selected : Selected) : Type 0 where
   pub laid : selected_part selected
@@ -95,9 +96,9 @@ own_slots_part chosen s = placed_part chosen (own_slots_plan chosen s)
 abbrev pub chosen_file_part : Chosen → List ℕ → SurveyFields → FilePart
 chosen_file_part chosen file s = source_part (own_slots_part chosen s) file s
 
--- the file of the chosen frames in their own slots: the ID3v2 blocks before the first frame or the
--- head; an Info frame by the header of the first chosen frame; the lead-in and the frames, with all
--- main data laid into their slots; all other blocks in their order
+-- The file of the chosen frames in their own slots: the ID3v2 blocks before the first frame or the
+-- head; an Info frame with the header of the first chosen frame; the lead-in and the frames, with
+-- all main data laid into their slots; all other blocks in their order.
 unfoldable pub chosen_file : Chosen → List ℕ → SurveyFields → List ℕ
 chosen_file chosen file s = file_laid (own_slots_part chosen s) file s
 
@@ -107,7 +108,7 @@ chosen_stream chosen file s = stream_laid (own_slots_part chosen s) file s
 
 -- ---- the commands
 
--- what a command chooses of a file with this survey, or why it refuses it
+-- what a command chooses from a file with this survey, or why it refuses it
 abbrev pub Choosing : Type 0
 Choosing = List ℕ → SurveyFields → Result Chosen EditFault
 
@@ -115,7 +116,7 @@ Choosing = List ℕ → SurveyFields → Result Chosen EditFault
 abbrev pub Planning : Type 0
 Planning = ClassFields → List Need → Result (List Placed) EditFault
 
--- of well-formed files there is always a first plan
+-- well-formed files always have a first plan
 abbrev pub first_planning : (HeaderFields → List SlotFields) → Planning
 first_planning choices class needs = Ok (first_plan choices class needs)
 
@@ -124,33 +125,33 @@ abbrev pub planned_part : Planning → SurveyFields → Chosen → Result LaidPa
 planned_part plan s chosen =
     then_made (plan s.class (chosen_needs chosen s)) (λ placed. Ok (placed_part chosen placed))
 
--- what such a command lays of a file with this survey, or why it refuses it
+-- what such a command lays from a file with this survey, or why it refuses it
 unfoldable pub laying_part : Choosing → Planning → List ℕ → SurveyFields → Result LaidPart EditFault
 laying_part choose plan file s = then_made (choose file s) (planned_part plan s)
 
--- the file of it
+-- the file of what is laid
 abbrev pub laying_making : Choosing → Planning → Making
 laying_making choose plan file s =
     then_made (laying_part choose plan file s) (λ laid. Ok (file_laid laid file s))
 
--- the stream of what is laid; empty where nothing is
+-- the stream of what is laid; empty if nothing is laid
 abbrev pub laid_stream_or_none : List ℕ → SurveyFields → Result LaidPart EditFault
     → List StreamFrame
 laid_stream_or_none file s (Err fault) = []
 laid_stream_or_none file s (Ok laid) = stream_laid laid file s
 
--- that of a file with this survey; empty where it has a fault
+-- the stream of what is laid from a file with this survey; empty if the survey has a fault
 abbrev pub surveyed_laid_stream : Choosing → Planning → List ℕ → Result SurveyFields SurveyFault
     → List StreamFrame
 surveyed_laid_stream choose plan file (Err fault) = []
 surveyed_laid_stream choose plan file (Ok s) =
     laid_stream_or_none file s (laying_part choose plan file s)
 
--- the stream of what is written; empty where nothing is written
+-- the stream of what is written; empty if nothing is written
 abbrev pub laying_stream : Choosing → Planning → List ℕ → List StreamFrame
 laying_stream choose plan file = surveyed_laid_stream choose plan file (survey_of file most_frames)
 
--- what is made is the file of the chosen frames in the slots of their plan
+-- it makes the file of the chosen frames in the slots of their plan
 abbrev pub laying_task : Choosing → Planning → (Refusal → Bool) → List ℕ → Task
 laying_task choose plan refuses input =
     file_task (laying_making choose plan) (laying_stream choose plan) refuses input
@@ -193,14 +194,14 @@ abbrev pub slot_choices : Bool → HeaderFields → List SlotFields
 slot_choices true = any_choice
 slot_choices false = own_choice
 
--- the input's frames between two positions are the output
+-- the output is the input's frames between two positions
 abbrev pub cut_command : Place → Place → Bool → List ℕ → List ℕ → Command
 cut_command from to least input output =
     one_command
     (laying_task (cut_choice from to) (first_planning (slot_choices least)) cut_refuses input)
     output
 
--- all frames of the input, in the least slots, are the output
+-- the output is all frames of the input, in the least slots
 abbrev pub pack_command : List ℕ → List ℕ → Command
 pack_command input output =
     one_command (laying_task all_choice (first_planning any_choice) pack_refuses input) output

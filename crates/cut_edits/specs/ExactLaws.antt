@@ -8,10 +8,10 @@ use Rattle.info_header.specs.declared.fields.Info.{Info}
 use Rattle.laying.specs.{KeptFields.fields_of_head, Laid.info_laid, Surveys.CanBeRelaid}
 use Rattle.sync_survey.specs.Faults.{SurveyFields}
 
--- With so many lead-ins the frames of the span, after a head with these fields, play as
--- many samples as there are from a to before b in the file with this head: the head says
--- how many frames they are, and the delay and the padding of the span; and sample k of them
--- is at the offset in its frame at which sample a + k of the file is in the same frame.
+-- With `many` lead-ins the frames of the span, after a head with these fields, play as many samples
+-- as there are from a to before b in the file with this head: the head gives the number of frames,
+-- and the delay and the padding of the span; and sample k of them is at the same offset of the same
+-- frame as sample a + k of the file.
 pub record PlaysItsSamples (input : Option Info) (s : SurveyFields) (a b : ℕ) (span : Span)
     (many : ℕ) (fields : Info) : Type 0 where
   pub leads : AreLeads span many
@@ -19,7 +19,7 @@ pub record PlaysItsSamples (input : Option Info) (s : SurveyFields) (a b : ℕ) 
   pub places : KeepsPlaces s.class many span.first a b (played_of (Some fields)
       s.class (many + (span.last - span.first))) (played_of input s.class (length s.frames))
 
--- so it is with the Info frame of every exact piece
+-- the Info frame of every exact piece plays its samples
 abbrev pub PiecesPlayTheirSamples : Type 0
 PiecesPlayTheirSamples =
     (file : List ℕ) (s : SurveyFields) (from to : ExactPlace) (span : Span) →

@@ -1,4 +1,4 @@
--- The head of an input that can't be read.
+-- A head that can't be read.
 use Rattle.std.specs.Prelude.{List, ℕ, ◌≡◌, ◌≢◌}
 use Rattle.commands.specs.{AfterCall.{by_why, no_cause, why_of}, FaultKinds.HasRightNumbers}
 use Rattle.commands.specs.SingleOutput.{LosesInput, ReadsNothing}
@@ -15,7 +15,7 @@ IsHeadFault input old new fault = by_why
     })
     (why_of fault)
 
--- the fault is one of this input from outside
+-- the fault is one of reading this input
 abbrev pub HasHeadNumbers : EditFault → Type 0
 HasHeadNumbers (Input place fault) = (place ≡ 0) × (fault ≢ NoRoom) × HasRightNumbers fault
 HasHeadNumbers _ = ⊥

@@ -21,13 +21,14 @@ use sync_survey::Survey;
 /// Which frames are chosen.
 #[derive(Clone, Copy)]
 pub enum FrameChoice<'a> {
-    /// Those from the first position up to, but not including, the second.
+    /// The frames from the first position up to, but not including, the second.
     Between(&'a Place, &'a Place),
-    /// All, with the quality and extension that the head of the input has.
+    /// All frames, with the quality and extension of the input's head.
     All,
 }
 
-/// The frames between two positions: `Range` where there is none, or where the second is after the end of the file.
+/// The frames between two positions: `Range` if there is none, or if the second is after the end of
+/// the file.
 #[tactic(auto, unfolding(crate::specs::Chosen::cut_choice))]
 pub fn cut_choice(survey: &Survey, from: &Place, to: &Place) -> Result<Chosen, EditFault>
     requires from { IsPlace from.now }
@@ -49,10 +50,10 @@ pub fn cut_choice(survey: &Survey, from: &Place, to: &Place) -> Result<Chosen, E
     choose(from, to, frames, Kept::none())
 }
 
-/// All frames, with the quality and extension that the head of the input has.
+/// All frames, with the quality and extension of the input's head.
 ///
 /// # Errors
-/// `Input` with `Read` and `Shrunk` where the frame of the head could not be read. The files stay.
+/// `Input` with `Read` and `Shrunk` if the frame of the head could not be read. The files stay.
 pub fn all_choice<D: Folder>(
     folder: &mut D,
     name: &str,
@@ -67,7 +68,7 @@ pub fn all_choice<D: Folder>(
         (λ bytes. all_choice bytes (survey_view survey.now) ≡ Ok (chosen_in chosen))) }
     ensures some { IfOk result (λ chosen. chosen.from < chosen.to) }
     ensures within { IfOk result (λ chosen. chosen.to ≤ length (survey_view survey.now).frames) }
-    // Whatever the command makes of them.
+    // This holds whatever the command makes of the frames.
     ensures refused { IfErr result (λ fault. (make : Making)
         → IsInputFault make name.now (D.seen folder.old)
         (D.seen folder.new) fault) }
@@ -87,8 +88,9 @@ pub fn all_choice<D: Folder>(
 }
 
 impl<'a> FrameChoice<'a> {
-    /// The chosen frames of a surveyed input: `Range` where there is none between the positions, or where the second is after
-    /// the end; `Input(0, ..)` with `Read` and `Shrunk` where the frame of the head could not be read.
+    /// The chosen frames of a surveyed input: `Range` if there is none between the positions, or if
+    /// the second is after the end; `Input(0, ..)` with `Read` and `Shrunk` if the frame of the
+    /// head could not be read.
     pub(crate) fn find<D: Folder>(
         &self,
         folder: &mut D,
@@ -105,7 +107,7 @@ impl<'a> FrameChoice<'a> {
             (λ bytes. choosing_of self.now bytes (survey_view survey.now) ≡ Ok (chosen_in chosen))) }
         ensures some { IfOk result (λ chosen. chosen.from < chosen.to) }
         ensures within { IfOk result (λ chosen. chosen.to ≤ length (survey_view survey.now).frames) }
-        // However the frames are planned.
+        // This holds however the frames are planned.
         ensures refused { IfErr result (λ fault. (plan : Planning)
             → IsInputFault (laying_making (choosing_of self.now) plan) name.now
             (D.seen folder.old)

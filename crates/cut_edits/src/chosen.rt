@@ -15,8 +15,8 @@ pub struct Chosen {
     pub kept: Kept,
 }
 
-/// The frames from `from` up to, but not including, `to`, counted from 0, of a file of `frames` frames: `Range` where there
-/// is none between them, or `to` is greater than `frames`.
+/// The frames from `from` up to, but not including, `to`, counted from 0, of a file of `frames`
+/// frames: `Range` if there is none between them, or `to` is greater than `frames`.
 pub fn choose(from: u64, to: u64, frames: usize, kept: Kept) -> Result<Chosen, EditFault>
     ensures chosen { MatchResult result
         (λ chosen. chosen_range kept.quality kept.extension from to frames

@@ -8,12 +8,12 @@ use commands::{Edit, EditFault, Inputs, MOST_FRAMES, survey_at};
 use outside::Folder;
 use std::alloc::Global;
 
-/// An input of which frames are chosen.
+/// An input from which frames are chosen.
 #[derive(Clone, Copy)]
 pub struct FrameEdit<'a> {
     pub input: &'a str,
     pub choice: FrameChoice<'a>,
-    /// Whether each frame gets the least slot, and doesn't keep its own.
+    /// Whether each frame gets the least slot instead of keeping its own.
     pub least: bool,
 }
 

@@ -12,7 +12,7 @@ use exact_span::ExactPlace;
 use outside::Folder;
 use std::alloc::Global;
 
-/// An input of which the samples from one place to another are chosen.
+/// An input from which the samples from one place to another are chosen.
 #[derive(Clone, Copy)]
 pub struct ExactEdit<'a> {
     pub input: &'a str,

@@ -17,7 +17,7 @@ use sync_survey::Survey;
 /// The fields of the head of the input, if it has one. The files stay.
 ///
 /// # Errors
-/// `Input(0, ..)` with `Read` and `Shrunk` where the frame of the head could not be read.
+/// `Input(0, ..)` with `Read` and `Shrunk` if the frame of the head could not be read.
 pub fn read_head<D: Folder>(
     folder: &mut D,
     name: &str,

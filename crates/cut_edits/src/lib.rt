@@ -1,4 +1,4 @@
-//! The commands that lay chosen frames of a file anew in another: `cut`, `cut_exact` and `pack`.
+//! The commands that repack chosen frames of a file into another: `cut`, `cut_exact` and `pack`.
 #![tactic(auto)]
 
 mod apart;

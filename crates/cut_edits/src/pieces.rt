@@ -31,11 +31,11 @@ use slot_plan::{Keep, Placed, Plan, plan_led};
 use std::alloc::{AllocError, Global};
 use sync_survey::Survey;
 
-/// Where the extension is, in bytes from the text of a head with all fields.
+/// Where the extension is, in bytes after the text of a head with all fields.
 const EXTENSION_AT: usize = 120;
 
-/// The plan of chosen frames in their own slots: after a lead-in in any case where they have to be led, and else only where
-/// they have no layout without one.
+/// The plan of chosen frames in their own slots: with a lead-in if the span has to have one,
+/// otherwise only if there is no layout without one.
 fn plan_piece(
     alloc: Global,
     survey: &Survey,
@@ -54,15 +54,15 @@ fn plan_piece(
     }
 }
 
-/// The quality that a head says.
+/// The quality given by a head, if there is one.
 fn quality_of(head: Option<&Info>) -> Option<u32>
     ensures { result ≡ quality_of (option_copied head.entry) }
 {
     head?.quality
 }
 
-/// What the Info frame of a piece says besides what it counts: the quality of the head, and its extension with delay and
-/// padding of the span in the slots of a plan.
+/// What the Info frame of a piece says besides its counts: the quality of the head, and its
+/// extension with delay and padding of the span in the slots of a plan.
 fn kept_of(class: Class, head: Option<&Info>, span: &Span, placed: &[Placed]) -> Kept
     requires span { IsSpan class span.now }
     requires some { span.now.first < span.now.last }
@@ -92,15 +92,16 @@ fn extension_in(class: Class, frame: &[u8]) -> [u8; 36]
     extension
 }
 
-/// The extension has 36 bytes. It runs nothing: the type says so, and its contract hands that to a proof.
+/// The extension has 36 bytes. It runs nothing: the type says so, and its contract gives that to a
+/// proof.
 fn has_all(extension: &[u8; 36])
     ensures { length extension.now ≡ 36 }
 {
     let _ = extension;
 }
 
-/// The bytes of the Info frame before frames of a surveyed input in the slots of a plan, sealed. The first of the frames is
-/// frame `from`, whose header it has.
+/// The bytes of the sealed Info frame before frames of a surveyed input in the slots of a plan. The
+/// first of the frames is frame `from`, whose header it has.
 fn sealed_info(survey: &Survey, from: usize, kept: &Kept, placed: &[Placed]) -> ArrayVec<u8, 1441>
     requires well { IsPlacedSurvey (survey_view survey.now) }
     requires within { from < length (survey_view survey.now).frames }
@@ -118,8 +119,8 @@ fn sealed_info(survey: &Survey, from: usize, kept: &Kept, placed: &[Placed]) -> 
     info
 }
 
-/// Frames of a surveyed input in the slots of a plan, with what their Info frame says besides what it counts. The Info
-/// frame has its music length and its tag CRC.
+/// Frames of a surveyed input in the slots of a plan, with what their Info frame says besides its
+/// counts. The Info frame has its music length and its tag CRC.
 fn select_sealed(survey: &Survey, from: usize, to: usize, kept: Kept, plan: Plan) -> Selected
     requires placed { IsPlacedSurvey (survey_view survey.now) }
     requires some { from < to }
@@ -143,11 +144,11 @@ fn select_sealed(survey: &Survey, from: usize, to: usize, kept: Kept, plan: Plan
     }
 }
 
-/// The frames of a span in the slots of their plan, and their sealed Info frame, which keeps of the head what it doesn't
-/// count.
+/// The frames of a span in the slots of their plan, and their sealed Info frame, which keeps those
+/// fields of the head that it doesn't count.
 ///
 /// # Errors
-/// Where there is no memory.
+/// If memory runs out.
 pub fn select_piece(
     alloc: Global,
     survey: &Survey,

@@ -27,7 +27,7 @@ pub fn chosen_parts(alloc: Global, survey: &Survey, chosen: &Chosen) -> Result<P
     Ok(parts)
 }
 
-/// The plan of chosen frames by a policy.
+/// The plan of chosen frames, made by a policy.
 pub(crate) fn plan_by<P: Policy>(
     alloc: Global,
     survey: &Survey,
@@ -63,7 +63,8 @@ fn plan_chosen(
     }
 }
 
-/// Chosen frames with their plan, by which each gets the least slot, or keeps its own, and their Info frame.
+/// Chosen frames with their plan, in which each gets the least slot or keeps its own, and their
+/// Info frame.
 pub fn plan_file(
     alloc: Global,
     survey: &Survey,

@@ -13,8 +13,8 @@ use frame_header::Class;
 use info_header::Info;
 use sync_survey::Survey;
 
-/// The span of the samples from one place to another, where these positions are played: `Span` where there is none
-/// between them, or where the second is after the last.
+/// The span of the samples from one place to another, if these positions are played: `Span` if
+/// there is none between them, or if the second is after the last.
 fn span_between(
     class: Class,
     played: &Played,
@@ -39,8 +39,8 @@ fn span_between(
     }
 }
 
-/// The span of the samples from one place to another of a surveyed file with this head: `Span` where there is none between
-/// them, or where the second is after the last that is played.
+/// The span of the samples from one place to another of a surveyed file with this head: `Span` if
+/// there is none between them, or if the second is after the last that is played.
 pub fn find_span(
     survey: &Survey,
     head: Option<&Info>,

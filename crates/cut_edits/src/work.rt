@@ -1,4 +1,4 @@
-//! What a command that lays chosen frames again makes ready, and the pass that writes its file.
+//! What a command that repacks chosen frames prepares, and the pass that writes its file.
 ghost use Rattle.std.specs.Prelude.{IfOk};
 ghost use Rattle.cut_edits.specs.Layable.{work_file, IsLayable, IsWorkOf};
 
@@ -8,7 +8,7 @@ use outside::{Folder, Pass, PassFault};
 use std::alloc::{AllocError, Global};
 use sync_survey::Survey;
 
-/// What is known of the input, the chosen frames with their plan, and the memory of the pass.
+/// The survey of the input, the chosen frames with their plan, and the memory of the pass.
 #[derive(Drop)]
 pub struct LaidWork {
     pub survey: Survey,
@@ -17,10 +17,10 @@ pub struct LaidWork {
 }
 
 impl LaidWork {
-    /// What is known and planned, with all memory of the pass.
+    /// The survey and the plan, with all memory of the pass.
     ///
     /// # Errors
-    /// Where there is no memory.
+    /// If memory runs out.
     pub fn new(alloc: Global, survey: Survey, selected: Selected) -> Result<LaidWork, AllocError>
         ensures { IfOk result (IsWorkOf survey selected) }
     {

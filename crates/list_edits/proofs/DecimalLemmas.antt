@@ -1,11 +1,12 @@
--- The digits of a number are those before the last two or four, and these.
+-- The digits of a number are the digits before its last two or four, and then these.
 use Rattle.std.proofs.Common.{ap, append_assoc, arith, length, length-append, List, refl, ℕ, ◌%◌}
 use Rattle.std.proofs.Common.{◌*◌, ◌++◌, ◌+◌, ◌-◌, ◌/◌, ◌<◌, ◌^◌, ◌∙◌, ◌≡◌, ◌≤◌}
 use Rattle.std.proofs.lemmas.Fmt.{decimal_digit, decimal_step, length-decimal-le}
 use Rattle.std.specs.Prelude.{decimal}
 use Rattle.list_edits.specs.Decimals.{four_digits, two_digits}
 
--- the digits of hundreds and a number below 100 are those of the one and two of the other
+-- the digits of hundreds plus a number below 100 are the digits of the hundreds and the two of the
+-- number
 pub decimal_hundreds : (q k : ℕ) → 0 < q → k < 100 → q * 100 + k < 2 ^ 64
     → decimal (q * 100 + k) ≡ decimal q ++ two_digits k
 decimal_hundreds q k some two few =
@@ -22,7 +23,8 @@ decimal_hundreds q k some two few =
       d,
     ) refl
 
--- the digits of ten thousands and a number below 10,000 are those of the one and four of the other
+-- the digits of ten thousands plus a number below 10,000 are the digits of the ten thousands and
+-- the four of the number
 pub decimal_myriads : (q k : ℕ) → 0 < q → k < 10000 → q * 10000 + k < 2 ^ 64
     → decimal (q * 10000 + k) ≡ decimal q ++ four_digits k
 decimal_myriads q k some four few =
@@ -33,9 +35,9 @@ decimal_myriads q k some four few =
     (decimal_hundreds q (k / 100) some (omega arith) (omega arith))
     ∙ append_assoc (decimal q) (two_digits (k / 100)) (two_digits (k % 100))
 
--- ---- a number whose first digits are kept, by how far it is behind them
+-- ---- a number whose leading digits are kept, given how much it exceeds them
 
--- so they are where the hundreds are kept and the rest is found by one difference
+-- the digits of a number whose hundreds are kept, the rest being found by one difference
 pub kept_hundreds : (q n : ℕ) → 0 < q → q < 10 ^ 14 → n < 2 ^ 64 → (n + (2 ^ 64 - q * 100)) % 2 ^ 64
     < 100 → decimal n ≡ decimal q ++ two_digits ((n + (2 ^ 64 - q * 100)) % 2 ^ 64)
 kept_hundreds q n some fits small near =
@@ -43,7 +45,7 @@ kept_hundreds q n some fits small near =
     let e : n ≡ q * 100 + k = omega arith in
     ap decimal e ∙ decimal_hundreds q k some near (omega arith)
 
--- the same of ten thousands
+-- the digits of a number whose ten thousands are kept, the rest being found by one difference
 pub kept_myriads : (q n : ℕ) → 0 < q → q < 10 ^ 14 → n < 2 ^ 64
     → (n + (2 ^ 64 - q * 10000)) % 2 ^ 64 < 10000
     → decimal n ≡ decimal q ++ four_digits ((n + (2 ^ 64 - q * 10000)) % 2 ^ 64)
@@ -52,7 +54,7 @@ kept_myriads q n some fits small near =
     let e : n ≡ q * 10000 + k = omega arith in
     ap decimal e ∙ decimal_myriads q k some near (omega arith)
 
--- the digits that are kept, before those behind them, before a line
+-- the digits that are kept, before those after them, before a line
 pub put_behind : (kept q : ℕ) (ds line : List ℕ) {before whole new : List ℕ} → kept ≡ q → before
     ≡ ds ++ line → new ≡ decimal kept ++ before → whole ≡ decimal q ++ ds → new ≡ whole ++ line
 put_behind kept q ds line same first then is = rw (then, first, is, same, append_assoc) refl
@@ -65,7 +67,7 @@ decimal_two n lo hi =
     let a : n / 10 % 10 ≡ n / 10 = omega arith in
     rw (decimal_step n lo (omega arith), decimal_digit (n / 10) (omega arith), a) refl
 
--- a number of three or four digits has those of its hundreds, and two more
+-- a number of three or four digits has the digits of its hundreds, and two more
 pub decimal_split : (n : ℕ) → 100 ≤ n → n < 10000
     → decimal n ≡ decimal (n / 100) ++ two_digits (n % 100)
 decimal_split n lo hi =

@@ -1,4 +1,4 @@
--- The lines of a file, of which one may not be there, and the frames that they are about.
+-- The lines about a file, one of which may be absent, and the frames that they are about.
 use Rattle.std.proofs.Common.{ap, arith, Bool, drop, false, fold, get_or, length, List, max, min}
 use Rattle.std.proofs.Common.{Option, refl, Some, suc, sym, true, ℕ, [], ◌++◌, ◌+◌, ◌<◌, ◌∙◌, ◌∷◌}
 use Rattle.std.proofs.{Common.◌≡◌, Math.Seq.drop-cons, lemmas.List.drop_more}
@@ -12,14 +12,14 @@ use Rattle.sync_survey.specs.Row.{Row}
 
 -- ---- lines
 
--- a line that is there unless, and others behind it
+-- a line that may be absent, and the lines after it
 pub unless-lines : (none : Bool) (line : List ℕ) (others : List (List ℕ))
     → flat_map (λ l. l) ((if none then [] else line ∷ []) ++ others)
     ≡ (if none then [] else line) ++ flat_map (λ l. l) others
 unless-lines true line others = refl
 unless-lines false line others = refl
 
--- the line that is met, and those that are left
+-- the line that is met, and the lines that are left
 pub line-at : (lines : List (List ℕ)) (i : ℕ) (line : List ℕ) → i < length lines
     → line ≡ get_or lines i line → drop i lines ≡ line ∷ drop (i + 1) lines
 line-at lines i line within is =
@@ -29,13 +29,13 @@ line-at lines i line within is =
 
 -- ---- bit rates
 
--- the frame that is met, and those that are left
+-- the frame that is met, and the frames that are left
 pub row-at : (rows : List Row) (i : ℕ) (row : Row) → i < length rows → row ≡ get_or rows i row
     → drop i rows ≡ row ∷ drop (i + 1) rows
 row-at rows i row within is =
     drop_more rows i row within ∙ ap (λ (r : Row). r ∷ drop (i + 1) rows) (sym is)
 
--- the first rate may be seen twice
+-- the least bit rate is the same with the first frame's once more
 pub least-again : (rows : List Row) (first : Row) → slice_get rows 0 ≡ Some first
     → fold min (row_rate first) (row_rates rows) ≡ least_rate rows
 least-again [] first is = absurd cc
@@ -53,7 +53,7 @@ greatest-again (r ∷ rows) first is =
     let one : max (row_rate first) (row_rate r) ≡ row_rate r = rw (sym same) (omega arith) in
     ap (λ (n : ℕ). fold max n (row_rates rows)) one
 
--- three texts, one after the other, are the same where each is
+-- three texts, joined, are the same if each is
 pub three-lines : {a b d : List ℕ} (x y z : List ℕ) → a ≡ x → b ≡ y → d ≡ z
     → flat_map (λ (l : List ℕ). l) (a ∷ b ∷ d ∷ []) ≡ flat_map (λ (l : List ℕ). l) (x ∷ y ∷ z ∷ [])
 three-lines {a} {b} {d} x y z p q r =
@@ -61,7 +61,7 @@ three-lines {a} {b} {d} x y z p q r =
     ∙ ap (λ (l : List ℕ). flat_map (λ (l : List ℕ). l) (x ∷ l ∷ d ∷ [])) q
     ∙ ap (λ (l : List ℕ). flat_map (λ (l : List ℕ). l) (x ∷ y ∷ l ∷ [])) r
 
--- the lines before those of the gains, of which one may not be there, and these
+-- the lines before the lines of the gains, one of which may be absent, and these
 pub all-lines : {a b c d e f g h : List ℕ} (class frames rates main head : List ℕ) (none : Bool)
     (here played : List ℕ) (gains : List (List ℕ)) → a ≡ class → b ≡ frames → c ≡ rates → d ≡ main
     → e ≡ head → f ≡ (if none then [] else here) → g ≡ played
@@ -73,7 +73,7 @@ all-lines class frames rates main head none here played gains p q r s t u v w =
     (ap (λ rest. class ++ (frames ++ (rates ++ (main ++ (head ++ rest)))))
     (sym (unless-lines none here (played ∷ gains))))
 
--- the gains of both channels are those of the one and of the other
+-- the gains of both channels are the gains of the one and of the other
 pub gains-said : (rows : List Row) (n channels : ℕ) (left right : Option Gains)
     → n ≡ channels → left ≡ extremes_of 0 rows → right ≡ extremes_of 1 rows
     → flat_map (λ (l : List ℕ). l) (gain_lines n left right (joined_extremes left right))

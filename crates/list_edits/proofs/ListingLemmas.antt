@@ -1,12 +1,13 @@
--- The lines of a text, one after another, and what
--- is sent of them: those of entries, and a last one.
+-- The lines of a text, line by line, and what is sent of them: the lines of entries, and a last
+-- one.
 use Rattle.std.proofs.Common.{ap, append-nil, append_assoc, List, subst, sym, ℕ, [], ◌++◌, ◌∙◌, ◌∷◌}
 use Rattle.std.{proofs.Common.◌≡◌, specs.Prelude.{Err, flat_map, Ok, OnErr, OnOk, Result}}
 use Rattle.outside.proofs.SentLemmas.{sent_more_on, sent_more_prefix, sent_none, sent_prefix_of}
 use Rattle.outside.proofs.SentLemmas.{sent_then_all, sent_then_prefix}
 use Rattle.outside.specs.{BufferOutput.{SendsWaiting, SentPrefix}, Files.{Sent, sent_and_more}}
 
--- the lines so far, of which some wait, and those that are left, of all before the last
+-- the lines so far, some of which wait, and the entries whose lines are left, of all before the
+-- last line
 pub record IsSaidTo {A : Type 0} (line : A → List ℕ) (all left : List A) (waits : List ℕ)
     (old now : Sent) : Type 0 where
   pub done : List ℕ
@@ -24,7 +25,7 @@ module _ {A : Type 0} (line : A → List ℕ) (all : List A) where
   lines_split left rest t done is lines = lines ∙ ap (λ ts. done ++ flat_map line ts) is
       ∙ sym (append_assoc done (line t) (flat_map line rest))
 
-  -- an entry whose line was sent is one said more
+  -- an entry whose line was sent is one more that was said
   pub said_more : (left rest : List A) (t : A) (waits after : List ℕ) (old now new : Sent)
       → IsSaidTo line all left waits old now → left ≡ t ∷ rest
       → SendsWaiting (waits ++ line t) after now new → IsSaidTo line all rest after old new
@@ -34,7 +35,7 @@ module _ {A : Type 0} (line : A → List ℕ) (all : List A) where
     sent = sent_more_on (line t) h.sent more;
   }
 
-  -- nothing is left
+  -- if nothing is left, all lines were sent or wait
   pub all_lines : (left : List A) (waits : List ℕ) (old now : Sent)
       → IsSaidTo line all left waits old now → left ≡ []
       → SendsWaiting (flat_map line all) waits old now
@@ -56,14 +57,14 @@ module _ {A : Type 0} (line : A → List ℕ) (all : List A) where
     text_is done left is =
         ap (λ front. front ++ last) is ∙ append_assoc done (flat_map line left) last
 
-    -- and so a prefix of the text
+    -- if a line failed, a prefix of the text was sent
     pub said_failed : (left rest : List A) (t : A) (waits : List ℕ) (old now new : Sent)
         → IsSaidTo line all left waits old now → left ≡ t ∷ rest
         → SentPrefix (waits ++ line t) now new → SentPrefix (flat_map line all ++ last) old new
     said_failed left rest t waits old now new h is part =
         sent_prefix_of last (line_failed left rest t waits old now new h is part)
 
-    -- nothing is left but the last line
+    -- if only the last line is left, the text is all lines and this one
     all_said : (left : List A) (waits : List ℕ) (old now : Sent)
         → IsSaidTo line all left waits old now → left ≡ [] → (done : List ℕ)
         × (flat_map line all ++ last ≡ done ++ last) × SendsWaiting done waits old now
@@ -81,7 +82,7 @@ module _ {A : Type 0} (line : A → List ℕ) (all : List A) where
         let said = all_said left waits old now h is in
         subst (λ text. SentPrefix text old new) (sym said.1) (sent_more_prefix last said.2 part)
 
-    -- with the last line the whole text was
+    -- with the last line the whole text was sent or waits
     pub last_more : (left : List A) (waits after : List ℕ) (old now new : Sent)
         → IsSaidTo line all left waits old now → left ≡ []
         → SendsWaiting (waits ++ last) after now new

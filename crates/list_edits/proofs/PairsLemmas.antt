@@ -19,7 +19,7 @@ below (suc n) p t h =
       | inr g ↦ below n p (and_r _ (are_pairs n) t) (omega arith)
     ]
 
--- in the table each number below 100 has its two digits
+-- the table has the two digits of each number below 100
 pub pair_at : (p : ℕ) → p < 100
     → (get_or PAIRS (p * 2) 0 ≡ 48 + p / 10 % 10) × (get_or PAIRS (p * 2 + 1) 0 ≡ 48 + p % 10)
 pair_at p h = below 100 p tt h

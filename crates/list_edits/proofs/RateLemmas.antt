@@ -36,7 +36,7 @@ digits-are n few = by_size (cases_lt n 10) (cases_lt n 100)
         (decimal_split n three (omega arith)
         ∙ ap (λ ds. ds ++ two_digits (n % 100)) (decimal_digit (n / 100) (omega arith))))
 
--- whether these texts are those of these bit rates
+-- whether these texts are the texts of these bit rates
 abbrev pub are_texts : List RateText → List ℕ → Bool
 are_texts [] rates = true
 are_texts (text ∷ texts) [] = false
@@ -44,7 +44,7 @@ are_texts (text ∷ texts) (rate ∷ rates) =
     (nat_lt rate 1000 && bytes_eq (text_of text) (codes ": " ++ (digits rate ++ codes " kbit/s")))
     && are_texts texts rates
 
--- where the texts are those of the rates, each is that of its rate
+-- if the texts are those of the rates, each is the text of its rate
 pub text_at : (texts : List RateText) (rates : List ℕ) (i : ℕ) → are_texts texts rates ≡ true
     → i < length texts → text_of (get_or texts i no_text) ≡ rate_text (slice_index rates i)
 text_at [] rates i are few = absurd (omega arith)

@@ -1,4 +1,4 @@
--- What a command leaves that sends a text of one file, by the survey of its input.
+-- What a command that sends a text of one file leaves, given the survey of its input.
 use Rattle.std.proofs.Common.{ap, ap₂, arith, Err, inl, inr, length, List, Ok, refl, Result, Some}
 use Rattle.std.proofs.Common.{subst, sym, ℕ, [], ◌+◌, ◌∙◌, ◌∷◌, ◌≡◌, ◌≤◌}
 use Rattle.std.specs.{Prelude.{IfErr, OnErr, OnOk}, Result.IsErrAnd}
@@ -29,14 +29,14 @@ use Rattle.sync_survey.specs.declared.survey_fault.SurveyFault.TheVariants.{Abse
 
 -- ---- the last step
 
--- what holds where all was sent, and where a write failed, holds of every answer of the last step
+-- what holds if all was sent, and if a write failed, holds of every result of the last step
 pub told_by : {T : Type 0} (P : Result T EditFault → Type 0) → ((x : T) → P (Ok x))
     → P (Err NotSent) → (result : Result T EditFault) → IfErr result (λ fault. fault ≡ NotSent)
     → P result
 told_by P all part (Ok x) is = all x
 told_by P all part (Err fault) is = subst (λ f. P (Err f)) (sym is) part
 
--- ---- what the told files make of the command
+-- ---- what the contents of the files make of the command
 
 module _ (text : List ℕ → SurveyFields → List ℕ) (input : List ℕ) where
   gives_absent : (files : Files) → IsFileMissing files input
@@ -77,7 +77,7 @@ module _ (text : List ℕ → SurveyFields → List ℕ) (input : List ℕ) wher
       (surveyed_of_bytes held.0 most_frames))
 
   module _ (old new : Seen) (fault : EditFault) where
-    -- a fault of the file leaves all as it was
+    -- a fault of the file leaves everything as it was
     pub survey_left : IsFileFault 0 most_frames input old new fault
         → IsCommandFault (text_command text input) old new fault
     survey_left h = each_why (why_of fault) h (record {
@@ -112,7 +112,7 @@ module _ (text : List ℕ → SurveyFields → List ℕ) (input : List ℕ) wher
           record { names = refl; takes = takes_memory old.files n.there n.few; stays = n.stays };
     })
 
-  -- ---- a file without fault, of which this is the text
+  -- ---- a file without fault, with this text
 
   module _ (files : Files) (s : SurveyFields) (said : List ℕ) (there : IsFileThere files input)
       (is : (bytes : List ℕ) → Holds files input bytes → survey_of bytes most_frames ≡ Ok s)
@@ -129,7 +129,7 @@ module _ (text : List ℕ → SurveyFields → List ℕ) (input : List ℕ) wher
 
     module _ (new : Files) (counts after : Counts) (same : new ≡ files)
         (done : after ≡ counts) where
-      -- with no count changed the command is done
+      -- if no count changed, the command is done
       pub is_done : IsCommandDone (text_command text input) (seen_folder files counts)
           (seen_folder new after)
       is_done = record {
@@ -144,12 +144,12 @@ module _ (text : List ℕ → SurveyFields → List ℕ) (input : List ℕ) wher
           at (Untold touched) e g = tt
           at (Told f) e g = (made_of, g, e)
 
-      -- and nothing is refused where a write to standard output failed
+      -- if a write to standard output failed, the command leaves what it may
       pub unsent : IsCommandFault (text_command text input) (seen_folder files counts)
           (seen_folder new after) NotSent
       unsent = is_done
 
-      -- or where there is no memory for what is sent
+      -- if memory runs out for what is sent, the command leaves what it may
       pub no_room : IsCommandFault (text_command text input) (seen_folder files counts)
           (seen_folder new after) Memory
       no_room = record { names = refl; takes = at files gives; stays = ap₂ seen_folder same done }
@@ -159,7 +159,7 @@ module _ (text : List ℕ → SurveyFields → List ℕ) (input : List ℕ) wher
           at (Untold touched) g = tt
           at (Told f) g = subst TakesMemory (sym g) tt
 
-    -- it writes no output, so its streams hold
+    -- the command writes no output, so its streams hold
     pub holds_streams : HoldsStreams (text_command text input) files
     holds_streams = at files there is gives
       where
@@ -191,7 +191,7 @@ module _ (text : List ℕ → SurveyFields → List ℕ) (input : List ℕ) wher
         subst (λ fs. HasAnswer (text_command text input) fs (Ok made_of)) known.2 gives in
         ap (λ (m : Made). m.text) (made-same made_of known.1 (sym makes ∙ known.3)) ∙ known.4
 
-    -- the sink got all of the text or, if a write failed, a prefix
+    -- all of the text was sent or, if a write failed, a prefix
     pub says : {T : Type 0} (old new : Heard) (result : Result T EditFault)
         → IfErr result (λ fault. fault ≡ NotSent)
         → OnOk result (new.sent ≡ sent_and_more old.sent said)

@@ -1,4 +1,4 @@
--- The things of a file are two lists that each are in order of their offsets.
+-- The things of a file are two lists, each in order of offset.
 use Rattle.std.proofs.Common.{ap, ap₂, arith, cond, false, List, ltb, map, None, Option, refl, Some}
 use Rattle.std.proofs.Common.{subst, sym, true, ℕ, [], ◌++◌, ◌+◌, ◌-◌, ◌∙◌, ◌∷◌, ◌≡◌, ◌≤◌}
 use Rattle.std.specs.Prelude.{is_some, MatchOption}
@@ -14,7 +14,7 @@ use Rattle.sync_survey.specs.{Order.{IsFirstAfter, IsFirstFrom, merged_list, Ris
 use Rattle.sync_survey.specs.Survey.{BlocksAreLaid, FramesAreLaid, IsSurveyLaidOut}
 use Rattle.sync_survey.specs.declared.{merge.Merge.Merge, places.{Head.Head, Piece.Piece}}
 
--- the blocks of a file are in order of their offsets
+-- the blocks of a file are in order of offset
 pub blocks_rise : (from to : ℕ) (blocks : List Piece) → BlocksAreLaid from blocks to
     → RisesBy offset_of from (map Block blocks)
 blocks_rise from to [] laid = tt
@@ -39,7 +39,7 @@ head_rises : (first : ℕ) (head : Option Head) (ts : List Thing) → RisesBy of
 head_rises first None ts rises = rises
 head_rises first (Some head) ts rises = (omega arith, rises)
 
--- so are the other things
+-- the junk, the head and the frames are in order of offset
 pub stream_rises : (s : SurveyFields) → IsSurveyLaidOut s
     → RisesBy offset_of s.junk (stream_things s)
 stream_rises s laid =
@@ -86,7 +86,7 @@ module _ (old new : Things) where
       ∙ ap (λ us. Block piece ∷ merged_list offset_of blocks us)
       (sym (ap₂ (λ ls fs. ls ++ fs) same (ap₂ frames_from passes.number passes.seconds)))
 
-  -- where the junk or the head is left
+  -- a block is met while the junk or the head is left
   pub block_met : (piece : Piece) (at : ℕ) → leading_things new ≡ leading_things old
       → PassesFirst piece old.others new.others → IsLeadingOffset (Some at) (leading_things old)
       → piece.offset ≤ at → things_left old ≡ Block piece ∷ things_left new
@@ -132,7 +132,7 @@ module _ (old new : Things) where
         ∙ ap₂ (λ bs ls. Frame number row ∷ merged_list offset_of (map Block bs)
         (ls ++ frames_left new)) (sym passes.firsts) (sym none_now)
 
-    -- a block up to which no other thing comes is the next
+    -- a block before which no other thing comes is the next
     pub block_alone : (piece : Piece) → PassesFirst piece old.others new.others
         → IsFirstFrom (λ (r : Row). r.offset) piece.offset (seconds_left old.others)
         → things_left old ≡ Block piece ∷ things_left new
@@ -141,7 +141,7 @@ module _ (old new : Things) where
         (subst (λ ls. IsFirstFrom offset_of piece.offset (ls ++ frames_left old)) (sym none)
         (from_frames piece.offset old.others.next_second (seconds_left old.others) from))
 
--- where nothing leads and both lists are at their ends, nothing is left
+-- if nothing leads and both lists are at their ends, nothing is left
 pub none_met : (t : Things) → leading_things t ≡ [] → firsts_left t.others ≡ []
     → seconds_left t.others ≡ [] → things_left t ≡ []
 unfolding things_left merged_list

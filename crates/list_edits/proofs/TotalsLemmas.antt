@@ -1,4 +1,4 @@
--- The totals of frames, of which one after another is met.
+-- The totals of frames that are met in order.
 use Rattle.std.proofs.Common.{ap, ap₂, arith, Bool, drop, false, fold, get_or, length, List, max}
 use Rattle.std.proofs.Common.{min, None, Option, refl, Some, subst, sym, true, ℕ, [], ◌*◌, ◌+◌, ◌<◌}
 use Rattle.std.proofs.{Common.{◌∙◌, ◌∷◌, ◌≡◌, ◌≤◌}, lemmas.List.Sums.sum_by-cons}
@@ -21,7 +21,7 @@ use Rattle.side_info.specs.Side.{payload_bytes}
 use Rattle.sync_survey.specs.{Faults.SurveyFields, MainData.own_area, Row.Row}
 use Rattle.sync_survey.specs.Survey.{IsSurveyLaidOut}
 
--- These frames are left of all, and those before them have these totals.
+-- These frames of all are left, and those before them have these totals.
 pub record AreBefore (rows rest : List Row) (h : HeaderTotals) (s : SideTotals) : Type 0 where
   pub areas : h.areas + row_areas rest ≡ row_areas rows
   pub lengths : h.lengths + row_lengths rest ≡ row_lengths rows
@@ -32,7 +32,7 @@ pub record AreBefore (rows rest : List Row) (h : HeaderTotals) (s : SideTotals) 
   pub left : joined_extremes s.left (extremes_of 0 rest) ≡ extremes_of 0 rows
   pub right : joined_extremes s.right (extremes_of 1 rest) ≡ extremes_of 1 rows
 
--- at first all are left
+-- before the first frame all frames are left
 all-left : (rows : List Row) (first : Row) (rate : ℕ) → slice_get rows 0 ≡ Some first
     → rate ≡ row_rate first → AreBefore rows rows (no_headers rate) no_sides
 all-left rows first rate is same = record {
@@ -46,7 +46,7 @@ all-left rows first rate is same = record {
   right = refl;
 }
 
--- so it is at the first frame
+-- the totals before the first frame
 pub at-first : (rows : List Row) (first : Row) (rate : ℕ) (h : HeaderTotals) (s : SideTotals)
     → 0 < length rows → first ≡ get_or rows 0 first → rate ≡ row_rate first → h ≡ no_headers rate
     → s ≡ no_sides → AreBefore rows rows h s
@@ -56,7 +56,7 @@ at-first rows first rate h s some is same header side =
     subst (λ (x : HeaderTotals). AreBefore rows rows x s) (sym header)
     (subst (λ (x : SideTotals). AreBefore rows rows (no_headers rate) x) (sym side) all)
 
--- ---- a frame more
+-- ---- one more frame
 
 sum-more : (f : Row → ℕ) (row : Row) (rest : List Row) (so_far all : ℕ)
     → so_far + sum_by f (row ∷ rest) ≡ all → (so_far + f row) + sum_by f rest ≡ all
@@ -99,7 +99,7 @@ before-more rows rest row h s before = record {
   right = gains-more 1 row rest s.right ∙ before.right;
 }
 
--- so it is at the next frame, with what this one adds
+-- the totals before the next frame, with what this one adds
 pub before-next : (rows : List Row) (i : ℕ) (row : Row) (h g : HeaderTotals) (s t : SideTotals)
     → drop i rows ≡ row ∷ drop (i + 1) rows → g ≡ with_header row.header h → t ≡ with_side row s
     → AreBefore rows (drop i rows) h s → AreBefore rows (drop (i + 1) rows) g t
@@ -110,9 +110,9 @@ before-next rows i row h g s t next header side before =
     subst (λ (x : HeaderTotals). AreBefore rows rest x t) (sym header)
     (subst (λ (x : SideTotals). AreBefore rows rest (with_header row.header h) x) (sym side) more)
 
--- ---- what a frame adds by its side information
+-- ---- what a frame adds with its side information
 
--- a lost one
+-- what a lost frame adds
 pub with-lost : (row : Row) (s : SideTotals) → row.lost ≡ true
     → record s { lost = s.lost + 1 } ≡ with_side row s
 with-lost row s is =
@@ -128,7 +128,7 @@ with-lost row s is =
       right = r;
     }) (none s.left) (none s.right))
 
--- any other
+-- what any other frame adds
 pub with-sound : (row : Row) (s : SideTotals) (bytes : ℕ) (left right : Option Gains)
     → row.lost ≡ false → bytes ≡ payload_bytes row.side → left ≡ extremes (side_gains 0 row.side)
     → right ≡ extremes (side_gains 1 row.side)
@@ -150,7 +150,7 @@ with-sound row s bytes left right is p q r =
 
 -- ---- the frames of a survey
 
--- all have the class of the survey
+-- all frames have the class of the survey
 pub classed : (s : SurveyFields) → IsSurveyLaidOut s → (rows : List Row) (class : ClassFields)
     → rows ≡ s.frames → class ≡ s.class → AreFramesOfClass class rows
 classed s laid rows class same is = λ i row got.
@@ -166,7 +166,7 @@ gains-all : (channel : ℕ) (so_far all : Option Gains)
 gains-all channel so_far all is =
     sym (joined-None so_far) ∙ ap (joined_extremes so_far) (sym (none-moves channel)) ∙ is
 
--- then the totals are those of all frames
+-- once no frame is left, these are the totals of all frames
 pub all-met : (rows : List Row) (h : HeaderTotals) (s : SideTotals) → AreBefore rows [] h s
     → h.areas ≤ 1441 * length rows → h.lengths ≤ 1441 * length rows
     → AreTotals rows (record { headers = h; sides = s })

@@ -1,4 +1,4 @@
--- The info command: in a few lines, what a file is, whether frames are missing, and by how many
+-- The info command: what a file is, in a few lines, whether frames are missing, and by how many
 -- steps its gains can move.
 use Rattle.std.specs.Prelude.{Bool, codes, decimal, flat_map, if◌then◌else◌, length, List, None}
 use Rattle.std.specs.Prelude.{Option, Some, true, ℕ, [], ◌&&◌, ◌++◌, ◌-◌, ◌==◌, ◌∷◌}
@@ -17,7 +17,7 @@ use Rattle.sync_survey.specs.Faults.{SurveyFields}
 
 -- ---- the frames
 
--- what they share
+-- what all frames share
 abbrev pub class_line : ClassFields → List ℕ
 class_line class = class_text class ++ codes "\n"
 
@@ -27,7 +27,7 @@ frames_line class count lost =
     decimal count ++ (codes " frames, " ++ (decimal lost ++ (codes " lost, "
     ++ (time_text (hundredths class count) ++ codes "\n"))))
 
--- what is after the least of two numbers: the greatest, where it is another
+-- what comes after the least of two numbers: the greatest, if it differs
 abbrev pub greatest_text : ℕ → ℕ → List ℕ
 greatest_text least greatest = if least == greatest then [] else codes " to " ++ decimal greatest
 
@@ -42,24 +42,24 @@ main_data_line bytes areas =
 
 -- ---- the head
 
--- a number that the head has
+-- a number that the head gives
 abbrev pub number_text : Option ℕ → List ℕ → List ℕ
 number_text None unit = []
 number_text (Some n) unit = codes ", " ++ (decimal n ++ unit)
 
--- its text, and its numbers of frames and of bytes
+-- the head's text, and its numbers of frames and bytes
 abbrev pub head_line : Option Info → List ℕ
 head_line None = codes "no head\n"
 head_line (Some info) =
     vbr_text info.vbr ++ (codes " head" ++ (number_text info.frames (codes " frames")
     ++ (number_text info.bytes (codes " bytes") ++ codes "\n")))
 
--- the head has no such number, or this one
+-- the head gives no such number, or this one
 abbrev pub agrees : Option ℕ → ℕ → Bool
 agrees None n = true
 agrees (Some said) n = said == n
 
--- neither number is another than the head has
+-- both numbers that the head gives, if any, are these
 abbrev pub is_as_said : Option Info → ℕ → ℕ → Bool
 is_as_said None frames bytes = true
 is_as_said (Some info) frames bytes = agrees info.frames frames && agrees info.bytes bytes
@@ -70,21 +70,21 @@ but_line frames bytes =
     codes "but " ++ (decimal frames ++ (codes " frames, "
     ++ (decimal bytes ++ codes " bytes are here\n")))
 
--- where the head has another number of frames or of bytes: so many are here
+-- how many frames and bytes are here, if the head gives other numbers
 abbrev pub here_lines : Option Info → ℕ → ℕ → List (List ℕ)
 here_lines head frames bytes =
     if is_as_said head frames bytes then [] else but_line frames bytes ∷ []
 
 -- ---- what is played
 
--- delay and padding, in samples, where the head counts
+-- delay and padding, in samples, if the head counts
 abbrev pub counts_text : Option HeadCounts → List ℕ
 counts_text None = []
 counts_text (Some counts) =
     codes "delay " ++ (decimal counts.delay ++ (codes ", padding "
     ++ (decimal counts.padding ++ codes ", ")))
 
--- and how many samples are played
+-- delay and padding, if the head counts, and how many samples are played
 abbrev pub played_line : Option Info → ClassFields → ℕ → List ℕ
 played_line head class frames =
     counts_text (counts_of head) ++ (codes "plays "
@@ -92,7 +92,7 @@ played_line head class frames =
 
 -- ---- the gains that move
 
--- by how many steps they can move down and up
+-- by how many steps the gains can move down and up
 abbrev pub step_range_text : Gains → List ℕ
 step_range_text g =
     codes "steps -" ++ (decimal g.least ++ (codes " to +"
@@ -110,17 +110,17 @@ abbrev pub both_text : Option Gains → List ℕ
 both_text None = codes "no gains\n"
 both_text (Some g) = step_range_text g
 
--- of the one channel
+-- the line of the one channel
 abbrev pub mono_lines : Option Gains → List (List ℕ)
 mono_lines gains = (codes "mono: " ++ gains_text gains) ∷ []
 
--- of each of two, and of both
+-- the lines of each of two channels, and of both
 abbrev pub stereo_lines : Option Gains → Option Gains → Option Gains → List (List ℕ)
 stereo_lines left right both =
     (codes "left: " ++ gains_text left) ∷ (codes "right: " ++ gains_text right)
     ∷ (codes "both: " ++ both_text both) ∷ []
 
--- the lines of the gains, by the number of channels
+-- the lines of the gains, for this number of channels
 abbrev pub gain_lines : ℕ → Option Gains → Option Gains → Option Gains → List (List ℕ)
 gain_lines channels left right both =
     if channels == 1 then mono_lines left else stereo_lines left right both
@@ -144,7 +144,7 @@ info_lines head s =
 abbrev pub info_text : Option Info → SurveyFields → List ℕ
 info_text head s = flat_map (λ line. line) (info_lines head s)
 
--- the text is that of the input, by the head that its bytes have
+-- the text of the input, with the head that its bytes have
 abbrev pub info_of : List ℕ → SurveyFields → List ℕ
 info_of file s = info_text (fields_of_head file s.head) s
 

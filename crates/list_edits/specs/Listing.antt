@@ -1,4 +1,4 @@
--- The list command: a line for each thing of a file, in order of the offsets, and a summary.
+-- The list command: a line for each thing of a file, in order of offset, and a summary.
 use Rattle.std.specs.Prelude.{Bool, codes, decimal, flat_map, if◌then◌else◌, length, List, ℕ, []}
 use Rattle.std.specs.Prelude.{◌%◌, ◌*◌, ◌++◌, ◌/◌, ◌∷◌, ◌≡◌}
 use Rattle.commands.specs.Command.{Command}
@@ -20,19 +20,19 @@ kind_name Id3v2 = codes "ID3v2"
 kind_name Id3v1 = codes "ID3v1"
 kind_name Ape = codes "APEv2"
 
--- where it begins and how long it is, in bytes
+-- where a thing begins and how long it is, in bytes
 abbrev pub extent : ℕ → ℕ → List ℕ
 extent at size = codes " at " ++ (decimal at ++ (codes ": " ++ (decimal size ++ codes " bytes\n")))
 
--- a bit rate in kbit/s, behind the offset
+-- a bit rate in kbit/s, after the offset
 abbrev pub rate_text : ℕ → List ℕ
 rate_text rate = codes ": " ++ (decimal rate ++ codes " kbit/s")
 
--- a word where the frame is padded
+-- a word if the frame is padded
 abbrev pub padding_text : Bool → List ℕ
 padding_text padding = if padding then codes " padded" else []
 
--- the frame is lost: its main data begin before the file
+-- a word if the frame is lost: its main data begin before the file
 abbrev pub lost_text : Bool → List ℕ
 lost_text lost = if lost then codes ", lost" else []
 
@@ -46,8 +46,7 @@ frame_line number row =
     ++ (decimal row.side.main_data_begin ++ (codes ", bits " ++ (decimal (payload_bits row.side)
     ++ (lost_text row.lost ++ codes "\n"))))))))))))
 
--- the line of a thing: its kind, its offset and its length in bytes; of a frame what `frame_line`
--- says
+-- the line of a thing: its kind, its offset and its length in bytes; for a frame see `frame_line`
 unfoldable pub thing_line : Thing → List ℕ
 thing_line (Block piece) =
     codes "block " ++ (kind_name piece.block.kind ++ extent piece.offset piece.block.length)
@@ -97,7 +96,7 @@ summary class count =
 abbrev pub thing_lines : List Thing → List ℕ
 thing_lines ts = flat_map thing_line ts
 
--- the lines of all things of a file in order of their offsets, and the summary
+-- the lines of all things of a file in order of offset, and the summary
 unfoldable pub listing : SurveyFields → List ℕ
 listing s = thing_lines (ordered_things (things_of s)) ++ summary s.class (length s.frames)
 

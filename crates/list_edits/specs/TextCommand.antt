@@ -15,12 +15,12 @@ abbrev pub surveyed_text : (SurveyFields → List ℕ) → Result SurveyFields S
 surveyed_text text (Err fault) = Err (Input 0 fault)
 surveyed_text text (Ok s) = Ok (record { outputs = []; text = text s })
 
--- the text of a file's bytes and their survey, where the file is there
+-- the text of a file, given its bytes and their survey, if the file is there
 abbrev pub input_text : (List ℕ → SurveyFields → List ℕ) → Option (List ℕ) → Result Made EditFault
 input_text text None = Err (Input 0 Absent)
 input_text text (Some file) = surveyed_text (text file) (survey_of file most_frames)
 
--- nothing is written to the folder, and the text is that of the input
+-- nothing is written to the folder, and the text is the input's
 abbrev pub text_command : (List ℕ → SurveyFields → List ℕ) → List ℕ → Command
 text_command text input = record {
   inputs = input ∷ [];
@@ -32,14 +32,14 @@ text_command text input = record {
   refuses = λ refusal. false;
 }
 
--- What the call of such a command says, whatever its answer.
+-- What the call of such a command guarantees, whatever it returns.
 pub record IsTextRun (command : Command) (old new : Seen) (heard now : Heard)
     (answer : Result (Unit {0}) EditFault) : Type 0 where
   pub done : OnOk answer (IsCommandDone command old new)
   pub left : IfErr answer (IsCommandFault command old new)
-  -- the text, of which a prefix was sent where a write failed
+  -- the text; a prefix of it was sent if a write failed
   pub says : SaysText command old.files heard now (answer_fault answer)
-  -- the fault is right over a folder that tells nothing too
+  -- the fault's numbers are right also over a folder whose contents aren't known
   pub numbers : IfErr answer (HasNumbers command)
   -- the input is well-formed
   pub streams : OnOk answer (HoldsStreams command old.files)

@@ -1,4 +1,4 @@
--- What is in a file, in order of the offsets.
+-- What is in a file, in order of offset.
 use Rattle.std.specs.List.{enumerate_from}
 use Rattle.std.specs.Prelude.{if◌then◌else◌, List, map, nat_lt, None, Option, option_to_list, Some}
 use Rattle.std.specs.Prelude.{ℕ, [], ◌++◌, ◌-◌, ◌∷◌, ◌≡◌}
@@ -17,11 +17,11 @@ offset_of (Frame number row) = row.offset
 
 -- ---- all things of a file, kind by kind
 
--- the bytes between the front and the first frame, where there are any
+-- the bytes between the front and the first frame, if there are any
 abbrev pub junk_of : SurveyFields → List Thing
 junk_of s = if nat_lt s.junk s.first then Junk s.junk (s.first - s.junk) ∷ [] else []
 
--- the head, where the first frame is one
+-- the head, if there is one
 abbrev pub head_thing : ℕ → Option Head → List Thing
 head_thing first None = []
 head_thing first (Some head) = FirstHead first head.header ∷ []
@@ -38,17 +38,17 @@ stream_things s = junk_of s ++ (head_thing s.first s.head ++ frames_from 0 s.fra
 unfoldable pub things_of : SurveyFields → List Thing
 things_of s = map Block s.blocks ++ stream_things s
 
--- the things in order of their offsets
+-- the things in order of offset
 abbrev pub ordered_things : List Thing → List Thing
 ordered_things = ordered_list offset_of
 
--- ---- what a walk over them hasn't met yet
+-- ---- what a walk over the things hasn't met yet
 
--- the junk and the head, where the walk hasn't met them yet
+-- the junk and the head, unless the walk has met them
 abbrev pub leading_things : Things → List Thing
 leading_things t = option_to_list t.junk ++ option_to_list t.head
 
--- the offset of the first of these, if there is one
+-- the offset of the first of these things, if there is one
 abbrev pub IsLeadingOffset : Option ℕ → List Thing → Type 0
 IsLeadingOffset None ts = ts ≡ []
 IsLeadingOffset (Some at) [] = ⊥

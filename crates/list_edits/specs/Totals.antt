@@ -1,4 +1,4 @@
--- What the frames of a file are together.
+-- Totals over the frames of a file.
 use Rattle.std.specs.List.{filter, reduce}
 use Rattle.std.specs.Prelude.{if◌then◌else◌, length, List, map, max, min, None, Option, Some}
 use Rattle.std.specs.Prelude.{sum_by, unwrap_or, ℕ, ◌*◌, ◌+◌, ◌≡◌, ◌≤◌}
@@ -22,37 +22,37 @@ lost_count rows = length (filter (λ (r : Row). r.lost) rows)
 abbrev pub row_rate : Row → ℕ
 row_rate r = rate_of (class_of r.header) r.header.slot
 
--- those of these frames
+-- the bit rates of these frames in kbit/s
 abbrev pub row_rates : List Row → List ℕ
 row_rates rows = map row_rate rows
 
--- the least of the frames, of which there is one at least
+-- the least bit rate of the frames, of which there is at least one
 abbrev pub least_rate : List Row → ℕ
 least_rate rows = unwrap_or (reduce min (row_rates rows)) 0
 
--- the greatest of them
+-- the greatest bit rate of the frames, of which there is at least one
 abbrev pub greatest_rate : List Row → ℕ
 greatest_rate rows = unwrap_or (reduce max (row_rates rows)) 0
 
 -- ---- bytes
 
--- the main data of a frame; a lost one has none
+-- the bytes of main data of a frame; a lost one has none
 abbrev pub row_main_data : Row → ℕ
 row_main_data r = if r.lost then 0 else payload_bytes r.side
 
--- those of all these frames
+-- the bytes of main data of all these frames
 abbrev pub main_data_in : List Row → ℕ
 main_data_in rows = sum_by row_main_data rows
 
--- the areas of frames
+-- the bytes of the areas of these frames
 abbrev pub row_areas : List Row → ℕ
 row_areas rows = sum_by (λ (r : Row). own_area r.header) rows
 
--- those of the head and of all frames, which are the main data of the file
+-- the bytes of the areas of the head and of all frames, which the file's main data can fill
 abbrev pub file_areas : SurveyFields → ℕ
 file_areas s = head_area s.head + row_areas s.frames
 
--- a frame with this header, from the header to the end of its area
+-- the length of a frame with this header, from the header to the end of its area
 abbrev pub header_frame_length : HeaderFields → ℕ
 header_frame_length h = length_of (class_of h) h.slot
 
@@ -71,15 +71,15 @@ stream_length s = head_length s.head + row_lengths s.frames
 
 -- ---- the totals of a walk over frames
 
--- before the first frame, which has this bit rate
+-- the totals of headers before the first frame, which has this bit rate
 abbrev pub no_headers : ℕ → HeaderTotals
 no_headers rate = record { areas = 0; lengths = 0; least_rate = rate; greatest_rate = rate }
 
--- and by its side information
+-- the totals of side information before the first frame
 abbrev pub no_sides : SideTotals
 no_sides = record { lost = 0; main_data = 0; left = None; right = None }
 
--- and with a frame more
+-- the totals of headers with one more frame
 abbrev pub with_header : HeaderFields → HeaderTotals → HeaderTotals
 with_header h t = record {
   areas = t.areas + own_area h;
@@ -88,7 +88,7 @@ with_header h t = record {
   greatest_rate = max t.greatest_rate (rate_of (class_of h) h.slot);
 }
 
--- and what it adds by its side information
+-- the totals of side information with one more frame
 abbrev pub with_side : Row → SideTotals → SideTotals
 with_side r t = record {
   lost = t.lost + (if r.lost then 1 else 0);
@@ -97,7 +97,7 @@ with_side r t = record {
   right = joined_extremes t.right (extremes (row_gains 1 r));
 }
 
--- they are those of these frames
+-- these are the totals of these frames
 pub record AreTotals (rows : List Row) (t : Totals) : Type 0 where
   pub areas : t.headers.areas ≡ row_areas rows
   pub few_areas : t.headers.areas ≤ 1441 * length rows

@@ -15,18 +15,18 @@ use outside::{Failed, Folder, SendBuffer, Sink};
 use std::alloc::Global;
 use sync_survey::Survey;
 
-/// A text of a file: what it needs beside the file's survey.
+/// A text of a file: what it needs besides the file's survey.
 pub(crate) trait FileText: Sized + Drop {
     /// The text of a file with these bytes and this survey.
     ghost text: { List ℕ → SurveyFields → List ℕ };
 
-    /// The same, by what was read of the file.
+    /// The same text, given what was read from the file.
     ghost said: { Self → SurveyFields → List ℕ };
 
-    /// Reads what it needs. It takes no memory, and the files stay.
+    /// Reads what the text needs. It takes no memory, and the files stay.
     ///
     /// # Errors
-    /// `Input(0, ..)` with `Read` and `Shrunk` where the input could not be read.
+    /// `Input(0, ..)` with `Read` and `Shrunk` if the input could not be read.
     fn read<D: Folder>(folder: &mut D, input: &str, survey: &Survey) -> Result<Self, EditFault>
         requires there { IsFileThere (D.seen folder.old).files input.now }
         requires laid { IsSurveyLaidOut (survey_view survey.now) }
@@ -43,7 +43,7 @@ pub(crate) trait FileText: Sized + Drop {
     /// Sends the text of the file with this survey. It takes no memory.
     ///
     /// # Errors
-    /// Where a write failed. Then a prefix of the text was sent.
+    /// If a write failed. Then a prefix of the text was sent.
     fn send<T: Sink>(&self, survey: &Survey, buffer: SendBuffer, out: &mut T) -> Result<(), Failed>
         requires laid { IsSurveyLaidOut (survey_view survey.now) }
         requires few { length (survey_view survey.now).frames ≤ most_frames }
@@ -58,7 +58,7 @@ pub(crate) trait FileText: Sized + Drop {
 /// The last step of a command: sends the text. All memory was taken before.
 ///
 /// # Errors
-/// `Sent` where a write failed. Then a prefix of the text was sent.
+/// `Sent` if a write failed. Then a prefix of the text was sent.
 fn tell<K: FileText, T: Sink>(
     text: &K,
     survey: &Survey,
@@ -84,10 +84,10 @@ fn tell<K: FileText, T: Sink>(
 /// Sends a text of one file to `out`. Nothing is written to the folder.
 ///
 /// # Errors
-/// `Input(0, ..)` with the fault of the survey of the input, of which 2,900,000 frames are allowed, and with that of reading
-/// what the text needs beside it; `Memory` may come once the input was found with a length that it may have. After these
-/// nothing was sent: all memory is taken before the first byte. `Sent` only where a write to `out` failed; then it got a
-/// prefix of the text.
+/// `Input(0, ..)` with the fault of the survey of the input, which may have 2,900,000 frames, or of
+/// reading what the text needs besides; `Memory` may be returned once the input was found with a
+/// length that it may have. After these nothing was sent: all memory is taken before the first
+/// byte. `Sent` only if a write to `out` failed; then a prefix of the text was sent.
 pub(crate) fn send_text<K: FileText, D: Folder, T: Sink>(
     alloc: Global,
     folder: &mut D,

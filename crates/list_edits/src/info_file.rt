@@ -22,7 +22,7 @@ use sync_survey::Survey;
 /// Sends some lines. It takes no memory.
 ///
 /// # Errors
-/// Where a write failed. Then a prefix of the text was sent.
+/// If a write failed. Then a prefix of the text was sent.
 fn send_lines<T: Sink>(lines: &[Line], mut buffer: SendBuffer, out: &mut T) -> Result<(), Failed>
     requires empty { buffer ≡ [] }
     ensures sent { OnOk result ((T.heard out.new).sent ≡ sent_and_more (T.heard out.old).sent
@@ -40,7 +40,7 @@ fn send_lines<T: Sink>(lines: &[Line], mut buffer: SendBuffer, out: &mut T) -> R
 /// Sends the lines of the file with this head. It takes no memory.
 ///
 /// # Errors
-/// Where a write failed. Then a prefix of the text was sent.
+/// If a write failed. Then a prefix of the text was sent.
 fn send_info<T: Sink>(
     survey: &Survey,
     head: Option<&Info>,
@@ -59,7 +59,7 @@ fn send_info<T: Sink>(
     send_lines(&info_lines(survey, head), buffer, out)
 }
 
-/// The text of `info`, which needs the fields of the head, if the file has one.
+/// The text of `info`, for which the fields of the head are read, if the file has one.
 #[derive(Drop)]
 struct FileInfo {
     head: Option<Info>,
@@ -92,23 +92,25 @@ impl FileText for FileInfo {
 /// | line | what it says |
 /// |---|---|
 /// | `V, F Hz, C channels` | V is `MPEG-1`, `MPEG-2` or `MPEG-2.5`, F the sampling frequency, C the number of channels |
-/// | `N frames, K lost, M.SS.HH` | N frames without the head, of which K are lost; minutes, seconds and hundredths that they sound, rounded down |
-/// | `R kbit/s`, or `R to S kbit/s` | the least and the greatest bit rate of the frames, where they differ |
-/// | `P of Q bytes are main data` | P bytes of main data of the frames that aren't lost, in the Q bytes of all areas, the head's among them |
-/// | `no head`, or `TEXT head, H frames, H bytes` | TEXT is `Xing` or `Info`, and the numbers are those of the head; one that it doesn't have is left out |
-/// | `but N frames, E bytes are here` | only where the head has another number of frames than N, or of bytes than E, the bytes of the head and of all frames |
-/// | `delay D, padding G, plays S samples`, or `plays S samples` | delay and padding where the head counts, and how many samples players play |
-/// | `left: gains A to B, steps -A to +U`, then `right:` | the least and the greatest gain of channel 0 that moves, and by how many steps the gains can be moved without leaving the range from 0 to 255; the same of channel 1 |
+/// | `N frames, K lost, M.SS.HH` | N frames without the head, K of them lost; the minutes, seconds and hundredths that they sound, rounded down |
+/// | `R kbit/s`, or `R to S kbit/s` | the least and the greatest bit rate of the frames, if they differ |
+/// | `P of Q bytes are main data` | P bytes of main data of the frames that aren't lost, in the Q bytes of all areas, including the head's |
+/// | `no head`, or `TEXT head, H frames, H bytes` | TEXT is `Xing` or `Info`, and the numbers are the head's; a number that it doesn't have is left out |
+/// | `but N frames, E bytes are here` | only if the head's number of frames differs from N, or its number of bytes from E, the bytes of the head and of all frames |
+/// | `delay D, padding G, plays S samples`, or `plays S samples` | delay and padding if the head counts, and how many samples players play |
+/// | `left: gains A to B, steps -A to +U`, then `right:` | the least and the greatest gain of channel 0 that moves, and by how many steps the gains can be moved without leaving the range from 0 to 255; then the same for channel 1 |
 /// | `both: steps -A to +U` | the steps of both channels together |
 ///
-/// With one channel there is one line in place of the last three, `mono: gains A to B, steps -A to +U`. Where no gain
-/// moves, the line goes on with `no gains`. A gain moves if its granule has main data and its frame isn't lost.
+/// With one channel there is one line instead of the last three, `mono: gains A to B, steps -A to
+/// +U`. If no gain moves, the line continues with `no gains`. A gain moves if its granule has main
+/// data and its frame isn't lost.
 ///
 /// # Errors
-/// `Input(0, ..)` with the fault of the survey of the input, of which 2,900,000 frames are allowed, and with `Read` or
-/// `Shrunk` also where its head could not be read after it; `Memory` may come once the input was found with a length
-/// that it may have. After these nothing was sent: all memory is taken before the first byte. `Sent` only where a write
-/// to `out` failed; then it got a prefix of the text.
+/// `Input(0, ..)` with the fault of the survey of the input, which may have 2,900,000 frames, and
+/// with `Read` or `Shrunk` also if its head could not be read after the survey; `Memory` may be
+/// returned once the input was found with a length that it may have. After these nothing was sent:
+/// all memory is taken before the first byte. `Sent` only if a write to `out` failed; then a prefix
+/// of the text was sent.
 pub fn info<D: Folder, T: Sink>(
     alloc: Global,
     folder: &mut D,

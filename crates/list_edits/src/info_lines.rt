@@ -60,7 +60,7 @@ fn main_data_line(bytes: u64, areas: u64) -> Line
     line
 }
 
-/// Puts a number that the head has before a line.
+/// Puts a number that the head gives before a line.
 fn put_said(line: &mut Line, number: Option<u32>, unit: &[u8])
     requires room { length line.old + length unit.now + 22 ≤ 192 }
     ensures text { line.new ≡ number_text number unit.now ++ line.old }
@@ -72,7 +72,7 @@ fn put_said(line: &mut Line, number: Option<u32>, unit: &[u8])
     }
 }
 
-/// The text of the head, and its numbers of frames and of bytes.
+/// The text of the head, and its numbers of frames and bytes.
 fn head_line(head: Option<&Info>) -> Line
     ensures { result ≡ head_line (option_copied head.entry) }
 {
@@ -93,7 +93,7 @@ fn head_line(head: Option<&Info>) -> Line
     line
 }
 
-/// Whether the head has no such number, or this one.
+/// Whether the head gives no such number, or this one.
 fn agrees(said: Option<u32>, number: u64) -> bool
     ensures { result ≡ agrees said number }
 {
@@ -103,7 +103,7 @@ fn agrees(said: Option<u32>, number: u64) -> bool
     }
 }
 
-/// Whether neither number of the head says that there are more frames or bytes than these, or fewer.
+/// Whether both numbers that the head gives, if any, are those of the file.
 fn is_as_said(head: Option<&Info>, frames: u64, bytes: u64) -> bool
     ensures { result ≡ is_as_said (option_copied head.entry) frames bytes }
 {
@@ -113,7 +113,7 @@ fn is_as_said(head: Option<&Info>, frames: u64, bytes: u64) -> bool
     }
 }
 
-/// How many frames and bytes there are, where the head says otherwise; else nothing.
+/// How many frames and bytes there are, if the head gives other numbers; otherwise empty.
 fn here_line(head: Option<&Info>, frames: u64, bytes: u64) -> Line
     ensures { result ≡ (if is_as_said (option_copied head.entry) frames bytes then [] else
         but_line frames bytes) }
@@ -128,7 +128,7 @@ fn here_line(head: Option<&Info>, frames: u64, bytes: u64) -> Line
     line
 }
 
-/// Puts delay and padding before a line, where the head counts.
+/// Puts delay and padding before a line, if the head counts.
 fn put_delay(line: &mut Line, counts: Option<HeadCounts>)
     requires { length line.old + 80 ≤ 192 }
     ensures { line.new ≡ counts_text counts ++ line.old }
@@ -140,7 +140,7 @@ fn put_delay(line: &mut Line, counts: Option<HeadCounts>)
     }
 }
 
-/// Delay and padding, where the head counts, and how many samples are played.
+/// Delay and padding, if the head counts, and how many samples are played.
 fn played_line(head: Option<&Info>, class: Class, frames: u32) -> Line
     ensures { result ≡ played_line (option_copied head.entry) class frames }
 {
@@ -182,7 +182,7 @@ fn channel_line(name: &[u8], gains: Option<Gains>) -> Line
     line
 }
 
-/// By how many steps the gains of both channels can move, of which these are the least and the greatest.
+/// By how many steps the gains of both channels can move, given their least and greatest.
 fn both_line(gains: Option<Gains>) -> Line
     ensures { result ≡ codes "both: " ++ both_text gains }
 {
@@ -203,7 +203,7 @@ fn mono_lines(gains: Option<Gains>) -> (Line, Line, Line)
     (channel_line(b"mono: ", gains), Line::new(), Line::new())
 }
 
-/// The lines of the two channels, which have these gains, and that of both.
+/// The lines of the two channels, which have these gains, and the line of both.
 fn stereo_lines(left: Option<Gains>, right: Option<Gains>) -> (Line, Line, Line)
     ensures { result.0 ++ (result.1 ++ (result.2 ++ [])) ≡ flat_map (λ line. line)
         (stereo_lines left right (joined_extremes left right)) }
@@ -215,7 +215,7 @@ fn stereo_lines(left: Option<Gains>, right: Option<Gains>) -> (Line, Line, Line)
     )
 }
 
-/// The lines of so many channels. If there is one, `left` has its gains.
+/// The lines of `channels` channels. If there is one, `left` has its gains.
 fn gain_lines(channels: u8, left: Option<Gains>, right: Option<Gains>) -> (Line, Line, Line)
     ensures { result.0 ++ (result.1 ++ (result.2 ++ [])) ≡ flat_map (λ line. line)
         (gain_lines channels left right (joined_extremes left right)) }

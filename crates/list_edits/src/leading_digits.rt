@@ -1,12 +1,12 @@
-//! The leading digits that a number has in common with the one before.
+//! The leading digits that a number has in common with the one before it.
 ghost use Rattle.std.specs.Prelude.{◌≡◌, ◌+◌, ◌<◌, ◌≤◌, ◌^◌, ◌++◌, length, decimal};
 
 use crate::line::Line;
 use itoa::write_digits;
 use std::marker::Model;
 
-/// The decimal digits of a number from 1 to 10^14 - 1, which stand ready as text. Where numbers rise by little, all
-/// digits but the last few are mostly those of the number before. Contracts see the number.
+/// The decimal digits of a number from 1 to 10^14 - 1, kept as text. Where numbers rise by little,
+/// all digits but the last few are mostly those of the number before. Contracts see the number.
 #[derive(Drop)]
 pub(crate) struct LeadingDigits {
     number: u64,
@@ -52,7 +52,7 @@ impl LeadingDigits {
         line.put_from(self.start, &text);
     }
 
-    // Has the digits of this number ready, if it may be kept.
+    // Keeps the digits of this number, if it is in the range.
     #[inline(never)]
     fn keep(&mut self, number: u64) {
         if 0 < number && number < 100_000_000_000_000 {
@@ -60,8 +60,8 @@ impl LeadingDigits {
         }
     }
 
-    /// Puts the decimal digits of a number before a line: the last two, and the others from the text where they
-    /// stand ready. Where they don't, they do from then on.
+    /// Puts the decimal digits of a number before a line: the last two, and the others from the
+    /// text if they are kept there. If they aren't, they are kept from then on.
     #[inline(always)]
     pub(crate) fn put_by_hundreds(&mut self, number: u64, line: &mut Line)
         requires { length line.old + 20 ≤ 192 }
@@ -78,7 +78,7 @@ impl LeadingDigits {
         self.keep(number / 100);
     }
 
-    /// As `put_by_hundreds`, with the last four digits in place of two.
+    /// As `put_by_hundreds`, with the last four digits instead of two.
     #[inline(always)]
     pub(crate) fn put_by_myriads(&mut self, number: u64, line: &mut Line)
         requires { length line.old + 20 ≤ 192 }

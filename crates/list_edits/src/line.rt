@@ -22,8 +22,8 @@ fn pair(number: u32) -> [u8; 2]
     [PAIRS[from], PAIRS[from + 1]]
 }
 
-// The hundreds of a number below 10,000 and what is left. To multiply and shift takes fewer instructions than what
-// the compiler makes of a division of any number.
+// The hundreds of a number below 10,000 and the rest. Multiplying and shifting takes fewer
+// instructions than the code that the compiler emits for dividing an arbitrary number.
 #[inline]
 fn split(number: u32) -> (u32, u32)
     requires { number < 10000 }
@@ -34,8 +34,8 @@ fn split(number: u32) -> (u32, u32)
     (hundreds, number - 100 * hundreds)
 }
 
-/// A text of at most 192 bytes that grows at its beginning: so the digits of a number are written where they
-/// stay. Contracts see it as its bytes.
+/// A text of at most 192 bytes that grows at its beginning: this way the digits of a number are
+/// written where they stay. Contracts see it as its bytes.
 #[derive(Drop)]
 pub struct Line {
     room: [u8; ROOM],
@@ -71,7 +71,7 @@ impl Line {
         self.front = ROOM;
     }
 
-    /// Puts another text before it.
+    /// Puts another text before this one.
     #[inline]
     pub fn put(&mut self, text: &[u8])
         requires { length self.old + length text.now ≤ 192 }
@@ -82,7 +82,7 @@ impl Line {
         self.front = front;
     }
 
-    /// Takes bytes away from its beginning.
+    /// Removes bytes from the beginning.
     #[inline]
     fn skip(&mut self, count: usize)
         requires { count ≤ length self.old }
@@ -91,8 +91,8 @@ impl Line {
         self.front += count;
     }
 
-    /// Puts a text without its first bytes before it. The text is copied whole, which takes less than to copy
-    /// what is left, where it has four, eight or sixteen bytes.
+    /// Puts a text without its first bytes before this one. The text is copied whole, which is
+    /// cheaper than copying only the rest if it has four, eight or sixteen bytes.
     #[inline]
     pub(crate) fn put_from(&mut self, start: usize, text: &[u8])
         requires start { start ≤ length text.now }
@@ -103,7 +103,7 @@ impl Line {
         self.skip(start);
     }
 
-    /// Puts the two digits of a number below 100 before it.
+    /// Puts the two digits of a number below 100 before this text.
     #[inline]
     pub(crate) fn put_pair(&mut self, number: u32)
         requires pair { number < 100 }
@@ -113,7 +113,7 @@ impl Line {
         self.put(&pair(number));
     }
 
-    /// Puts the four digits of a number below 10,000 before it.
+    /// Puts the four digits of a number below 10,000 before this text.
     #[inline]
     pub(crate) fn put_four(&mut self, number: u32)
         requires four { number < 10000 }
@@ -125,7 +125,7 @@ impl Line {
         self.put_pair(hundreds);
     }
 
-    /// Puts a digit before it.
+    /// Puts a digit before this text.
     #[inline]
     fn put_digit(&mut self, digit: u32)
         requires digit { digit < 10 }
@@ -135,7 +135,7 @@ impl Line {
         self.put(&[b'0' + digit as u8]);
     }
 
-    /// Puts the decimal digits of a number below 10,000 before it.
+    /// Puts the decimal digits of a number below 10,000 before this text.
     #[inline]
     fn put_short(&mut self, number: u32)
         requires short { number < 10000 }
@@ -159,7 +159,7 @@ impl Line {
         self.put_digit(number);
     }
 
-    /// Puts the decimal digits of a number before it, of any length.
+    /// Puts the decimal digits of any number before this text.
     #[inline(never)]
     fn put_long(&mut self, number: u64)
         requires { length self.old + 20 ≤ 192 }
@@ -168,7 +168,7 @@ impl Line {
         self.front = write_digits(number, &mut self.room, self.front);
     }
 
-    /// Puts the decimal digits of a number before it.
+    /// Puts the decimal digits of a number before this text.
     #[inline]
     pub fn put_number(&mut self, number: u64)
         requires { length self.old + 20 ≤ 192 }
@@ -182,7 +182,7 @@ impl Line {
         }
     }
 
-    /// Puts a text before it, and the decimal digits of a number before that.
+    /// Puts a text before this one, and the decimal digits of a number before that.
     #[inline]
     pub fn put_counted(&mut self, number: u64, text: &[u8])
         requires { length self.old + length text.now + 20 ≤ 192 }

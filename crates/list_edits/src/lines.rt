@@ -34,7 +34,8 @@ fn kind_name<'a>(kind: Kind) -> &'a [u8]
     }
 }
 
-/// What a frame's line has in common with that of the frame before: the leading digits of its number and of its offset.
+/// What a frame's line has in common with the line of the frame before: the leading digits of its
+/// number and of its offset.
 #[derive(Drop)]
 pub(crate) struct Common {
     number: LeadingDigits,
@@ -51,7 +52,8 @@ impl Common {
     }
 }
 
-// The number of a frame, its offset, its bit rate in kbit/s, its main_data_begin in bytes, how many bits its main data are, and whether it is lost.
+// The line of a frame: its number, its offset, its bit rate in kbit/s, its main_data_begin in
+// bytes, how many bits its main data are, and whether it is lost.
 #[inline(always)]
 fn set_frame_line(line: &mut Line, common: &mut Common, number: u64, row: &Row)
     ensures { line.new ≡ frame_line number row.now }
@@ -82,7 +84,7 @@ fn set_frame_line(line: &mut Line, common: &mut Common, number: u64, row: &Row)
     line.put_from(2, b"__frame ");
 }
 
-// Makes the text the line of a thing.
+// Sets the text to the line of a thing.
 #[tactic(auto, unfolding(crate::specs::Listing::thing_line))]
 fn set_line(line: &mut Line, common: &mut Common, thing: &Thing)
     ensures { line.new ≡ thing_line thing.now }
@@ -105,7 +107,8 @@ fn set_line(line: &mut Line, common: &mut Common, thing: &Thing)
     }
 }
 
-// As `set_next_line`. It is apart from it, since the compiler would make room for a thing of each kind at every frame.
+// As `set_next_line`. It is a function of its own, since otherwise the compiler would make room for
+// a thing of each kind at every frame.
 #[inline(never)]
 fn set_other_line(line: &mut Line, common: &mut Common, things: &mut Things) -> bool
     ensures line { result ≡ true → IsNextLine (things_left things.old) (things_left things.new) line.new }
@@ -120,7 +123,7 @@ fn set_other_line(line: &mut Line, common: &mut Common, things: &mut Things) -> 
     }
 }
 
-/// Makes the text the line of the next thing; false, with any text, once all were met.
+/// Sets the text to the line of the next thing; false, with any text, once all were met.
 #[tactic(auto, unfolding(crate::specs::Listing::thing_line))]
 #[inline]
 pub(crate) fn set_next_line(line: &mut Line, common: &mut Common, things: &mut Things) -> bool
@@ -161,7 +164,7 @@ fn set_time(line: &mut Line, time: u128)
     line.put(Buffer::new().format(time / 6000).as_bytes());
 }
 
-/// Makes the text the end of a line: how long `count` frames of this class sound.
+/// Sets the text to the end of a line: how long `count` frames of this class sound.
 pub(crate) fn set_duration(line: &mut Line, class: Class, count: u64)
     ensures text { line.new ≡ time_text (hundredths class count) ++ codes "\n" }
     ensures few { length line.new ≤ 64 }
@@ -182,7 +185,7 @@ pub(crate) fn put_class(line: &mut Line, class: Class)
     line.put(version_name(class.version));
 }
 
-/// Makes the text the summary of `count` frames of this class.
+/// Sets the text to the summary of `count` frames of this class.
 #[tactic(auto, unfolding(crate::specs::Listing::summary))]
 pub(crate) fn set_summary(line: &mut Line, class: Class, count: u64)
     ensures { line.new ≡ summary class count }

@@ -20,7 +20,7 @@ use sync_survey::Survey;
 /// Sends the lines of the file and its summary. It takes no memory.
 ///
 /// # Errors
-/// Where a write failed. Then a prefix of the text was sent.
+/// If a write failed. Then a prefix of the text was sent.
 fn send_listing<T: Sink>(survey: &Survey, mut buffer: SendBuffer, out: &mut T) -> Result<(), Failed>
     requires laid { IsSurveyLaidOut (survey_view survey.now) }
     requires empty { buffer ≡ [] }
@@ -65,26 +65,28 @@ impl FileText for FileList {
     }
 }
 
-/// Sends what is in the file to `out`: a line for each thing in order of the offsets, and a summary. Nothing
-/// is written to the folder.
+/// Sends what is in the file to `out`: a line for each thing in order of offset, and a summary.
+/// Nothing is written to the folder.
 ///
 /// | thing | line |
 /// |---|---|
 /// | tag | `block KIND at O: L bytes`, KIND is `ID3v2`, `ID3v1` or `APEv2` |
 /// | junk before the first frame | `junk at O: L bytes` |
 /// | Xing or Info head | `head at O: L bytes` |
-/// | frame | `frame I at O: R kbit/s, begin B, bits P`, with ` padded` after `kbit/s` where padding is set, and with `, lost` at its end where it is lost |
+/// | frame | `frame I at O: R kbit/s, begin B, bits P`, with ` padded` after `kbit/s` if padding is set, and with `, lost` at its end if the frame is lost |
 /// | summary | `N frames, V, F Hz, C channels, M.SS.HH` |
 ///
-/// O is an offset and L a length in bytes, I the number of the frame, counted from 0 without the head, R its bit
-/// rate, B its main_data_begin in bytes, P how many bits its main data are; it is lost where they begin before the
-/// file, in frames that were cut off. F is the sampling frequency in Hz, V is `MPEG-1`, `MPEG-2` or `MPEG-2.5`, and
-/// M.SS.HH are minutes, seconds and hundredths, rounded down.
+/// O is an offset and L a length in bytes, I the number of the frame, counted from 0 without the
+/// head, R its bit rate, B its main_data_begin in bytes, P how many bits its main data are; it is
+/// lost if they begin before the file, in frames that were cut off. F is the sampling frequency in
+/// Hz, V is `MPEG-1`, `MPEG-2` or `MPEG-2.5`, and M.SS.HH are minutes, seconds and hundredths,
+/// rounded down.
 ///
 /// # Errors
-/// `Input(0, ..)` with the fault of the survey of the input, of which 2,900,000 frames are allowed; `Memory` may
-/// come once the input was found with a length that it may have. After these nothing was sent: all memory is
-/// taken before the first byte. `Sent` only where a write to `out` failed; then it got a prefix of the text.
+/// `Input(0, ..)` with the fault of the survey of the input, which may have 2,900,000 frames;
+/// `Memory` may be returned once the input was found with a length that it may have. After these
+/// nothing was sent: all memory is taken before the first byte. `Sent` only if a write to `out`
+/// failed; then a prefix of the text was sent.
 pub fn list<D: Folder, T: Sink>(
     alloc: Global,
     folder: &mut D,

@@ -1,4 +1,4 @@
-//! The bit rate of a frame as its line has it.
+//! The bit rate of a frame as it is in its line.
 ghost use Rattle.std.specs.Prelude.{◌≡◌, ◌+◌, ◌-◌, ◌≤◌, ◌++◌, length, drop, slice_index};
 ghost use Rattle.frame_header.specs.Tables.{rates, rate_of};
 ghost use Rattle.list_edits.specs.Listing.{rate_text};
@@ -6,7 +6,8 @@ ghost use Rattle.list_edits.specs.Listing.{rate_text};
 use crate::line::Line;
 use frame_header::{Class, Slot, Version};
 
-// The text of a bit rate in kbit/s with its colon and its unit, behind as many spaces as make sixteen bytes of it.
+// The text of a bit rate in kbit/s with its colon and its unit, after as many spaces as fill it up
+// to sixteen bytes.
 struct RateText {
     text: [u8; 16],
     spaces: usize,
@@ -21,7 +22,7 @@ macro_rules! rate_text {
     };
 }
 
-// Those of the indexes 1 to 14 (ISO/IEC 11172-3 and 13818-3, 2.4.2.3).
+// The texts for the indexes 1 to 14 (ISO/IEC 11172-3 and 13818-3, 2.4.2.3).
 static MPEG_1_TEXTS: [RateText; 14] = [
     rate_text!(5 b"     : 32 kbit/s"),
     rate_text!(5 b"     : 40 kbit/s"),

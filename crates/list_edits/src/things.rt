@@ -1,4 +1,4 @@
-//! What is in a file, in order of the offsets.
+//! What is in a file, in order of offset.
 ghost use Rattle.std.specs.Prelude.{◌≡◌, [], ◌∷◌, option_to_list, IfSome, IfNone, MatchOption};
 ghost use Rattle.sync_survey.specs.Faults.{survey_view};
 ghost use Rattle.sync_survey.specs.Survey.{IsSurveyLaidOut};
@@ -88,7 +88,7 @@ impl<'a> Things<'a> {
         Some((number, row))
     }
 
-    /// The next thing, in order of the offsets; none once all were met.
+    /// The next thing, in order of offset; none once all were met.
     pub(crate) fn next(&mut self) -> Option<Thing>
         ensures { MatchOption result (things_left self.old ≡ []) (λ t. things_left self.old ≡ t ∷ things_left self.new) }
     {
@@ -101,7 +101,7 @@ impl<'a> Things<'a> {
         }
     }
 
-    /// The offset of the junk, or else of the head, if one of them is left.
+    /// The offset of the junk or, if it was met, of the head, if one of them is left.
     fn leading_offset(&self) -> Option<u64>
         ensures { IsLeadingOffset result (leading_things self.now) }
     {
@@ -112,7 +112,7 @@ impl<'a> Things<'a> {
         Some(head.offset())
     }
 
-    /// The junk, or else the head, if one of them is left.
+    /// The junk or, if it was met, the head, if one of them is left.
     fn next_leading(&mut self) -> Option<Thing>
         ensures met { MatchOption result (leading_things self.old ≡ [])
             (λ t. leading_things self.old ≡ t ∷ leading_things self.new) }

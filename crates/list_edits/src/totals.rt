@@ -1,4 +1,4 @@
-//! What the frames of a file are together, by one walk over them.
+//! Totals over the frames of a file, from one walk over them.
 ghost use Rattle.std.specs.Prelude.{◌≡◌, ◌+◌, ◌*◌, ◌^◌, ◌<◌, ◌≤◌, length};
 ghost use Rattle.frame_header.specs.Tables.{class_of};
 ghost use Rattle.sync_survey.specs.MainData.{head_area};
@@ -12,8 +12,8 @@ use frame_header::{Class, Version};
 use moved_gains::{Gains, gains_in, joined};
 use sync_survey::{Head, Row, Survey};
 
-/// What the headers of some frames tell: the least and the greatest bit rate in kbit/s, and how many bytes the areas and the
-/// frames have.
+/// What the headers of some frames give: the least and the greatest bit rate in kbit/s, and how
+/// many bytes the areas and the frames have.
 #[derive(Clone, Copy)]
 pub(crate) struct HeaderTotals {
     pub(crate) areas: u64,
@@ -22,8 +22,8 @@ pub(crate) struct HeaderTotals {
     pub(crate) greatest_rate: u32,
 }
 
-/// What the side information of some frames tells: how many frames are lost, how many bytes of main data the others have, and
-/// the least and the greatest gain of each channel that move.
+/// What the side information of some frames gives: how many frames are lost, how many bytes of main
+/// data the others have, and the least and the greatest gain of each channel that move.
 #[derive(Clone, Copy)]
 pub(crate) struct SideTotals {
     pub(crate) lost: u64,
@@ -32,7 +32,7 @@ pub(crate) struct SideTotals {
     pub(crate) right: Option<Gains>,
 }
 
-/// What some frames are together.
+/// The totals of some frames.
 #[derive(Clone, Copy)]
 pub(crate) struct Totals {
     pub(crate) headers: HeaderTotals,
@@ -49,7 +49,7 @@ fn bit_rate(class: Class, row: &Row) -> u32
 }
 
 impl HeaderTotals {
-    /// Those of no frame, where the first one has this bit rate.
+    /// The totals of no frame, where the first one has this bit rate.
     fn before(rate: u32) -> HeaderTotals
         ensures { result ≡ no_headers rate }
     {
@@ -82,7 +82,7 @@ impl HeaderTotals {
 }
 
 impl SideTotals {
-    /// Those of no frame.
+    /// The totals of no frame.
     fn none() -> SideTotals
         ensures { result ≡ no_sides }
     {
@@ -158,7 +158,7 @@ fn head_area(head: Option<Head>) -> u64
     }
 }
 
-/// How many bytes the areas of the head and of all frames have, of which these are the totals.
+/// How many bytes the areas of the head and of all frames have, given the totals of the frames.
 pub(crate) fn areas_in(survey: &Survey, totals: &Totals) -> u64
     requires totals { AreTotals (survey_view survey.now).frames totals.now }
     requires few { length (survey_view survey.now).frames ≤ most_frames }
@@ -178,7 +178,7 @@ fn head_length(head: Option<Head>) -> u64
     }
 }
 
-/// How many bytes the head and all frames have, of which these are the totals.
+/// How many bytes the head and all frames have, given the totals of the frames.
 pub(crate) fn stream_length(survey: &Survey, totals: &Totals) -> u64
     requires totals { AreTotals (survey_view survey.now).frames totals.now }
     requires few { length (survey_view survey.now).frames ≤ most_frames }

@@ -1,4 +1,4 @@
--- What the one body asks of the command.
+-- What the one body requires of the command.
 use Rattle.cut_edits.proofs.PieceLemmas.{exact-proper}
 use Rattle.cut_edits.proofs.calls.cut_exact.Goals as goal
 

@@ -1,4 +1,4 @@
--- What the one body asks of the command.
+-- What the one body requires of the command.
 use Rattle.std.proofs.Common.{true}
 use Rattle.cut_edits.proofs.ChosenLemmas.{edit_proper}
 use Rattle.cut_edits.specs.declared.choice.FrameChoice.TheVariants.{All}

@@ -1,4 +1,4 @@
--- The survey is one by which the head can be read.
+-- The head can be read by the survey.
 use Rattle.commands.specs.SingleOutput.{most_frames}
 use Rattle.laying.proofs.SurveyFrameLemmas.{survey-had}
 use Rattle.sync_survey.specs.Faults.{survey_view}

@@ -1,4 +1,4 @@
--- What the planner answers of the chosen frames is their led plan.
+-- What the planner returns for the chosen frames is their led plan.
 use Rattle.std.proofs.{Common.{Bool, rules, subst, sym, true, ◌≡◌}, lemmas.Result.IfOk-weaker}
 use Rattle.std.specs.Prelude.{IfOk}
 use Rattle.cut_edits.proofs.SpanLemmas.{led-answer, led-can}

@@ -1,4 +1,4 @@
--- The Info frame can be sealed, and then it is that of the sealed fields.
+-- The Info frame can be sealed, and then it is the Info frame of the sealed fields.
 use Rattle.std.proofs.Common.{ap, ◌∙◌}
 use Rattle.cut_edits.proofs.SealedLemmas.{info-room, sealed-is, sealed-room}
 use Rattle.exact_span.specs.TagWord.{sealed_frame}

@@ -1,4 +1,4 @@
--- The frames of the span have their plan, and a place at most more than they are.
+-- The frames of the span have their plan, with at most one place more than frames.
 use Rattle.std.proofs.Common.{ap, ap₂, arith, length, List, None, Option, refl, subst, sym, ◌∙◌}
 use Rattle.std.{proofs.Common.◌≡◌, specs.Prelude.option_copied}
 use Rattle.cut_edits.proofs.PieceLemmas.{span_chosen}

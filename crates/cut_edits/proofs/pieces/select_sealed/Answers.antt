@@ -1,5 +1,5 @@
--- The extension that is kept is that of the sealed
--- fields, so the bytes are those of the Info frame.
+-- The extension that is kept is the extension of the sealed fields, so the bytes are those of the
+-- Info frame.
 use Rattle.std.proofs.Common.{ap, ap₂, arith, drop, List, map, Option, sym, take, ℕ, ◌+◌, ◌∙◌}
 use Rattle.cut_edits.{proofs.SealedLemmas.{for-whole, sealed-read}, specs.Exact.row_sealed_part}
 use Rattle.exact_span.specs.TagWord.{text_place}

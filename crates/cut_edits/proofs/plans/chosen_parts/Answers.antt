@@ -1,4 +1,4 @@
--- They are the only part.
+-- The chosen frames are the only part.
 use Rattle.std.{proofs.Common.{ap, List, [], ◌∙◌, ◌∷◌}, specs.Prelude.slice_range}
 use Rattle.laying.specs.Needs.{plan_input}
 use Rattle.sync_survey.specs.Row.{Row}

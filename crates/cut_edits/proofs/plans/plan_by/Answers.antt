@@ -1,4 +1,4 @@
--- What the planner answers of the chosen frames is their plan.
+-- What the planner returns for the chosen frames is their plan.
 use Rattle.std.proofs.lemmas.Result.{IfOk-weaker}
 use Rattle.cut_edits.{proofs.ChosenLemmas.{plan_is, rows-fit}, specs.Chosen.chosen_in}
 use Rattle.slot_plan.specs.Plans.{entries}

@@ -1,4 +1,4 @@
--- The plan of the chosen frames can be laid, and has at most one place more than they are.
+-- The chosen frames can be laid by their plan, which has at most one place more than frames.
 use Rattle.std.proofs.Common.{ap, arith, drop, length, subst, sym, ◌-◌, ◌∙◌}
 use Rattle.std.proofs.lemmas.List.{length-map, length-take}
 use Rattle.cut_edits.proofs.ChosenLemmas.{by_usual, plan-few, plan-fitting}

@@ -1,5 +1,4 @@
--- The played positions are those of a file that isn't
--- too long, and the frames of the span are there.
+-- The played positions are within a file that isn't too long, and the frames of the span are there.
 use Rattle.std.proofs.Common.{ap, ap₂, arith, Err, length, Ok, Option, Result, sym, ℕ, ◌∙◌, ◌≡◌}
 use Rattle.std.proofs.lemmas.Result.{MatchResult-weaker}
 use Rattle.std.specs.Prelude.{IfOk, MatchResult, option_copied}

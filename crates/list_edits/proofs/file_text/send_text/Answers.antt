@@ -1,4 +1,4 @@
--- What the call leaves, by the survey, what was read beside it, and what was sent of the text.
+-- What the call leaves, given the survey, what was read besides, and what was sent of the text.
 use Rattle.std.{proofs.Common.{ap₂, List, subst, sym, ℕ, ◌∙◌, ◌≡◌}, specs.Prelude.{IfErr, OnOk}}
 use Rattle.commands.specs.AfterCall.{HasNumbers, IsCommandDone, IsCommandFault}
 use Rattle.commands.specs.{Command.HoldsStreams, SingleOutput.{IsFileFault, most_frames}}
@@ -35,7 +35,7 @@ returns-in_err-text g c =
     (c.read.ensures.reads.files ∙ files)
     (subst (λ (n : Counts). OnlyReads n new.counts) counts c.read.ensures.reads.counts)
 
--- the text of the input's bytes, where they are told, is the one by what was read
+-- the text of the input's bytes, where they are known, is the text from what was read
 text_is : (g : given.Over) (c : In_ok-text g) (bytes : List ℕ)
     → Holds (g.D.Folder.seen c.args.folder.now).files c.args.input.now bytes
     → g.K.FileText.text bytes (survey_view c.in_ok-survey.survey)
@@ -45,7 +45,7 @@ text_is g c bytes holds =
     c.in_ok-text.ensures.text bytes
     (subst (λ f. Holds f c.args.input.now bytes) (sym files) holds)
 
--- neither files nor counts moved
+-- neither files nor counts changed
 files_stay : (g : given.Over) (c : In_ok-text g)
     → (g.D.Folder.seen c.read.new.folder).files ≡ (g.D.Folder.seen c.args.folder.now).files
 files_stay g c = c.read.ensures.reads.files ∙ c.survey_at.ensures.reads.files

@@ -1,4 +1,4 @@
--- One line after another, then what waits.
+-- Line by line, then what waits.
 use Rattle.std.proofs.{Common.{arith, drop, refl, subst, ◌++◌, ◌+◌, ◌∙◌}, lemmas.List.drop_all}
 use Rattle.list_edits.proofs.InfoLemmas.{line-at}
 use Rattle.list_edits.proofs.ListingLemmas.{all_lines, line_failed, prefix_behind, said_more}

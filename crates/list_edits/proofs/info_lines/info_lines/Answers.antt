@@ -1,4 +1,4 @@
--- Each line is that of the survey.
+-- Each line is the line of the survey.
 use Rattle.std.{proofs.Common.{ap, ap₂, length, refl, [], ◌∙◌}, specs.Option.option_copied}
 use Rattle.std.specs.Prelude.{if◌then◌else◌}
 use Rattle.frame_header.specs.Fields.{ClassFields}

@@ -1,4 +1,4 @@
--- The gains of both channels are those of the one and of the other.
+-- The gains of both channels are the gains of the one and of the other.
 use Rattle.std.{proofs.Common.{ap, Option, ◌++◌, ◌∙◌}, specs.Prelude.codes}
 use Rattle.list_edits.{proofs.InfoLemmas.three-lines, specs.InfoText.both_text}
 use Rattle.moved_gains.specs.declared.gain_extremes.Gains.{Gains}

@@ -1,4 +1,4 @@
--- The two digits stand in the table.
+-- The two digits are in the table.
 use Rattle.std.proofs.Common.{refl}
 use Rattle.list_edits.proofs.PairsLemmas.{pair_at}
 use Rattle.list_edits.proofs.line.pair.Goals as goal

@@ -1,4 +1,4 @@
--- Each text of the tables is that of its bit rate.
+-- Each text of the tables is the text of its bit rate.
 use Rattle.std.proofs.Common.{ap, arith, inl, inr, refl, ◌-◌, ◌≡◌}
 use Rattle.frame_header.specs.{Fields.SlotFields, Tables.rates}
 use Rattle.frame_header.specs.declared.version.Version.TheVariants.{One, Two}

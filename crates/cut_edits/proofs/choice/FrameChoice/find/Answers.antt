@@ -1,4 +1,4 @@
--- What a cut chooses is decided by the survey alone.
+-- What a cut chooses depends on the survey alone.
 use Rattle.std.proofs.Common.{Err, List, Ok, refl, Result, ℕ, ◌≡◌}
 use Rattle.std.proofs.lemmas.Result.{IfErr-weaker, MatchResult-weaker}
 use Rattle.std.specs.Prelude.{IfErr, MatchResult}
@@ -35,7 +35,7 @@ returns-in-Between-clause-refused g c =
     c.args.survey.now) (g.D.Folder.seen c.args.folder.now) c.requires.there c.requires.surveyed
     c.cut_choice.result c.cut_choice.ensures.chosen c.cut_choice.ensures.refusal)
 
--- all frames are chosen whatever a command makes of them
+-- all frames are chosen, whatever a command makes of them
 pub returns-in-All-clause-refused : goal.returns-in-All-clause-refused
 returns-in-All-clause-refused g c = IfErr-weaker c.all_choice.result _ _ (λ fault is plan.
     is (laying_making (choosing_of c.args.self.now) plan)) c.all_choice.ensures.refused

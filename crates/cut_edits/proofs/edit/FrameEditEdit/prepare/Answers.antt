@@ -15,7 +15,7 @@ use Rattle.sync_survey.specs.{Faults.survey_view, MainData.StreamFrame}
 use Rattle.cut_edits.proofs.edit.FrameEditEdit.prepare.Given as given
 use Rattle.cut_edits.proofs.edit.FrameEditEdit.prepare.Goals as goal
 
--- what it makes, and its stream
+-- what the command makes, and its stream
 abbrev plan_in : FrameEdit → Planning
 plan_in edit = first_planning (slot_choices edit.least)
 
@@ -50,7 +50,7 @@ returns-in_err-chosen-clause-refused g c =
     (ap₂ seen_folder c.survey_at.ensures.reads.files c.in_ok-survey.ensures.reads.done)
     (c.in_err-chosen.ensures.refused (plan_in edit))))
 
--- want of memory, once the frames were chosen
+-- out of memory, once the frames were chosen
 forgot : (g : given.Over) (c : In_ok-chosen g) → IsEarlyFault
     (task_of_choice c.args.self.now.choice c.args.self.now.least c.args.self.now.input.now)
     (g.D.Folder.seen c.args.folder.now) (g.D.Folder.seen c.find.new.folder) Memory

@@ -20,7 +20,7 @@ use Rattle.sync_survey.specs.{MainData.StreamFrame, Survey.IsSurveyLaidOut}
 use Rattle.cut_edits.proofs.exact_edit.ExactEditEdit.prepare.Given as given
 use Rattle.cut_edits.proofs.exact_edit.ExactEditEdit.prepare.Goals as goal
 
--- what it makes, and its stream
+-- what the command makes, and its stream
 abbrev make_in : ExactEdit → Making
 make_in edit = exact_making edit.from.now edit.to.now
 
@@ -76,7 +76,7 @@ returns-in_err-span-clause-refused g c =
     (ap₂ seen_folder (c.read_head.ensures.reads.files ∙ c.survey_at.ensures.reads.files)
     (c.in_ok-head.ensures.reads.done ∙ c.in_ok-survey.ensures.reads.done))))
 
--- want of memory, once the span was found
+-- out of memory, once the span was found
 forgot : (g : given.Over) (c : In_ok-span g) → IsEarlyFault
     (exact_task c.args.self.now.from.now c.args.self.now.to.now c.args.self.now.input.now)
     (g.D.Folder.seen c.args.folder.now) (g.D.Folder.seen c.read_head.new.folder) Memory
@@ -98,7 +98,7 @@ returns-in_err-work-clause-refused g c =
     err_with _ _ c.from_residual-in_err-work.ensures.1 (forgot g
     (goal.at.returns-in_err-work-clause-refused g c).In_ok-span)
 
--- the survey once its head is set apart
+-- the survey whose head is set apart is laid out
 pub select_piece-requires-clause-laid : goal.select_piece-requires-clause-laid
 select_piece-requires-clause-laid g c = subst IsSurveyLaidOut (sym c.set_apart.ensures)
     (apart-laid (survey_view c.in_ok-survey.survey) c.in_ok-survey.ensures.laid)

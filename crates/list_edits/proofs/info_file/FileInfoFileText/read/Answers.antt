@@ -1,4 +1,4 @@
--- The survey is one by which the head can be read.
+-- The head can be read by the survey.
 use Rattle.std.proofs.Common.{ap, Option, sym}
 use Rattle.commands.specs.SingleOutput.{most_frames}
 use Rattle.info_header.specs.declared.fields.Info.{Info}

@@ -1,4 +1,4 @@
--- What is taken away is of the text alone.
+-- What is removed belongs to the new text alone.
 use Rattle.std.proofs.{Common.{ap, drop, ◌∙◌}, lemmas.List.drop-append-le}
 use Rattle.list_edits.proofs.line.Line.put_from.Goals as goal
 

@@ -1,5 +1,5 @@
--- The next thing is the first of what is left: a block
--- that isn't after the junk or the head, or one of these.
+-- The next thing is the first of what is left: a block that isn't after the junk or the head, or
+-- one of these.
 use Rattle.std.proofs.Common.{refl, subst, ◌∙◌}
 use Rattle.list_edits.proofs.ThingsLemmas.{block_met, leading_met}
 use Rattle.list_edits.specs.Things.{IsLeadingOffset, leading_things}

@@ -1,4 +1,4 @@
--- A lost frame is counted; of any other the main data and the gains are.
+-- A lost frame is counted; any other adds its main data and gains.
 use Rattle.std.proofs.Common.{ap, sym, ◌∙◌}
 use Rattle.list_edits.proofs.TotalsLemmas.{with-lost, with-sound}
 use Rattle.moved_gains.specs.GainExtremes.{extremes, side_gains}
