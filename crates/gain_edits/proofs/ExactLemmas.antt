@@ -1,4 +1,4 @@
--- The steps that a file takes are exact.
+-- Exactly which steps a file accepts.
 use Rattle.std.proofs.Common.{All, ap, ap₂, arith, Bool, cond, Err, false, is_some, length, List}
 use Rattle.std.proofs.Common.{ltb, map, None, not, Ok, Option, pos, refl, Result, Some, subst, suc}
 use Rattle.std.proofs.Common.{sym, true, zero, ℕ, ℤ, [], ◌&&◌, ◌||◌, ◌∙◌, ◌∷◌, ◌≡◌, ◌≤◌}
@@ -79,7 +79,7 @@ unfolding is_range
 range-none None later first rest = rest
 range-none (Some refusal) later first rest = first
 
--- a later refusal counts where the first isn't there, and each of these is one for the range
+-- either the first refusal is there, which is one for the range, or a later one counts
 range-either : (at : ℕ) (o : Option OutOfRange) (later : Option Refusal)
     → is_range (or_else (out_of_range_refusal at o) later) ≡ (is_some o || is_range later)
 unfolding is_range
@@ -90,7 +90,7 @@ range-nothing : is_range None ≡ false
 unfolding is_range
 range-nothing = refl
 
--- a gain of the frames leaves the range exactly where the first that does is found
+-- a gain of the frames leaves the range exactly if the first one that does is found
 range-some : (steps : ℕ → Steps) (rows : List Row)
     → is_range (range_fault steps rows) ≡ is_some_out_of_range steps rows
 range-some steps [] =
@@ -119,7 +119,7 @@ range-free steps (row ∷ rows) free =
     by_first later None rest = later rest
     by_first later (Some stuck) rest = absurd cc
 
--- what is made where no gain leaves the range is made exactly then
+-- what is made unless a gain leaves the range is made exactly if none does
 made-where : {A : Type 0} (o : Option Refusal) (a : A) → (is_range o ≡ false → o ≡ None)
     → is_ok (refusal_or o a) ≡ not (is_range o)
 unfolding is_range
@@ -150,7 +150,7 @@ ok-changed : (file : List ℕ) (s : SurveyFields) (r : Result FileChange EditFau
 ok-changed file s (Ok change) = refl
 ok-changed file s (Err fault) = refl
 
--- what is made unless a gain leaves the range
+-- a file is made exactly if no gain leaves the range
 made-unless : (of : Changing) (file : List ℕ) (s : SurveyFields) (steps : ℕ → Steps)
     (change : FileChange) (taken : Bool) → survey_of file most_frames ≡ Ok s
     → of file s ≡ refusal_or (range_fault steps s.frames) change
@@ -185,7 +185,7 @@ noted-as : (shift : Shift) (file : List ℕ) (s : SurveyFields) → gain_change 
 unfolding gain_change
 noted-as shift file s = refl
 
--- where the channels may change, the gains alone refuse
+-- if the channels may change, only gains that leave the range are refused
 alone : (channels : Channels) (steps : ℤ) (file : List ℕ) (s : SurveyFields)
     → channel_fault (strict_shift channels steps) s ≡ None
     → gain_change (strict_shift channels steps) false file s
@@ -251,7 +251,7 @@ range-output s bytes = elim (ltb longest_file (output_length s bytes))
 
 -- ---- with a note
 
--- it is refused for the range only where the same without a note is
+-- a change with a note is refused for the range only if the change without it is
 noted-plain : (shift : Shift) (s : SurveyFields) (tag : TagFields) (undo : Undo)
     → leaves_range (noted_change shift s tag undo) ≡ true
     → leaves_range (plain_change shift s) ≡ true
@@ -304,7 +304,7 @@ noted-only shift file s is refused =
     ∙ tag-plain shift s (file_tag file s)
     (sym (range-gained shift true file s is ∙ ap leaves_range (noted-as shift file s)) ∙ refused)
 
--- where no gain leaves the range, no change is refused for it, noted or not
+-- if no gain leaves the range, no change is refused for it, noted or not
 never : (shift : Shift) (tags : Bool) (file : List ℕ) (s : SurveyFields)
     → survey_of file most_frames ≡ Ok s
     → is_some_out_of_range (constant_steps (steps_of shift)) s.frames ≡ false
@@ -327,7 +327,7 @@ never shift tags file s is free = by_tags tags
         false_from_ne_true (leaves_range (gain_result shift true file)) (λ refused. both_ways
         (leaves_range (gain_result shift false file)) plain (noted-only shift file s is refused))
 
--- ---- where no gain moves
+-- ---- files in which no gain moves
 
 takes-each : (rows : List Row) (steps : ℤ) → takes_steps (extremes_of_both rows) steps
     ≡ (takes_steps (extremes_of 0 rows) steps && takes_steps (extremes_of 1 rows) steps)
@@ -362,7 +362,7 @@ still-stuck rows law none shift = by_wrap shift.wrap refl
 
 -- ---- fade
 
--- a point is taken where its steps are, or as many the other way
+-- a point is accepted if its steps are, or as many the other way
 point-taken : (gains : Option Gains) (back : Bool) (steps : ℤ)
     → takes_point gains back steps ≡ takes_steps gains (steps_back back steps)
 point-taken None true steps = refl
@@ -370,7 +370,7 @@ point-taken None false steps = refl
 point-taken (Some g) true steps = sym (within-opposite g.least (255 - g.greatest) steps)
 point-taken (Some g) false steps = refl
 
--- the steps of each frame are taken where those of all points are
+-- the steps of each frame are accepted if the steps of all points are
 curve-taken : (gains : Option Gains) (back : Bool) (points : List CurvePoint)
     → All (λ p. IsTrue (takes_point gains back p.steps)) points → (frame : ℕ)
     → takes_steps gains (steps_back back (steps_at points frame)) ≡ true
@@ -442,7 +442,7 @@ fade-free file s is law sheet back points read all =
     ∙ too-large sheet (λ bytes. sheet_change bytes back s)
     (ap leaves_range (fade-as sheet back s points read) ∙ curve-range s back points free)
 
--- a point alone rises, so the frames move by its steps, or by as many the other way
+-- with a single point all frames move by its steps, or by as many the other way
 one-as : (sheet : List ℕ) (back : Bool) (s : SurveyFields) (point : EnvelopePoint) → length sheet
     ≤ longest_sheet → envelope_of sheet ≡ Ok (point ∷ []) → input_sheet_change (Some sheet) back s
     ≡ curve_change back s (curve_point s.class (length s.frames) point ∷ [])
@@ -472,7 +472,7 @@ fade-one file s is law sheet back point few read =
     ∙ law.both (steps_back back point.steps)
     ∙ ap not (sym (point-taken gains back point.steps)))
 
--- ---- all of it
+-- ---- the law
 
 fitting : (rows : List Row)
     → ((i : ℕ) (row : Row) → slice_get rows i ≡ Some row → SideFits (class_of row.header) row.side)
@@ -480,7 +480,7 @@ fitting : (rows : List Row)
 fitting [] fits = tt
 fitting (row ∷ rows) fits = (fits 0 row refl, fitting rows (λ i r there. fits (suc i) r there))
 
--- the steps that every well-formed file takes
+-- which steps every well-formed file accepts
 pub exact-steps : StepsAreExact
 exact-steps file s is = record {
   both = λ steps. made-unless (gain_change (strict_shift Both steps) false) file s

@@ -1,4 +1,4 @@
--- What a sheet changes, and its faults as those of the command.
+-- What a sheet changes, and its faults as faults of the command.
 use Rattle.std.proofs.Common.{ap, arith, Bool, Err, inl, inr, List, None, Ok, Option, refl, Result}
 use Rattle.std.proofs.Common.{Some, subst, sym, true, ℕ, ◌∙◌, ◌≡◌}
 use Rattle.std.specs.Prelude.{IfErr, IfSome, length, MatchResult, ◌⊎◌}
@@ -48,7 +48,7 @@ along_refused steps s refusal fault first is =
           ∙ ap (λ f. Err f) (sym is),
     )
 
--- a fault of the curve is one of the fade
+-- a fault of the curve is a fault of the fade
 pub curve_fault : (sheet : List ℕ) (back : Bool) (s : SurveyFields) (fault : EditFault)
     → (fault ≡ Memory) ⊎ (IsEditRefusal choice_refuses fault × (sheet_curve s sheet ≡ Err fault))
     → (fault ≡ Memory)
@@ -58,13 +58,13 @@ curve_fault sheet back s fault (inl memory) = inl memory
 curve_fault sheet back s fault (inr is) =
     inr (is.0, ap (λ r. then_made r (curve_change back s)) is.1)
 
--- with a curve, the fade is the one along it
+-- with a curve, the fade is the change along it
 pub fade_in-curve : (sheet : List ℕ) (back : Bool) (s : SurveyFields) (curve : List CurvePoint)
     → sheet_curve s sheet ≡ Ok curve → sheet_change sheet back s ≡ curve_change back s curve
 unfolding sheet_change
 fade_in-curve sheet back s curve is = ap (λ r. then_made r (curve_change back s)) is
 
--- so its answer is that of the change along the curve
+-- with a curve, the result of the fade is the result of the change along it
 pub along_answer : (sheet : List ℕ) (back : Bool) (s : SurveyFields) (curve : List CurvePoint)
     → sheet_curve s sheet ≡ Ok curve → (r : Result CodeChange EditFault)
     → MatchResult r (λ change. steps_change (steps_at_offset (Along curve back) s.frames) s
@@ -77,7 +77,7 @@ along_answer sheet back s curve is (Ok change) made = fade_in-curve sheet back s
 along_answer sheet back s curve is (Err fault) refused =
     inr (refused.0, fade_in-curve sheet back s curve is ∙ refused.1)
 
--- ---- none comes before the sheet is read
+-- ---- no fault comes before the sheet is read
 
 choice_before : (refusal : Refusal) → choice_refuses refusal ≡ true
     → IsNotBefore (Input 1 Read) (Refused refusal)
@@ -117,9 +117,9 @@ fade_of-before sheet back s =
     (sheet-all (IsNotBefore (Input 1 Read)) (omega arith) (λ size. tt) sheet)
     (λ bytes. in_before bytes back s)
 
--- ---- as faults of the command
+-- ---- the faults as faults of the command
 
--- a fault of the input has the numbers of the fade's inputs
+-- the numbers of a fault of the input are in the range of the fade's inputs
 pub input_numbers : (sheet : List ℕ) (back : Bool) (input : List ℕ) (fault : EditFault)
     → HasInputNumbers fade_refuses fault → HasTaskNumbers (fade_task sheet back input) fault
 input_numbers sheet back input (Input place fault) h = (omega (arith, h.0), h.1, h.2, inl h.0)
@@ -127,7 +127,7 @@ input_numbers sheet back input (Refused refusal) h = h
 input_numbers sheet back input Memory h = tt
 input_numbers sheet back input _ h = absurd h
 
--- so has a fault of the change
+-- the numbers of a fault of the change are in the range of the fade's inputs
 pub change_numbers : (sheet : List ℕ) (back : Bool) (input : List ℕ) (fault : EditFault)
     → HasChangeNumbers fault → HasTaskNumbers (fade_task sheet back input) fault
 change_numbers sheet back input (Input place fault) h =
@@ -137,7 +137,7 @@ change_numbers sheet back input Memory h = tt
 change_numbers sheet back input _ h = absurd h
 
 module _ (sheet : List ℕ) (back : Bool) (input : List ℕ) where
-  -- what the command makes of its input, by the sheet that these files hold
+  -- what the command makes of its input, with the sheet that these files hold
   abbrev pub making_in : Files → Making
   making_in (Untold touched) = change_making (fade_change None back)
   making_in (Told f) = change_making (fade_change (f sheet) back)
@@ -155,7 +155,7 @@ module _ (sheet : List ℕ) (back : Bool) (input : List ℕ) where
   before_same (Told f) P is = is
 
   module _ (old new : Seen) (fault : EditFault) where
-    -- a fault of the input comes before the output is created
+    -- a fault of the input is one met before the output is created
     pub input_early : IsInputFault (making_in old.files) input old new fault
         → IsEarlyFault (fade_task sheet back input) old new fault
     input_early h = each_why_of (why_of fault) h (input_is_early (making_in old.files)
@@ -198,7 +198,7 @@ module _ (sheet : List ℕ) (back : Bool) (input : List ℕ) where
         let held = there_holds f input there in
         makes_by f held.0 held.1 (is held.0 held.1) ∙ ap (changed_or_fault held.0 s) refused
 
-    -- the sheet could not be read
+    -- no fault of the definition comes before the sheet that could not be read
     sheet_before : (files : Files) (fault : EditFault) → IsFileThere files input
         → ((bytes : List ℕ) → Holds files input bytes → survey_of bytes most_frames ≡ Ok s)
         → fault ≡ Input 1 Read
@@ -227,7 +227,7 @@ module _ (sheet : List ℕ) (back : Bool) (input : List ℕ) where
 
     module _ (old new : Seen) (there : IsFileThere old.files input) (surveyed : (bytes : List ℕ)
         → Holds old.files input bytes → survey_of bytes most_frames ≡ Ok s) where
-      -- so does a fault of the change
+      -- a fault of the change is one met before the output is created
       pub change_early : (fault : EditFault) → IsChangeFault sheet back s old new fault
           → IsEarlyFault (fade_task sheet back input) old new fault
       change_early fault h = each_why (why_of fault) h (record {
@@ -260,7 +260,7 @@ module _ (sheet : List ℕ) (back : Bool) (input : List ℕ) where
         };
       })
 
-      -- after the survey, by which nothing changed
+      -- a fault of the change after the survey, which changed nothing, is such a fault
       pub change_early_behind : (fault : EditFault) (mid : Seen) → mid ≡ old
           → IsChangeFault sheet back s mid new fault
           → IsEarlyFault (fade_task sheet back input) old new fault

@@ -1,5 +1,5 @@
--- What the one body asks of the command: its refusals come late,
--- and what it makes holds the stream with each frame's gains moved.
+-- What the one body requires of the command: it refuses late, and what it makes holds the stream
+-- with each frame's gains moved.
 use Rattle.std.proofs.Common.{ap, ap₂, arith, Bool, Err, length, List, map, None, Ok, Option, refl}
 use Rattle.std.proofs.Common.{Result, Some, subst, suc, sym, zero-add, ℕ, [], ◌+◌, ◌∙◌, ◌∷◌, ◌≡◌}
 use Rattle.std.specs.{List.enumerate_from, Prelude.{IfErr, IfSome, slice_get}}
@@ -31,7 +31,7 @@ use Rattle.sync_survey.specs.MainData.{main_bytes, stream_frame, stream_frames, 
 use Rattle.sync_survey.specs.{Row.Row, Survey.survey_of, declared.places.Head.Head}
 use Rattle.sync_survey.specs.declared.survey_fault.SurveyFault.{SurveyFault}
 
--- ---- memory was taken before
+-- ---- refusals come after memory was taken
 
 points-late : (r : Result (List EnvelopePoint) EnvelopeFault) → IfErr (points_result r) IsLateFault
 points-late (Ok points) = tt
@@ -59,7 +59,7 @@ fade_of-late sheet back s = then_late (sheet_in sheet) (λ bytes. sheet_change b
 
 -- ---- the curve of what is made
 
--- the curve of the sheet, by which no gain leaves its range, and the change by it
+-- the curve of the sheet, along which no gain leaves its range, and the change along it
 pub record IsFaded (sheet : Option (List ℕ)) (back : Bool) (s : SurveyFields)
     (change : FileChange) : Type 0 where
   pub curve : List CurvePoint
@@ -84,7 +84,7 @@ faded-parts sheet back s change e =
           three.1;
     }
 
--- ---- the stream by numbers
+-- ---- the stream by the numbers of the frames
 
 by_number : (g f : ℕ → Steps) (main : List ℕ) (o : Option Head) (rows : List Row) (n : ℕ)
     (more : List Row)

@@ -1,10 +1,10 @@
--- What a fade makes of a file differs from it in gains, check words and junk that is left out.
+-- The output of a fade differs from its input in gains, check words and junk that is left out.
 use Rattle.std.proofs.Common.{ap, List, None, Some, ℕ, ◌∙◌, ◌≡◌}
 use Rattle.gain_edits.proofs.{FadeProperLemmas.faded-parts, KeptGainLemmas.made_kept}
 use Rattle.gain_edits.{proofs.ProperLemmas.made_of, specs.{Fade.fade_change, FadeKept.FadeKeepsAll}}
 use Rattle.moved_gains.specs.Change.{FileChange}
 
--- a fade changes gains and check words alone, and leaves junk out
+-- a fade changes only gains and check words, and leaves junk out
 pub fade_kept : FadeKeepsAll
 fade_kept sheet back file new s all is e =
     let c = made_of (fade_change sheet back) file new s is e in

@@ -1,5 +1,5 @@
--- What a command makes of a file differs from it in
--- gains, check words, the tag and junk that is left out.
+-- The output of a command differs from its input in gains, check words, the tag and junk that is
+-- left out.
 use Rattle.std.proofs.Common.{ap, false, List, None, Ok, Option, refl, Some, subst, true, ℕ, ◌∙◌}
 use Rattle.std.{proofs.Common.◌≡◌, specs.Prelude.IfSome}
 use Rattle.bit_fields.specs.Bits.{AreBytes}
@@ -14,7 +14,7 @@ use Rattle.requests.specs.declared.shift.Shift.{Shift}
 use Rattle.sync_survey.{proofs.SurveyedFileLemmas.survey_of-parts, specs.Faults.SurveyFields}
 use Rattle.sync_survey.specs.Survey.{survey_of}
 
--- of a change whose new tag, if there is one, may be the tag
+-- a change keeps all else, if its new tag, should there be one, may be the tag
 pub made_kept : (T : List ℕ → Type 0) (of : Changing) (file new : List ℕ) (s : SurveyFields)
     (c : IsMadeBy of file new s) → AreBytes file → survey_of file most_frames ≡ Ok s
     → ((tag : List ℕ) → c.change.tag ≡ Some tag → T tag) → KeepsAll T file s new
@@ -32,7 +32,7 @@ noted : (shift : Shift) (file : List ℕ) (s : SurveyFields) (change : FileChang
 unfolding gain_change
 noted shift file s change made = made
 
--- gain changes gains, check words and the tag alone, and leaves junk out
+-- `gain` changes only gains, check words and the tag, and leaves junk out
 pub gain_kept : GainKeepsAll
 gain_kept shift true file new s all is e =
     let c = made_of (gain_change shift true) file new s is e in
@@ -48,7 +48,7 @@ gain_kept shift false file new s all is e =
     none : (tag : List ℕ) → None ≡ Some tag → ⊥
     none tag e = absurd cc
 
--- so does undo
+-- `undo` changes only gains, check words and the tag, and leaves junk out
 pub undo_kept : UndoKeepsAll
 undo_kept file new s all is e =
     let c = made_of undo_change file new s is e in

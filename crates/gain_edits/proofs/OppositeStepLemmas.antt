@@ -1,5 +1,5 @@
--- A file whose gains move by 0 steps, or by some and then by as many the
--- other way: it gives its own bytes except the junk, and its own stream.
+-- A file whose gains move by 0 steps, or by some and then by as many the other way, has its own
+-- bytes except the junk, and its own stream.
 use Rattle.std.proofs.Common.{ap, append-nil, ap₂, arith, Bool, cond, drop, false, inl, inr, length}
 use Rattle.std.proofs.Common.{length-drop, List, map, neg_ℤ, None, Ok, Option, pos, refl, Some}
 use Rattle.std.proofs.Common.{subst, sym, take, true, ℕ, ℤ, ◌+ℤ◌, [], ◌++◌, ◌+◌, ◌-◌, ◌==◌, ◌∙◌}
@@ -56,7 +56,7 @@ join file at mid end low high =
     ap (λ m. bytes_between file at mid ++ bytes_between file m end) (sym place)
     ∙ sym (between_split file at (mid - at) end (omega (arith, low, high)))
 
--- a frame stays
+-- a frame moved by 0 steps stays the same
 still_row : (steps : Steps) → IsNoStep steps → (file : List ℕ) (row : Row) → IsFrameOf file row
     → moved_row_bytes steps file row ≡ frame_of file row
 still_row steps none file row here = by_lost row.lost
@@ -84,7 +84,7 @@ still_to steps none file at to (row ∷ rows) frames ends =
     frames.1 ends.2) ∙ join file row.offset (row_end row) to (omega (arith, ends.1)) up)
     ∙ join file at row.offset to ends.0 (omega (arith, ends.1, up))
 
--- by 0 steps the edited file is the file without its junk
+-- with 0 steps the edited file is the file without its junk
 pub edited_still : (steps : Steps) → IsNoStep steps → (file : List ℕ) (allowed : ℕ)
     (s : SurveyFields) → AreBytes file → survey_fields file allowed ≡ Ok s
     → edited_file (constant_steps steps) file s ≡ file_without_junk s file
@@ -97,7 +97,7 @@ edited_still steps none file allowed s are is =
     ∙ take_all (length file - s.first) (drop s.first file)
     (omega (arith, length-drop s.first file)))
 
--- the bytes of its own tag in their place give the edited file
+-- with the bytes of its own tag put back the edited file stays the same
 pub own_again : (steps : ℕ → Steps) (file : List ℕ) (allowed : ℕ) (s : SurveyFields)
     → survey_fields file allowed ≡ Ok s
     → file_with_tag (own_tag_bytes file s) (edited_survey steps s) (edited_file steps file s)
@@ -147,7 +147,7 @@ still_frames steps none file main o rows n (row ∷ more) frames =
     ap₂ (λ (f : StreamFrame) (fs : List StreamFrame). f ∷ fs) (still_frame steps none file main o
     rows n row frames.0) (still_frames steps none file main o rows (n + 1) more frames.1)
 
--- and its stream is that of the file
+-- with 0 steps the stream of the edited file is the stream of the file
 pub stream_still : (steps : Steps) → IsNoStep steps → (file : List ℕ) (allowed : ℕ)
     (s : SurveyFields) → AreBytes file → survey_fields file allowed ≡ Ok s
     → map (moved_stream_frame steps) (stream_of_survey file s) ≡ stream_of_survey file s
@@ -155,7 +155,7 @@ unfolding stream_of_survey stream_frames
 stream_still steps none file allowed s are is = still_frames steps none file (main_bytes file
     s.head s.frames) s.head s.frames 0 s.frames (frames_there file allowed s are is)
 
--- what a change by 0 steps makes holds the stream of the file, whatever tag the change writes
+-- the output of a change by 0 steps holds the stream of the file, whatever tag the change writes
 pub still_holds : (steps : Steps) → IsNoStep steps → (o : Option (List ℕ)) → IfSome o IsTagBytes →
     (file : List ℕ) (allowed : ℕ) (s : SurveyFields) → AreBytes file
     → survey_fields file allowed ≡ Ok s → HoldsStream
@@ -184,7 +184,7 @@ right_back : (channels : Channels) (steps : ℤ)
 right_back Left steps = refl
 right_back _ steps = +ℤ_invr steps
 
--- both changes together are no step
+-- a shift and its opposite together are no step
 together : (shift : Shift) → AreTogether (steps_of shift) (steps_of (opposite_shift shift)) still
 together shift = record {
   left = sym (left_back shift.channels shift.steps);
@@ -217,7 +217,7 @@ apart_back steps s none = by_channels (s.class.channels == 1) none
     by_channels true e = absurd cc
     by_channels false e = joint_back steps (junk_length s) s.frames e
 
--- the modes and the class stay, so the opposite change may be made of one channel too
+-- the modes and the class stay, so the opposite change may be made on one channel too
 channel_back : (shift : Shift) (s : SurveyFields) → channel_fault shift s ≡ None
     → channel_fault (opposite_shift shift) (edited_survey (constant_steps (steps_of shift)) s)
     ≡ None
@@ -229,9 +229,9 @@ channel_back shift s none = by_choice (are_both shift.channels) none
     by_choice true e = refl
     by_choice false e = apart_back (constant_steps (steps_of shift)) s e
 
--- ---- what a change without a note makes
+-- ---- a change without a note
 
--- a gain without a note that isn't refused can move its channel, and no gain leaves its range
+-- a change without a note that isn't refused can move its channels, and no gain leaves its range
 pub plain-parts : (shift : Shift) (file : List ℕ) (s : SurveyFields) (change : FileChange)
     → gain_change shift false file s ≡ Ok change → (channel_fault shift s ≡ None)
     × (range_fault (constant_steps (steps_of shift)) s.frames ≡ None)
@@ -255,7 +255,7 @@ plain-ok shift file s apart free =
     (none_both (channel_fault shift s)
     (range_fault (constant_steps (steps_of shift)) s.frames) apart free)
 
--- without a new tag the changed file is the edited one
+-- without a new tag the changed file is the edited file
 pub plain-changed : (steps : ℕ → Steps) (file : List ℕ) (s : SurveyFields)
     → file_with_change (record { steps = steps; tag = None }) file s ≡ edited_file steps file s
 unfolding file_with_change
@@ -276,7 +276,7 @@ module _ (one two : ℕ → Steps) (file : List ℕ) (s : SurveyFields)
   abbrev gap : ℕ
   gap = junk_length s
 
-  -- the offset in the changed file of what is at this offset of the file
+  -- where the content at this offset of the file is in the changed file
   abbrev to : ℕ → ℕ
   to x = x - gap
 
@@ -299,7 +299,7 @@ module _ (one two : ℕ → Steps) (file : List ℕ) (s : SurveyFields)
   pub frames : AreFramesOf file s.frames
   frames = frames_there file most_frames s are is
 
-  -- those of the moved file are these, moved
+  -- the frames of the moved file are the file's frames, moved
   pub new_frames : m.frames ≡ map (stood to one) s.frames
   unfolding edited_survey
   new_frames = refl
@@ -311,7 +311,7 @@ module _ (one two : ℕ → Steps) (file : List ℕ) (s : SurveyFields)
   size : length moved ≡ length file - gap
   size = omega (arith, there.size, new_places.2, here.size)
 
-  -- the moved file has the survey of these
+  -- the moved file has a survey with these frames
   pub new_survey : survey_of moved most_frames ≡ Ok m
   new_survey = survey_of-short moved most_frames (omega (arith, size, few)) ∙ new_is
 
@@ -349,7 +349,7 @@ module _ (one two : ℕ → Steps) (file : List ℕ) (s : SurveyFields)
   junk_again = ap (λ k. take k moved) new_places.0 ∙ ap (take s.junk) stands
       ∙ take_at junk rows s.junk junk_long
 
-  -- moved back it is the file without its junk
+  -- moved back, the file is the first one without its junk
   pub bytes_again : edited_file two moved m ≡ file_without_junk s file
   bytes_again =
       sym (written-edited two moved most_frames m new_is)
@@ -386,8 +386,7 @@ edited_back shift file s are short apart free =
     (plain-ok (opposite_shift shift) moved m (channel_back shift s apart) range)
     ∙ ap Ok (plain-changed second moved m ∙ bytes_again first second file s both are short)
 
--- of what a change without a note made of a file, the
--- opposite change makes the file again, except its junk
+-- after a change without a note the opposite change makes the file again, except its junk
 pub steps_back : OppositeGivesBack
 steps_back shift file new s are short e =
     let made = made_of (gain_change shift false) file new s short e in

@@ -1,5 +1,5 @@
--- What a command makes of a file: it is well-formed, its stream is that of the
--- file with each gain moved, and the one body has what it asks of the command.
+-- What a command makes of a file: it is well-formed, its stream is the file's with each gain moved,
+-- and the command is as the one body requires.
 use Rattle.std.proofs.Common.{ap, arith, cond, Err, false, inl, inr, length, List, map, None, Ok}
 use Rattle.std.proofs.Common.{Option, refl, Result, Some, subst, sym, true, ℕ, [], ◌+◌, ◌==◌, ◌∙◌}
 use Rattle.std.{proofs.Common.{◌∷◌, ◌≡◌}, specs.{List.enumerate_from, Prelude.{IfErr, IfSome}}}
@@ -60,11 +60,11 @@ IsTag-empty = record {
 abbrev ok_tag : TagFields → Result TagFields FileTagFault
 ok_tag tag = Ok tag
 
--- tags are the same where the answers are
+-- tags are the same if the results are
 pub same_tag : (a b : TagFields) → ok_tag a ≡ ok_tag b → a ≡ b
 same_tag a b e = cc
 
--- the tag that is read of a surveyed file is a tag
+-- the tag that is read from a surveyed file is a tag
 pub file_tag-is : (file : List ℕ) (allowed : ℕ) (s : SurveyFields) (tag : TagFields) → AreBytes file
     → survey_fields file allowed ≡ Ok s → file_tag file s ≡ Ok tag → IsTag tag
 file_tag-is file allowed s tag all is e = at (tag_block s) refl
@@ -82,14 +82,14 @@ pub record IsMadeBy (of : Changing) (file new : List ℕ) (s : SurveyFields) : T
   pub made : of file s ≡ Ok change
   pub bytes : file_with_change change file s ≡ new
 
--- a file that was changed has a change, by which it was made
+-- a file that was changed has a change from which it was made
 pub made_cases : (of : Changing) (file new : List ℕ) (s : SurveyFields)
     (r : Result FileChange EditFault) → of file s ≡ r → changed_or_fault file s r ≡ Ok new
     → IsMadeBy of file new s
 made_cases of file new s (Err fault) made e = absurd cc
 made_cases of file new s (Ok change) made e = record { change = change; made = made; bytes = cc }
 
--- the same by its survey
+-- a file that was changed has such a change, given its survey
 pub made_of : (of : Changing) (file new : List ℕ) (s : SurveyFields)
     → survey_of file most_frames ≡ Ok s → change_result of file ≡ Ok new → IsMadeBy of file new s
 unfolding made_file
@@ -148,7 +148,7 @@ module _ (file : List ℕ) (allowed : ℕ) (s : SurveyFields) (all : AreBytes fi
       (edited_is steps)
       (no_junk steps s) tags ∙ stream-edited steps file allowed s all is
 
-  -- and its stream is that of the file with its gains moved
+  -- the stream of the changed file is the stream of the file with its gains moved
   pub stream-changed : (change : FileChange) → IfSome change.tag IsTagBytes
       → stream_of_survey (file_with_change change file s) (changed_survey change s)
       ≡ moved_stream_of change.steps file s
@@ -169,15 +169,15 @@ module _ (file : List ℕ) (allowed : ℕ) (s : SurveyFields) (all : AreBytes fi
         stream = stream-changed change tags;
       }
 
--- what a command makes of a file is well-formed as the file
--- is, and its stream is that of the file with each gain moved
+-- What a command makes of a file is as well-formed as the file, and its stream is the file's with
+-- each gain moved.
 pub changed-stream : (of : Changing) (file new : List ℕ) (s : SurveyFields)
     (c : IsMadeBy of file new s) → AreBytes file → survey_of file most_frames ≡ Ok s
     → IfSome c.change.tag IsTagBytes → IsStreamMoved c.change.steps file new
 changed-stream of file new s c all is tags = subst (IsStreamMoved c.change.steps file) c.bytes
     (changed-moved file most_frames s all (survey_of-parts file most_frames s is).1 c.change tags)
 
--- the stream of a file is that of its survey
+-- the stream of a file is the stream of its survey
 pub stream_of-survey : (file : List ℕ) (s : SurveyFields)
     → survey_fields file (length file + 1) ≡ Ok s → stream_of file ≡ stream_of_survey file s
 unfolding stream_of
@@ -192,7 +192,7 @@ each_even steps main o rows (p ∷ more) =
     ap (λ (l : List StreamFrame). moved_stream_frame steps (stream_frame main o rows p.0 p.1) ∷ l)
     (each_even steps main o rows more)
 
--- where all frames have the same steps
+-- the moved stream, if all frames have the same steps
 pub even_stream : (steps : Steps) (file : List ℕ) (s : SurveyFields)
     → moved_stream_of (constant_steps steps) file s
     ≡ map (moved_stream_frame steps) (stream_of_survey file s)
@@ -200,7 +200,7 @@ unfolding moved_stream_of stream_of_survey stream_frames
 even_stream steps file s =
     each_even steps (main_bytes file s.head s.frames) s.head s.frames (enumerate_from 0 s.frames)
 
--- as a stream that it holds
+-- the new file holds the moved stream
 pub holds_moved : (steps : ℕ → Steps) (file new : List ℕ) (h : IsStreamMoved steps file new)
     → HoldsStream new (moved_stream_of steps file h.before.0)
 holds_moved steps file new h = record {
@@ -217,9 +217,9 @@ moved_holds steps file new h =
     (sym (stream_of-survey file h.before.0 h.before.1)))
     (holds_moved (constant_steps steps) file new h)
 
--- ---- what is made
+-- ---- changes that aren't refused
 
--- the change was noted in this tag, whose undo item said this before
+-- the change was noted in this tag, whose undo item had these steps before
 pub record IsNoted (shift : Shift) (file : List ℕ) (s : SurveyFields)
     (change : FileChange) : Type 0 where
   pub tag : TagFields
@@ -245,7 +245,7 @@ tagged-parts shift file s change e =
     let three = unless_ok _ _ change two.2 in
     record { tag = one.0; undo = two.0; read = one.1; item = two.1; free = three.0; is = three.1 }
 
--- the tag, the undo in it, and the change by that undo, by which no gain leaves its range
+-- the tag, the undo in it, and the change with that undo, by which no gain leaves its range
 pub record IsUndone (file : List ℕ) (s : SurveyFields) (change : FileChange) : Type 0 where
   pub tag : TagFields
   pub undo : Undo
@@ -271,7 +271,7 @@ undone-parts file s change e =
 
 -- ---- the new tag
 
--- a tag that isn't refused is the one that is read
+-- a tag that isn't refused is the tag that is read
 pub read_ok : (r : Result TagFields FileTagFault) (tag : TagFields) → tag_result r ≡ Ok tag
     → r ≡ Ok tag
 read_ok (Ok found) tag e = cc
@@ -283,12 +283,12 @@ pub read-tag : (file : List ℕ) (s : SurveyFields) (tag : TagFields) → AreByt
 read-tag file s tag all is e = file_tag-is file most_frames s tag all
     (survey_of-parts file most_frames s is).1 (read_ok (file_tag file s) tag e)
 
--- the bytes of a tag, or none where it has no items, may take a tag's place
+-- the bytes of a tag, or none if it has no items, may replace a tag
 pub unless_empty-are : (tag : TagFields) → IsTag tag → IsTagBytes (bytes_unless_empty tag)
 unless_empty-are tag is = elim (length tag.items == 0) as (λ b. IsTagBytes (cond b []
     (tag_bytes tag))) [ true ↦ inl refl | false ↦ inr (block_front-tag_bytes tag is) ]
 
--- the new tag of a change that is noted
+-- the new tag of a noted change
 pub noted-tag : (shift : Shift) (file : List ℕ) (s : SurveyFields) (change : FileChange)
     → AreBytes file → survey_of file most_frames ≡ Ok s → tagged_change shift file s ≡ Ok change
     → IfSome change.tag IsTagBytes
@@ -299,7 +299,7 @@ noted-tag shift file s change all is e =
     parts.is (inr (block_front-tag_bytes (tag_with_undo next parts.tag)
     (IsTag-with_undo next parts.tag (read-tag file s parts.tag all is parts.read))))
 
--- that of a change that is undone
+-- the new tag of an undo
 pub undone-tag : (file : List ℕ) (s : SurveyFields) (change : FileChange) → AreBytes file
     → survey_of file most_frames ≡ Ok s → undo_change file s ≡ Ok change
     → IfSome change.tag IsTagBytes
@@ -309,7 +309,7 @@ undone-tag file s change all is e =
     parts.is (unless_empty-are (tag_without_undo parts.tag)
     (IsTag-without_undo parts.tag (read-tag file s parts.tag all is parts.read)))
 
--- the steps are those of the command, and there is no new tag or the bytes of one
+-- the steps are the command's, and there is no new tag or it has the bytes of one
 abbrev IsChangeOf : Changes → List ℕ → FileChange → Type 0
 IsChangeOf changes file change =
     (change.steps ≡ constant_steps (steps_of_changes changes file)) × IfSome change.tag IsTagBytes
@@ -337,7 +337,7 @@ change_is UndoAll file s change all is e =
 
 -- ---- as commands
 
--- what holds of the errors of a change holds of those of the changed file
+-- what holds of the faults of a change holds of the faults of the changed file
 pub changed_all : (P : EditFault → Type 0) (file : List ℕ) (s : SurveyFields)
     (r : Result FileChange EditFault) → IfErr r P → IfErr (changed_or_fault file s r) P
 changed_all P file s (Err fault) is = is

@@ -1,5 +1,5 @@
--- Two changes of gains, one after the other: where no gain leaves its range
--- by either, none does by both together, nor by what takes the first back.
+-- Two changes of gains, one after the other: if no gain leaves its range by either, none does by
+-- both together, nor when the first is taken back.
 use Rattle.std.proofs.Common.{ap, ap₂, arith, Bool, cond, false, List, map, None, not, Option, pos}
 use Rattle.std.proofs.Common.{refl, Some, subst, sym, true, ℕ, ℤ, ◌+ℤ◌, [], ◌&&◌, ◌<◌, ◌||◌, ◌∙◌}
 use Rattle.std.proofs.{Common.{◌∷◌, ◌≡◌}, Math.IntN.+ℤ_idr, lemmas.Bool.le-ltb}
@@ -50,7 +50,7 @@ both-with one two all strict_one strict_two strict_all sum m p a b g h k l first
     })
     strict_all
 
--- where no gain is stuck by the one change and then by the other, none is by both together
+-- if no gain is stuck by the one change and then by the other, none is by both together
 pub side_both : (one two all : Steps) (s : Side) → IsShaped s → all.wrap ≡ one.wrap || two.wrap
     → AreTogether one two all → side_out_of_range one s ≡ None
     → side_out_of_range two (moved_side one s) ≡ None → side_out_of_range all s ≡ None
@@ -92,7 +92,7 @@ still-with steps none strict m p a b g h k l fits =
     })
     strict
 
--- by 0 steps none is stuck
+-- by 0 steps no gain is stuck
 pub side_still : (steps : Steps) → IsNoStep steps → steps.wrap ≡ false → (s : Side) → IsShaped s
     → GainsFit s → side_out_of_range steps s ≡ None
 side_still steps none strict s shaped =
@@ -110,7 +110,7 @@ stuck_none : (at : ℕ) (s : Option OutOfRange) → out_of_range_refusal at s �
 stuck_none at (Some s) e = absurd cc
 stuck_none at None e = refl
 
--- no gain of the first frame leaves its range, and none of the others
+-- if no gain of all frames leaves its range, none of the first does, and none of the others
 pub frame-none : (steps : ℕ → Steps) (row : Row) (rows : List Row)
     → range_fault steps (row ∷ rows) ≡ None
     → (row_out_of_range (steps row.offset) row ≡ None) × (range_fault steps rows ≡ None)
@@ -127,8 +127,8 @@ none-frame steps row rows here rest = first-cons (row_range_fault steps) row row
     (row_range_fault steps row) (range_fault steps rows)
     (ap (out_of_range_refusal row.offset) here) rest
 
--- what follows for a frame of which no gain leaves the range
--- follows also for a lost one, whose gains are never looked at
+-- what follows for a frame none of whose gains leaves the range also follows for a lost one, whose
+-- gains are never looked at
 unless_both : (lost : Bool) (a b c : Option OutOfRange) → (a ≡ None → b ≡ None → c ≡ None)
     → cond lost None a ≡ None → cond lost None b ≡ None → cond lost None c ≡ None
 unless_both true a b c three first second = refl
@@ -140,8 +140,8 @@ moved_or_lost : (lost : Bool) (two one : Steps) (s : Side)
 moved_or_lost true two one s = refl
 moved_or_lost false two one s = refl
 
--- where no gain leaves its range by the first change, and
--- then none by the second, none does by both together
+-- if no gain leaves its range by the first change, and then none by the second, none does by both
+-- together
 pub range_both : (one two all : Steps) → all.wrap ≡ one.wrap || two.wrap → AreTogether one two all
     → (file : List ℕ) (to : ℕ → ℕ) (rows : List Row) → AreFramesOf file rows
     → range_fault (constant_steps one) rows ≡ None
@@ -161,8 +161,7 @@ range_both one two all wraps sum file to (row ∷ rows) frames first second =
     f.0 (sym (moved_or_lost row.lost two one row.side) ∙ t.0))
     (range_both one two all wraps sum file to rows frames.1 f.1 t.1)
 
--- by these steps and then by those a frame has no step
--- at all, and its gains wrap by both or by neither
+-- these steps and then those are no step at all for a frame, and both changes wrap or neither does
 pub record AreOpposite (one two : Steps) : Type 0 where
   pub wraps : two.wrap ≡ one.wrap
   pub left : one.left +ℤ two.left ≡ pos 0
@@ -179,7 +178,7 @@ pub even_opposite : (one two : Steps) → AreOpposite one two → (to : ℕ → 
 even_opposite one two opposite to [] = tt
 even_opposite one two opposite to (row ∷ rows) = (opposite, even_opposite one two opposite to rows)
 
--- where both together are no step, no gain that the first moved leaves its range by the second
+-- if both together are no step, no gain that the first moved leaves its range by the second
 pub range_back : (one two : ℕ → Steps) (file : List ℕ) (to : ℕ → ℕ) (rows : List Row)
     → AllOpposite one two to rows → AreFramesOf file rows → range_fault one rows ≡ None
     → range_fault two (map (stood to one) rows) ≡ None

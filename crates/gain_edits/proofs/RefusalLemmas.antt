@@ -1,4 +1,4 @@
--- Which refusals gain and undo give, why the tag isn't read, and what is said of an answer.
+-- Which refusals gain and undo return, why the tag can't be read, and what the code returns.
 use Rattle.std.proofs.Common.{ap, ap₂, arith, Bool, cond, Err, false, inl, inr, List, None, Ok}
 use Rattle.std.proofs.Common.{Option, refl, Result, Some, subst, sym, true, ℕ, [], ◌+◌, ◌==◌, ◌∙◌}
 use Rattle.std.proofs.{Common.{◌∷◌, ◌≡◌, ◌≤◌}, lemmas.{List.Sums.sum_by-cons, Result.IfErr-weaker}}
@@ -51,7 +51,7 @@ undo_cases true start next place None later e low rest = let same : start ≡ pl
 undo_cases true start next place (Some undo) later e low rest = absurd cc
 undo_cases false start next place o later e low rest = rest e
 
--- an item without a value of the form begins within the items
+-- an item whose value is malformed begins within the items
 pub bad_place : (start : ℕ) (items : List TagItem) (place : ℕ) → undo_from start items ≡ Bad place
     → place ≤ start + items_length items
 bad_place start [] place e = absurd cc
@@ -64,14 +64,14 @@ bad_place start (item ∷ items) place e =
       sum_by-cons item_length item items,
     ))
 
--- ---- where there is none
+-- ---- no refusal
 
--- where a fault that may come doesn't, what would bring it is false
+-- if there is no such refusal, its condition is false
 pub not_there : (b : Bool) (fault : Refusal) → cond b (Some fault) None ≡ None → b ≡ false
 not_there true fault e = absurd cc
 not_there false fault e = refl
 
--- ---- which there are
+-- ---- which refusals there are
 
 -- the refusal, if there is one, is one of these
 abbrev pub May : (Refusal → Bool) → Option Refusal → Type 0
@@ -99,7 +99,7 @@ first_may may refuse each [] = tt
 first_may may refuse each (a ∷ list) =
     or_may may (refuse a) (first_refusal refuse list) (each a) (first_may may refuse each list)
 
--- a gain out of range may refuse wherever that may
+-- if any gain out of range may be refused, the first one may
 pub range_may : (may : Refusal → Bool)
     → ((offset granule channel gain : ℕ) → may (GainRange offset granule channel gain) ≡ true)
     → (steps : ℕ → Steps) (rows : List Row) → May may (range_fault steps rows)
@@ -124,7 +124,7 @@ channel_may : (tags : Bool) (shift : Shift) (s : SurveyFields)
 channel_may tags shift s = elim (are_both shift.channels) as (λ b. May (gain_refuses tags)
     (cond b None (single_channel_fault s))) [ true ↦ tt | false ↦ apart_may tags s ]
 
--- a gain without a note is refused by what may refuse it
+-- a change without a note is refused only with its refusals
 pub plain_may : (tags : Bool) (shift : Shift) (s : SurveyFields)
     → IfErr (plain_change shift s) (IsEditRefusal (gain_refuses tags))
 plain_may tags shift s =
@@ -164,7 +164,7 @@ found_item_may : (at : ℕ) (item : UndoItem)
 found_item_may at (Found undo) = tt
 found_item_may at _ = refl
 
--- so is one with a note
+-- a change with a note is refused only with its refusals
 pub noted_in_may : (shift : Shift) (s : SurveyFields) (tag : TagFields)
     → IfErr (noted_tag_change shift s tag) (IsEditRefusal (gain_refuses true))
 noted_in_may shift s tag =
@@ -173,7 +173,7 @@ noted_in_may shift s tag =
     (noted_change shift s tag) (noted_item_may (tag_offset s) (undo_from 32 tag.items))
     (noted_may shift s tag)
 
--- so is an undo
+-- an undo is refused only with its refusals
 pub undone_in_may : (s : SurveyFields) (tag : TagFields)
     → IfErr (undone_tag_change s tag) (IsEditRefusal undo_refuses)
 undone_in_may s tag =
@@ -181,7 +181,7 @@ undone_in_may s tag =
     (undone_change s tag) (found_item_may (tag_offset s) (undo_from 32 tag.items))
     (undone_may s tag)
 
--- ---- memory was taken before
+-- ---- refusals come after memory was taken
 
 tag_late : (r : Result TagFields FileTagFault) → IfErr (tag_result r) IsLateFault
 tag_late (Ok tag) = tt
@@ -220,7 +220,7 @@ plain-is (Move shift true) bytes s plain = absurd cc
 plain-is (Move shift false) bytes s plain = refl
 plain-is UndoAll bytes s plain = absurd cc
 
--- with one it is decided by the tag that is read
+-- with a note the change is decided with the tag that is read
 pub noted-is : (changes : Changes) (bytes : List ℕ) (s : SurveyFields)
     (r : Result TagFields FileTagFault) → are_noted changes ≡ true → file_tag bytes s ≡ r
     → changing_of changes bytes s
@@ -233,7 +233,7 @@ noted-is (Move shift false) bytes s r noted is = absurd cc
 noted-is UndoAll bytes s r noted is =
     ap (λ (r : Result TagFields FileTagFault). then_made (tag_result r) (undone_tag_change s)) is
 
--- a change that is decided is refused by what may refuse it
+-- a change that is decided is refused only with its refusals
 pub decided-may : (changes : Changes) (s : SurveyFields) (o : Option TagFields) → are_noted changes
     ≡ is_some o → IfErr (decided_change changes s o) (IsEditRefusal (refuses_of_changes changes))
 decided-may (Move shift tags) s None asks = plain_may tags shift.now s
@@ -242,12 +242,12 @@ decided-may (Move shift false) s (Some tag) asks = absurd cc
 decided-may UndoAll s None asks = refl
 decided-may UndoAll s (Some tag) asks = undone_in_may s tag
 
--- ---- what is said of an answer
+-- ---- what the code returns
 
 module _ (changes : Changes) (name : List ℕ) (old new : Seen) (s : SurveyFields)
     (there : IsFileThere old.files name)
     (is : (bytes : List ℕ) → Holds old.files name bytes → survey_of bytes most_frames ≡ Ok s) where
-  -- a fault of the tag is one of the input
+  -- a fault of the tag is a fault of the input
   pub tag_is_input : are_noted changes ≡ true → new.files ≡ old.files → (fault : FileTagFault)
       → IsTagCause name old.files s old.counts new.counts fault
       → IsInputFault (change_making (changing_of changes)) name old new (tag_edit_fault fault)
@@ -286,7 +286,7 @@ module _ (changes : Changes) (name : List ℕ) (old new : Seen) (s : SurveyField
           memory_is_input (change_making (changing_of changes)) name old new s there is
           (ap₂ seen_folder same h)
 
-  -- after it the code answers what the definition says, or has no memory
+  -- once the tag was read, the code returns what the definition says, or memory ran out
   pub answered : (made : Result FileChange EditFault)
       → IfErr made (IsEditRefusal (refuses_of_changes changes))
       → ((bytes : List ℕ) → Holds old.files name bytes → changing_of changes bytes s ≡ made)

@@ -1,5 +1,5 @@
--- A fade the other way with the same sheet undoes a fade:
--- all bytes of the file come back, except the junk.
+-- A fade the other way with the same sheet undoes a fade: all bytes of the file come back, except
+-- the junk.
 use Rattle.std.proofs.Common.{ap, ap₂, Bool, cond, drop, Err, false, length, List, map, None, not}
 use Rattle.std.proofs.Common.{Ok, Option, refl, Result, Some, subst, suc, sym, take}
 use Rattle.std.proofs.Common.{take-append-drop, true, ℕ, ℤ, [], ◌++◌, ◌-◌, ◌||◌, ◌∙◌, ◌∷◌, ◌≡◌, ◌≢◌}
@@ -52,7 +52,7 @@ each_opposite one two to [] each = tt
 each_opposite one two to (row ∷ rows) each =
     (each 0 row refl, each_opposite one two to rows (λ i r is. each (suc i) r is))
 
--- both together are no step
+-- opposite steps together are no step
 opposite_together : (one two : ℕ → Steps) (to : ℕ → ℕ) (rows : List Row)
     → AllOpposite one two to rows → AllTogether one two (constant_steps still) to rows
 opposite_together one two to [] opposite = tt
@@ -63,7 +63,7 @@ opposite_together one two to (row ∷ rows) opposite = (
 
 -- ---- the change
 
--- of a sheet whose curve is known, and by which no gain leaves the range
+-- a sheet whose curve is known, and along which no gain leaves the range, isn't refused
 fade-ok : (sheet : Option (List ℕ)) (back : Bool) (s : SurveyFields) (curve : List CurvePoint)
     → then_made (sheet_in sheet) (sheet_curve s) ≡ Ok curve
     → range_fault (steps_at_offset (Along curve back) s.frames) s.frames ≡ None
@@ -93,7 +93,7 @@ module _ (curve : List CurvePoint) (back : Bool) (file : List ℕ) (s : SurveyFi
   abbrev two : ℕ → Steps
   two = steps_at_offset (Along curve (not back)) m.frames
 
-  -- the offset in the faded file of what is at this offset of the file
+  -- where the content at this offset of the file is in the faded file
   abbrev nearer : ℕ → ℕ
   nearer x = x - junk_length s
 
@@ -132,14 +132,14 @@ module _ (curve : List CurvePoint) (back : Bool) (file : List ℕ) (s : SurveyFi
   sum : AllTogether one two (constant_steps still) nearer s.frames
   sum = opposite_together one two nearer s.frames opposites
 
-  -- the sheet gives the faded file the same curve
+  -- the sheet gives the same curve for the faded file
   same_curve : (bytes : List ℕ) → sheet_curve m bytes ≡ sheet_curve s bytes
   same_curve bytes =
       ap₂ (λ (class : ClassFields) (count : ℕ). then_made (points_in bytes)
       (λ points. curve_result (curve_of class count points))) moved_class
       (ap length moved_frames ∙ length-map s.frames (stood nearer one))
 
-  -- faded the other way it is the file without its junk
+  -- faded the other way, the file is the first one without its junk
   pub faded_back : (sheet : Option (List ℕ)) → then_made (sheet_in sheet) (sheet_curve s) ≡ Ok curve
       → range_fault one s.frames ≡ None
       → change_result (fade_change sheet (not back)) moved ≡ Ok (file_without_junk s file)
@@ -153,7 +153,7 @@ module _ (curve : List CurvePoint) (back : Bool) (file : List ℕ) (s : SurveyFi
       (ap (then_made (sheet_in sheet)) (λ i bytes. same_curve bytes i) ∙ by) range)
       ∙ ap Ok (plain-changed two moved m ∙ bytes_again one two file s sum are short)
 
--- a fade and the same the other way give back all bytes except the junk
+-- a fade and the fade the other way with the same sheet give back all bytes except the junk
 pub back_again : FadeGivesBack
 back_again sheet back file new s are short e =
     let is = (survey_of-parts file most_frames s short).1 in
@@ -179,7 +179,7 @@ back_again sheet back file new s are short e =
 
 -- ---- the command
 
--- a command of two inputs that was done made this, and the second input isn't its output
+-- a command with two inputs that was done made this file, and the second input isn't its output
 record IsMadeApart (apart : Bool) (output : List ℕ) (r : Result (List ℕ) EditFault)
     (made : Made) : Type 0 where
   pub other : apart ≡ false
@@ -211,7 +211,7 @@ module _ (sheet input output : List ℕ) (back : Bool) (files : Contents) where
       (cond (b || false) (Some 1) None)) ((fade_task sheet back input).makes files)))
       (bytes_eq_other input output first) (bytes_eq_other sheet output second)
 
--- so do the two commands
+-- the two commands give back all bytes except the junk
 pub command_back : FadeIsTakenBack
 command_back sheet input output last back files file made held are e first second =
     let done = done_apart sheet input output back files made e in

@@ -1,4 +1,4 @@
--- What a file is after noted changes of gains, one after the other; and that undo takes them back.
+-- What a file is after several noted changes of gains, and that undo takes them back.
 use Rattle.std.proofs.Common.{ap, arith, Bool, cond, drop, false, inl, inr, length, List, ltb, map}
 use Rattle.std.proofs.Common.{None, Ok, Option, pos, refl, Result, Some, subst, sym, take}
 use Rattle.std.proofs.Common.{take-append-drop, true, ℕ, ℤ, ◌+ℤ◌, [], ◌++◌, ◌+◌, ◌-◌, ◌==◌, ◌||◌}
@@ -55,12 +55,12 @@ use Rattle.tag_blocks.specs.declared.undo.UndoItem.TheVariants.{Found, Missing}
 
 -- ---- the steps
 
--- a further change by some steps, and as many less to be taken back
+-- adding a step and subtracting it from the undo doesn't change the sum
 pub sum_again : (sum step undo : ℤ) → (sum +ℤ step) +ℤ (undo -ℤ step) ≡ sum +ℤ undo
 sum_again sum step undo = +ℤ_assoc sum step (undo -ℤ step)
     ∙ ap (λ z. sum +ℤ z) (+ℤ_comm step (undo -ℤ step) ∙ -ℤ-+ℤ_cancel undo step)
 
--- steps and as many the other way are 0
+-- steps plus as many the other way are 0
 pub sum_first : (step : ℤ) → step +ℤ (pos 0 -ℤ step) ≡ pos 0
 sum_first step = +ℤ_comm step (pos 0 -ℤ step) ∙ -ℤ-+ℤ_cancel (pos 0) step
 
@@ -74,7 +74,7 @@ missing_cases true place (Some undo) later item items left e rest = absurd cc
 missing_cases false place o later item items left e rest =
     ap (λ (l : List TagItem). item ∷ l) (rest e)
 
--- items without an undo item stay
+-- items without an undo item stay the same when it is removed
 without_none : (place : ℕ) (items : List TagItem) → undo_from place items ≡ Missing
     → without_undo items ≡ items
 without_none place [] e = refl
@@ -83,13 +83,13 @@ without_none place (item ∷ items) e =
     (undo_from (place + item_length item) items) item items (without_undo items) e
     (λ none. without_none (place + item_length item) items none)
 
--- a tag without an undo item is itself when that is removed
+-- a tag without an undo item stays the same when it is removed
 pub tag_without_none : (tag : TagFields) → undo_from 32 tag.items ≡ Missing
     → tag_without_undo tag ≡ tag
 tag_without_none tag e =
     ap (λ (l : List TagItem). record tag { items = l }) (without_none 32 tag.items e)
 
--- an undo that was put in changes nothing of what is left without one
+-- an undo that was put in doesn't change what is left when it is removed
 pub tag_without_with : (undo : Undo) (tag : TagFields)
     → tag_without_undo (tag_with_undo undo tag) ≡ tag_without_undo tag
 tag_without_with undo tag =
@@ -108,7 +108,7 @@ pub block_read : (at : ℕ) (tag : TagFields) → IsTag tag → length (tag_byte
 block_read at tag are small =
     simp (le-ltb longest_tag (length (tag_bytes tag)) small, tag_of-tag_bytes tag are)
 
--- ---- what was accepted
+-- ---- changes that were accepted
 
 small_number : (number : ℤ) → number_fault number ≡ None → unsigned_abs number ≤ 999
 small_number number e = ltb-false 999 (unsigned_abs number)
@@ -160,7 +160,7 @@ noted_parts shift s tag undo change e =
       is = all.1;
     }
 
--- of a file whose tag is read and says this undo
+-- a noted change of a file whose tag is read and has this undo has these properties
 pub gain_noted : (shift : Shift) (file : List ℕ) (s : SurveyFields) (tag : TagFields) (undo : Undo)
     (change : FileChange) → tag_result (file_tag file s) ≡ Ok tag
     → noted_undo (tag_offset s) (undo_from 32 tag.items) ≡ Ok undo
@@ -171,10 +171,10 @@ gain_noted shift file s tag undo change read item e =
     (sym (ap (λ (r : Result TagFields EditFault). then_made r (noted_tag_change shift s)) read
     ∙ ap (λ (r : Result Undo EditFault). then_made r (noted_change shift s tag)) item) ∙ e)
 
--- ---- what is known of it
+-- ---- what is known of the changed file
 
--- It is the file with its gains moved by all steps together, and with a tag that
--- is the file's except the undo item, which says the steps that undo all of them.
+-- The file has its gains moved by all steps together, and a tag that is the first file's except for
+-- the undo item, which has the steps that undo all of them.
 pub record IsGained (file : List ℕ) (s : SurveyFields) (tag : TagFields)
     (last : List ℕ) : Type 0 where
   pub steps : Steps
@@ -241,7 +241,7 @@ module _ (file : List ℕ) (s : SurveyFields) (tag : TagFields) (are : AreBytes 
 
   module _ (short : survey_of file most_frames ≡ Ok s) (own : IsTag tag)
       (read : file_tag file s ≡ Ok tag) (none : undo_from 32 tag.items ≡ Missing) where
-    -- a file with one noted gain was gained
+    -- a file after one noted change is such a file
     pub first_gain : (shift : Shift) (last : List ℕ)
         → change_result (gain_change shift true) file ≡ Ok last → IsGained file s tag last
     first_gain shift last e =
@@ -309,7 +309,7 @@ module _ (file : List ℕ) (s : SurveyFields) (tag : TagFields) (are : AreBytes 
     here_frames : n.frames ≡ map (stood by (constant_steps g.steps)) s.frames
     here_frames = new_frames (constant_steps g.steps) file most_frames s are is block front
 
-    -- and so was one that is gained once more
+    -- after one more noted change it is still such a file
     pub further_gain : (shift : Shift) (more : List ℕ)
         → change_result (gain_change shift true) last ≡ Ok more → IsGained file s tag more
     further_gain shift more e =
@@ -390,7 +390,7 @@ module _ (file : List ℕ) (s : SurveyFields) (tag : TagFields) (are : AreBytes 
 
   -- ---- several gains
 
-  -- after more noted gains the file is still one that was gained, by all of them
+  -- after more noted changes it is still such a file
   pub gained_then : (shifts : List Shift) (last more : List ℕ) → IsGained file s tag last
       → gains_result shifts last ≡ Ok more → IsGained file s tag more
   gained_then [] last more g e = let same : last ≡ more = cc in subst (IsGained file s tag) same g
@@ -413,7 +413,7 @@ module _ (file : List ℕ) (s : SurveyFields) (tag : TagFields) (are : AreBytes 
   unfolding tidied_file
   undone_tidied = ap (file_with_tag bytes (edited_survey (constant_steps still) s)) edited_is
 
-  -- the bytes of its tag, written again, are those that are in the file
+  -- the bytes of its tag, written again, are the bytes in the file
   own_cases : (read : file_tag file s ≡ Ok tag) (o : Option Piece) → tag_block s ≡ o
       → HasNoEmptyTag tag s → bytes ≡ own_tag_bytes file s
   own_cases read None none has =
@@ -461,7 +461,7 @@ module _ (file : List ℕ) (s : SurveyFields) (tag : TagFields) (are : AreBytes 
         stream = tidied_stream own;
       }
 
--- one undo takes back one change or more
+-- one undo takes back one or more changes
 pub gains_undone : UndoGivesBack
 gains_undone shift shifts file last s tag are short read none e =
     let is = (survey_of-parts file most_frames s short).1 in

@@ -13,7 +13,7 @@ use Rattle.sync_survey.specs.{Faults.SurveyFields, MainData.StreamFrame}
 abbrev pub Changing : Type 0
 Changing = List ℕ → SurveyFields → Result FileChange EditFault
 
--- the code answers what the definition says of a file with this survey, or had no memory
+-- the code returns what the definition says of a file with this survey, or memory ran out
 abbrev pub IsChangeDecided : SurveyFields → Result FileChange EditFault
     → Result CodeChange EditFault → Type 0
 IsChangeDecided s made r = MatchResult r (λ change. made ≡ Ok (change_in change s))
@@ -37,8 +37,8 @@ change_result of file = made_file (change_making of) file
 abbrev pub moved_file_stream : (List ℕ → Steps) → List ℕ → List StreamFrame
 moved_file_stream steps_in file = map (moved_stream_frame (steps_in file)) (stream_in file)
 
--- what is made is the input with these changes, and its stream
--- is that of the input with the gains moved by these steps
+-- it makes the input with these changes, whose stream is the input's with the gains moved by these
+-- steps
 abbrev pub change_task : Changing → (List ℕ → Steps) → (Refusal → Bool) → List ℕ → Task
 change_task of steps_in refuses input =
     file_task (change_making of) (moved_file_stream steps_in) refuses input

@@ -20,12 +20,12 @@ abbrev pub changing_of : Changes → Changing
 changing_of (Move shift tags) = gain_change shift.now tags
 changing_of Undo = undo_change
 
--- they are noted in the tag, or were
+-- the changes are noted in the tag, or were
 abbrev pub are_noted : Changes → Bool
 are_noted (Move shift tags) = tags
 are_noted Undo = true
 
--- of a file that has this tag, or of which no tag was read
+-- what changes in a file that has this tag, or whose tag wasn't read
 abbrev pub decided_change : Changes → SurveyFields → Option TagFields → Result FileChange EditFault
 decided_change (Move shift tags) s None = plain_change shift.now s
 decided_change (Move shift tags) s (Some tag) = noted_tag_change shift.now s tag
@@ -37,7 +37,7 @@ abbrev pub steps_of_changes : Changes → List ℕ → Steps
 steps_of_changes (Move shift tags) = λ file. steps_of shift.now
 steps_of_changes Undo = file_undo_steps
 
--- which refusals it may give
+-- which refusals the command may return
 abbrev pub refuses_of_changes : Changes → Refusal → Bool
 refuses_of_changes (Move shift tags) = gain_refuses tags
 refuses_of_changes Undo = undo_refuses
@@ -47,8 +47,7 @@ abbrev pub task_of_changes : Changes → List ℕ → Task
 task_of_changes changes input =
     change_task (changing_of changes) (steps_of_changes changes) (refuses_of_changes changes) input
 
--- What is decided of a surveyed input: the change of
--- its bytes, or why it is refused. The files stay.
+-- The decision for a surveyed input: the change of its bytes, or why it is refused. The files stay.
 pub record IsDecision (changes : Changes) (name : List ℕ) (old new : Seen) (s : SurveyFields)
     (r : Result CodeChange EditFault) : Type 0 where
   pub change : IfOk r (λ change. (bytes : List ℕ) → Holds old.files name bytes

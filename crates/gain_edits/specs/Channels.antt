@@ -10,8 +10,8 @@ abbrev pub are_both : Channels → Bool
 are_both Both = true
 are_both _ = false
 
--- the two channels of the frame are coded jointly (mode 1,
--- 11172-3, 2.4.2.3), so that each is heard on both sides
+-- the two channels of the frame are coded jointly (mode 1, 11172-3, 2.4.2.3), so that each is heard
+-- on both sides
 abbrev pub is_joint : Row → Bool
 is_joint row = row.header.mode == 1
 
@@ -19,11 +19,12 @@ is_joint row = row.header.mode == 1
 abbrev pub joint_refusal : Row → Option Refusal
 joint_refusal row = if is_joint row then Some (Joint row.offset) else None
 
--- the first such frame, be it silent or lost
+-- the refusal of the first such frame, even if it is silent or lost
 abbrev pub joint_fault : List Row → Option Refusal
 joint_fault rows = first_refusal joint_refusal rows
 
--- why one channel alone can't change: there is only one, or the two of a frame are coded jointly
+-- why one channel alone can't change: there is only one, or the two channels of a frame are coded
+-- jointly
 abbrev pub single_channel_fault : SurveyFields → Option Refusal
 single_channel_fault s = if s.class.channels == 1 then Some Mono else joint_fault s.frames
 

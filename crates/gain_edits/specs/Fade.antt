@@ -1,5 +1,5 @@
--- The fade command: by how many steps a sheet moves each
--- frame, what is made of a file, and when it is refused.
+-- The fade command: by how many steps a sheet moves each frame, what is made of a file, and when it
+-- is refused.
 use Rattle.std.specs.List.{enumerate_from}
 use Rattle.std.specs.Prelude.{Bool, Err, false, length, List, map, None, Ok, Option, Result, true}
 use Rattle.std.specs.Prelude.{unwrap_or, ℕ, [], ◌||◌, ◌∷◌}
@@ -29,7 +29,7 @@ points_result (Ok points) = Ok points
 points_result (Err NoRoom) = Err Memory
 points_result (Err fault) = Err (Refused (Curve fault))
 
--- the points that the bytes of a sheet say, or their fault
+-- the points that the bytes of a sheet list, or their fault
 abbrev pub points_in : List ℕ → Result (List EnvelopePoint) EditFault
 points_in sheet = points_result (envelope_of sheet)
 
@@ -42,15 +42,15 @@ curve_result (Err line) = Err (Refused (CurveNotRising line))
 abbrev pub points_curve : SurveyFields → List EnvelopePoint → Result (List CurvePoint) EditFault
 points_curve s points = curve_result (curve_of s.class (length s.frames) points)
 
--- the curve that the bytes of a sheet give a file with this survey; it is
--- refused where the sheet is at fault, or else where a point doesn't rise
+-- the curve that the bytes of a sheet give for a file with this survey; refused if the sheet has a
+-- fault, and then if a point doesn't rise
 abbrev pub sheet_curve : SurveyFields → List ℕ → Result (List CurvePoint) EditFault
 sheet_curve s sheet = then_made (points_in sheet) (points_curve s)
 
 -- ---- the change
 
--- each frame moves by the steps of the curve at its number,
--- and no tag changes; or a gain would leave the range
+-- each frame moves by the steps of the curve at its number, and no tag changes; refused if a gain
+-- would leave the range
 abbrev pub steps_change : (ℕ → Steps) → SurveyFields → Result FileChange EditFault
 steps_change steps s =
     refusal_or (range_fault steps s.frames) (record { steps = steps; tag = None })
@@ -63,11 +63,11 @@ curve_change back s curve = steps_change (steps_at_offset (Along curve back) s.f
 unfoldable pub sheet_change : List ℕ → Bool → SurveyFields → Result FileChange EditFault
 sheet_change sheet back s = then_made (sheet_curve s sheet) (curve_change back s)
 
--- what a sheet changes; it is refused where the sheet isn't there or is too large
+-- what a sheet changes; refused if the sheet isn't there or is too large
 abbrev pub input_sheet_change : Option (List ℕ) → Bool → SurveyFields → Result FileChange EditFault
 input_sheet_change sheet back s = then_made (sheet_in sheet) (λ bytes. sheet_change bytes back s)
 
--- what a fade changes, by the sheet where it is there
+-- what a fade changes, given the sheet, if it is there
 abbrev pub fade_change : Option (List ℕ) → Bool → Changing
 fade_change sheet back file s = input_sheet_change sheet back s
 
@@ -78,13 +78,13 @@ abbrev pub moved_frames : (ℕ → Steps) → List StreamFrame → List StreamFr
 moved_frames steps frames =
     map (λ (p : ℕ × StreamFrame). moved_stream_frame (steps p.0) p.1) (enumerate_from 0 frames)
 
--- a stream with its gains moved along the curve; as it was where there is none
+-- a stream with its gains moved along the curve; unchanged if there is none
 abbrev pub curve_stream : Bool → List StreamFrame → Result (List CurvePoint) EditFault
     → List StreamFrame
 curve_stream back frames (Ok curve) = moved_frames (course_steps (Along curve back)) frames
 curve_stream back frames (Err fault) = frames
 
--- that of a file with this survey; as it was where the file has a fault
+-- the faded stream of a file with this survey; unchanged if the file has a fault
 abbrev pub surveyed_fade_stream : Option (List ℕ) → Bool → List StreamFrame
     → Result SurveyFields SurveyFault → List StreamFrame
 surveyed_fade_stream sheet back frames (Ok s) =
@@ -110,11 +110,11 @@ choice_refuses (Curve fault) = is_envelope_fault fault
 choice_refuses (CurveNotRising line) = true
 choice_refuses _ = false
 
--- the refusals that a fade may give
+-- the refusals that a fade may return
 abbrev pub fade_refuses : Refusal → Bool
 fade_refuses refusal = choice_refuses refusal || sheet_refuses refusal
 
--- the sheet is the second input, and is looked at once the first is without fault
+-- the sheet is the second input, and is read once the first is without fault
 abbrev pub fade_task : List ℕ → Bool → List ℕ → Task
 fade_task sheet back input = record {
   source = input;

@@ -6,8 +6,8 @@ use Rattle.gain_edits.specs.{Change.change_result, Fade.fade_change}
 use Rattle.moved_gains.specs.Kept.{KeepsAll}
 use Rattle.sync_survey.specs.{Faults.SurveyFields, Survey.survey_of}
 
--- What `fade` makes of a file that it accepts differs from it in
--- gains, check words and junk that is left out, and not in the tag.
+-- What `fade` makes of a file that it accepts differs from the file in gains, check words and junk
+-- that is left out, but not in the tag.
 abbrev pub FadeKeepsAll : Type 0
 FadeKeepsAll =
     (sheet : Option (List ℕ)) (back : Bool) (file new : List ℕ) (s : SurveyFields) → AreBytes file

@@ -17,17 +17,17 @@ use Rattle.sync_survey.specs.Faults.{SurveyFields}
 use Rattle.tag_blocks.specs.{Tags.{tag_bytes, TagFields}, UndoItems.undo_from}
 use Rattle.tag_blocks.specs.declared.undo.Undo.{Undo}
 
--- Tags are neither read nor written. It is refused where one channel
--- can't change alone, or else where a gain would leave the range.
+-- Tags are neither read nor written. It is refused if one channel can't change alone, and then if a
+-- gain would leave the range.
 abbrev pub plain_change : Shift → SurveyFields → Result FileChange EditFault
 plain_change shift s =
     refusal_or (or_else (channel_fault shift s)
     (range_fault (constant_steps (steps_of shift)) s.frames))
     (record { steps = constant_steps (steps_of shift); tag = None })
 
--- The change is noted in this tag, whose undo item says this. It is refused where one
--- channel can't change alone, or else where a number of the next undo item is too large, or
--- else the new tag, or else the file with it, or else where a gain would leave the range.
+-- The change is noted in this tag, whose undo item has these steps. It is refused if one channel
+-- can't change alone, then if a number of the next undo item is too large, then if the new tag is
+-- too large or the file with it too long, and then if a gain would leave the range.
 abbrev pub noted_change : Shift → SurveyFields → TagFields → Undo → Result FileChange EditFault
 noted_change shift s tag undo =
     let next = next_undo shift undo in
@@ -37,21 +37,21 @@ noted_change shift s tag undo =
     (or_else (output_fault s bytes) (range_fault (constant_steps (steps_of shift)) s.frames)))))
     (record { steps = constant_steps (steps_of shift); tag = Some bytes })
 
--- the change is noted in this tag of the file, unless its undo item is at fault
+-- the change is noted in this tag of the file, unless its undo item has a fault
 abbrev pub noted_tag_change : Shift → SurveyFields → TagFields → Result FileChange EditFault
 noted_tag_change shift s tag =
     then_made (noted_undo (tag_offset s) (undo_from 32 tag.items)) (noted_change shift s tag)
 
--- the change is noted in the file's tag; it is refused
--- where the tag is at fault, or else its undo item
+-- the change is noted in the file's tag; it is refused if the tag has a fault, and then if its undo
+-- item has one
 abbrev pub tagged_change : Shift → List ℕ → SurveyFields → Result FileChange EditFault
 tagged_change shift file s = then_made (tag_result (file_tag file s)) (noted_tag_change shift s)
 
--- what a change of gains changes, with a note in the tag or without one
+-- what `gain` changes, with a note in the tag or without one
 unfoldable pub gain_change : Shift → Bool → Changing
 gain_change shift tags file s = if tags then tagged_change shift file s else plain_change shift s
 
--- the refusals that it may give: those of the tag and of its undo item only with tags
+-- the refusals that it may return: for the tag and its undo item only with tags
 abbrev pub gain_refuses : Bool → Refusal → Bool
 gain_refuses tags (GainRange offset granule channel gain) = true
 gain_refuses tags Mono = true

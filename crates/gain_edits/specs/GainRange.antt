@@ -12,7 +12,7 @@ out_of_range_refusal offset (Some stuck) =
     Some (GainRange offset stuck.granule stuck.channel stuck.gain)
 out_of_range_refusal offset None = None
 
--- that of a frame which is moved by the steps at its offset
+-- the refusal for a gain of a frame that is moved by the steps at its offset
 abbrev pub row_range_fault : (ℕ → Steps) → Row → Option Refusal
 row_range_fault steps row =
     out_of_range_refusal row.offset (row_out_of_range (steps row.offset) row)

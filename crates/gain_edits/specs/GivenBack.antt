@@ -1,5 +1,5 @@
--- What undo makes of a file that several changes of gains were
--- made of, and what the opposite change makes of a changed file.
+-- What undo makes of a file after several changes of gains, and what the opposite change makes of a
+-- changed file.
 use Rattle.std.specs.Prelude.{false, length, List, neg_ℤ, None, Ok, Result, true, ℕ, [], ◌<◌, ◌∷◌}
 use Rattle.std.specs.Prelude.{◌≡◌, ◌⊎◌}
 use Rattle.bit_fields.specs.Bits.{AreBytes}
@@ -14,8 +14,8 @@ use Rattle.sync_survey.specs.{Faults.{HoldsStream, stream_of, SurveyFields}, Sur
 use Rattle.tag_blocks.specs.{Tags.TagFields, UndoItems.undo_from}
 use Rattle.tag_blocks.specs.declared.undo.UndoItem.TheVariants.{Missing}
 
--- what these changes make of a file, each of what the one before it
--- made, and each noted in the tag; or why one of them is refused
+-- what these changes make of a file in order, each applied to the file of the one before and noted
+-- in the tag; or why one of them is refused
 abbrev pub gains_result : List Shift → List ℕ → Result (List ℕ) EditFault
 gains_result [] file = Ok file
 gains_result (shift ∷ shifts) file =
@@ -31,18 +31,18 @@ tidied_file tag s file =
 abbrev pub HasNoEmptyTag : TagFields → SurveyFields → Type 0
 HasNoEmptyTag tag s = (tag_block s ≡ None) ⊎ (0 < length tag.items)
 
--- Undo makes of the last file the first again: without its junk, and without
--- its tag where that had no item before the changes. So where it had a tag with
--- an item, or none, all bytes except those of the junk come back; where there
--- is no junk, the file itself. The stream of the file comes back in every case.
+-- Undo makes the first file from the last again: without its junk, and without its tag if that had
+-- no item before the changes. If the file had a tag with an item, or none, all bytes except the
+-- junk come back; if there is no junk either, the file itself does. The stream of the file comes
+-- back in every case.
 pub record IsGivenBack (file last : List ℕ) (s : SurveyFields) (tag : TagFields) : Type 0 where
   pub back : change_result undo_change last ≡ Ok (tidied_file tag s file)
   pub kept : HasNoEmptyTag tag s → change_result undo_change last ≡ Ok (file_without_junk s file)
   pub same : HasNoEmptyTag tag s → s.junk ≡ s.first → change_result undo_change last ≡ Ok file
   pub stream : HoldsStream (tidied_file tag s file) (stream_of file)
 
--- of a file whose tag is read and has no undo item, and
--- one gain or more that are accepted, with or without wrap
+-- this holds for a file whose tag can be read and has no undo item, after one or more gains that
+-- are accepted, with or without wrap
 abbrev pub UndoGivesBack : Type 0
 UndoGivesBack =
     (shift : Shift) (shifts : List Shift) (file last : List ℕ) (s : SurveyFields) (tag : TagFields)

@@ -15,8 +15,8 @@ GainKeepsAll =
     → survey_of file most_frames ≡ Ok s → change_result (gain_change shift tags) file ≡ Ok new
     → KeepsAll (λ tag. (tags ≡ true) × IsTagBytes tag) file s new
 
--- what `gain -u` makes of a file that it accepts differs from
--- it in gains, check words, junk that is left out, and the tag
+-- What `gain -u` makes of a file that it accepts differs from it in gains, check words, junk that
+-- is left out, and the tag.
 abbrev pub UndoKeepsAll : Type 0
 UndoKeepsAll =
     (file new : List ℕ) (s : SurveyFields) → AreBytes file → survey_of file most_frames ≡ Ok s

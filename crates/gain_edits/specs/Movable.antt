@@ -1,4 +1,4 @@
--- What is made ready for a change of gains, and the file that is written.
+-- What is prepared for a change of gains, and the file that is written.
 use Rattle.std.specs.Prelude.{List, Ok, ℕ, ◌≡◌}
 use Rattle.commands.specs.SingleOutput.{most_frames}
 use Rattle.gain_edits.specs.declared.work.GainWork.{GainWork}

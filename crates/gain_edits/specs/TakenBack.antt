@@ -8,15 +8,16 @@ use Rattle.moved_gains.specs.Streams.{file_without_junk}
 use Rattle.outside.specs.Files.{Contents}
 use Rattle.sync_survey.specs.{Faults.{HoldsStream, stream_of, SurveyFields}, Survey.survey_of}
 
--- It is accepted and makes the file again, except the junk before its first frame; a file
--- without junk comes back whole, byte for byte. The stream of the file comes back in every case.
+-- The fade back is accepted and makes the file again, except the junk before its first frame; a
+-- file without junk comes back whole, byte for byte. The stream of the file comes back in every
+-- case.
 pub record IsFadedBack (sheet : Option (List ℕ)) (back : Bool) (file faded : List ℕ)
     (s : SurveyFields) : Type 0 where
   pub made : change_result (fade_change sheet (not back)) faded ≡ Ok (file_without_junk s file)
   pub same : s.junk ≡ s.first → change_result (fade_change sheet (not back)) faded ≡ Ok file
   pub stream : HoldsStream (file_without_junk s file) (stream_of file)
 
--- of any file that the fade accepts, with or without `--back`
+-- this holds for any file that the fade accepts, with or without `--back`
 abbrev pub FadeGivesBack : Type 0
 FadeGivesBack =
     (sheet : Option (List ℕ)) (back : Bool) (file faded : List ℕ) (s : SurveyFields) → AreBytes file
@@ -25,7 +26,7 @@ FadeGivesBack =
 
 -- ---- the command
 
--- of what a first fade wrote the command makes the first one's input again, as above
+-- from the output of a first fade the command makes the input of the first one again
 pub record IsTakenBack (sheet output last : List ℕ) (back : Bool) (files : Contents)
     (file : List ℕ) : Type 0 where
   pub survey : SurveyFields
@@ -36,8 +37,8 @@ pub record IsTakenBack (sheet output last : List ℕ) (back : Bool) (files : Con
       → (fade_command sheet (not back) output last).makes files ≡ command_result last (Ok file)
   pub stream : HoldsStream (file_without_junk survey file) (stream_of file)
 
--- Once `fade IN OUT SHEET` was done, `fade --back OUT LAST SHEET` is accepted,
--- where LAST is neither OUT nor SHEET; and so where `--back` came first.
+-- Once `fade IN OUT SHEET` was done, `fade --back OUT LAST SHEET` is accepted, if LAST is neither
+-- OUT nor SHEET; likewise if `--back` came first.
 abbrev pub FadeIsTakenBack : Type 0
 FadeIsTakenBack =
     (sheet input output last : List ℕ) (back : Bool) (files : Contents) (file : List ℕ)

@@ -1,5 +1,5 @@
 -- How a change of gains is noted in the undo item of the tag, which is mp3gain's, and what the item
--- says of it.
+-- says about it.
 use Rattle.std.specs.Prelude.{Err, false, if◌then◌else◌, length, List, nat_lt, None, Ok, Option}
 use Rattle.std.specs.Prelude.{pos, Result, Some, unsigned_abs, ℕ, ℤ, ◌-ℤ◌, [], ◌+◌, ◌-◌, ◌==◌, ◌||◌}
 use Rattle.commands.specs.{Refusing.or_else, declared.fault.EditFault.EditFault}
@@ -20,44 +20,44 @@ use Rattle.tag_blocks.specs.declared.undo.UndoItem.TheVariants.{Bad, Found, Miss
 
 -- ---- the tag of the file
 
--- why the tag isn't read, as a fault of the command
+-- why the tag can't be read, as a fault of the command
 abbrev pub tag_edit_fault : FileTagFault → EditFault
 tag_edit_fault (TooLarge size) = Refused (TagTooLarge size)
 tag_edit_fault (BadBlock at) = Refused (BadTag at)
 tag_edit_fault (Read fault) = Input 0 (survey_fault_of fault)
 tag_edit_fault NoRoom = Memory
 
--- the tag, or why it isn't read
+-- the tag, or why it can't be read
 abbrev pub tag_result : Result TagFields FileTagFault → Result TagFields EditFault
 tag_result (Ok tag) = Ok tag
 tag_result (Err fault) = Err (tag_edit_fault fault)
 
--- ---- its undo item
+-- ---- the undo item
 
 -- 0 steps: nothing is to be undone
 abbrev pub no_undo : Undo
 no_undo = record { left = pos 0; right = pos 0; wrap = false }
 
--- what the undo item of a tag at this offset says, and this where there is none
+-- the content of the undo item of a tag at this offset, or `missing` if there is none
 abbrev pub undo_or : Result Undo EditFault → ℕ → UndoItem → Result Undo EditFault
 undo_or missing at Missing = missing
 undo_or missing at (Bad place) = Err (Refused (BadUndo (at + place)))
 undo_or missing at (Found undo) = Ok undo
 
--- nothing is to be undone where there is none
+-- the content of the undo item; nothing is to be undone if there is none
 abbrev pub noted_undo : ℕ → UndoItem → Result Undo EditFault
 noted_undo at item = undo_or (Ok no_undo) at item
 
--- there has to be one
+-- the content of the undo item, which has to be there
 abbrev pub found_undo : ℕ → UndoItem → Result Undo EditFault
 found_undo at item = undo_or (Err (Refused NoUndo)) at item
 
--- the steps that the item lists: those that undo the changes
+-- the steps that the item lists, which undo the changes
 abbrev pub undo_steps : Undo → Steps
 undo_steps undo = record { left = undo.left; right = undo.right; wrap = undo.wrap }
 
--- the undo item after a further change: the steps of the change
--- are subtracted, and it wraps if it did before or the change does
+-- the undo item after a further change: the steps of the change are subtracted, and it wraps if it
+-- did before or the change does
 abbrev pub next_undo : Shift → Undo → Undo
 next_undo shift undo = let steps = steps_of shift in record {
   left = undo.left -ℤ steps.left;
@@ -69,7 +69,7 @@ next_undo shift undo = let steps = steps_of shift in record {
 abbrev pub number_fault : ℤ → Option Refusal
 number_fault number = if nat_lt 999 (unsigned_abs number) then Some (UndoRange number) else None
 
--- why this can't be noted: a number is too large
+-- why this undo can't be noted: a number is too large
 abbrev pub undo_fault : Undo → Option Refusal
 undo_fault undo = or_else (number_fault undo.left) (number_fault undo.right)
 
@@ -92,8 +92,8 @@ abbrev pub size_fault : List ℕ → Option Refusal
 size_fault bytes =
     if nat_lt longest_tag (length bytes) then Some (TagTooLarge (length bytes)) else None
 
--- the length of the output with a tag of these bytes: the
--- file without its junk and its old tag, and this one
+-- the length of the output with a tag of these bytes: the file without its junk and its old tag,
+-- plus this tag
 abbrev pub output_length : SurveyFields → List ℕ → ℕ
 output_length s bytes = s.length - junk_length s - tag_length s + length bytes
 

@@ -22,14 +22,14 @@ use tag_blocks::Tag;
 /// What changes in the gains of a file.
 #[derive(Clone, Copy)]
 pub enum Changes<'a> {
-    /// They move by this shift; with `true` that is noted in the file's tag.
+    /// They move by this shift; with `true` the change is noted in the file's tag.
     Move(&'a Shift, bool),
     /// The changes that the undo item of the file's tag lists are undone.
     Undo,
 }
 
 impl<'a> Changes<'a> {
-    /// Whether they are noted in the file's tag, or were.
+    /// Whether the changes are noted in the file's tag, or were.
     fn are_noted(&self) -> bool
         ensures { result ≡ are_noted self.now }
     {
@@ -39,7 +39,7 @@ impl<'a> Changes<'a> {
         }
     }
 
-    /// What changes in a surveyed file that has this tag, or of which no tag was read.
+    /// What changes in a surveyed file that has this tag, or whose tag wasn't read.
     fn decide(&self, alloc: Global, survey: &Survey, tag: Option<Tag>) -> Result<Change, EditFault>
         requires { IsSurveyLaidOut (survey_view survey.now) }
         ensures { IsChangeDecided (survey_view survey.now) (decided_change self.now (survey_view survey.now) tag) result }

@@ -42,8 +42,9 @@ fn joint_fault(rows: &[Row]) -> Option<Refusal>
     None
 }
 
-/// Why one channel alone can't change: `Mono` where the file has only one, else `Joint` with the offset in bytes of the
-/// first frame whose two are coded jointly. None where both are to change.
+/// Why one channel alone can't change: `Mono` if the file has only one, otherwise `Joint` with the
+/// offset in bytes of the first frame whose two channels are coded jointly. None if both are to
+/// change.
 pub(crate) fn channel_fault(shift: &Shift, survey: &Survey) -> Option<Refusal>
     ensures { result ≡ channel_fault shift.now (survey_view survey.now) }
 {

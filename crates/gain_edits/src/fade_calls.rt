@@ -7,24 +7,27 @@ use commands::{EditFault, make_one};
 use outside::Folder;
 use std::alloc::Global;
 
-/// Writes the output, which is the input without the junk before its first frame and with the gains of each frame moved, on
-/// all channels, by the steps of 1.5 dB that the curve of the sheet has at the frame's number, except those of silent granules
-/// and of lost frames; with `back` by as many steps the other way. The check words of protected frames that change are
-/// recomputed. Tags are neither read nor changed.
+/// Writes the output: the input without the junk before its first frame and with the gains of each
+/// frame moved, on all channels, by the steps of 1.5 dB that the curve of the sheet has at the
+/// frame's number, except those of silent granules and of lost frames; with `back` by as many steps
+/// the other way. The check words of protected frames that change are recomputed. Tags are neither
+/// read nor changed.
 ///
 /// # Errors
-/// In this order: `EqualNames(0)` and `EqualNames(1)` where the output's name is that of the input or of the sheet,
-/// byte for byte; `Input(0, ..)` with the fault of the survey of the input, of which 2,900,000 frames are allowed; of the
-/// sheet `Input(1, ..)` with `Absent` and `Read`, `SheetTooLarge` with its length above 65,536 bytes, and `Input(1, ..)` with
-/// `Shrunk`; `Curve` with the fault of its bytes; `CurveNotRising` with the first line, counted from 1, whose point isn't at
-/// a later frame than the point before; `GainRange` for the first gain to be moved that would leave the range from 0 to 255.
-/// After these nothing was created.
+/// In this order: `EqualNames(0)` and `EqualNames(1)` if the output's name is the name of the input
+/// or of the sheet, byte for byte; `Input(0, ..)` with the fault of the survey of the input, which
+/// may have 2,900,000 frames; for the sheet `Input(1, ..)` with `Absent` and `Read`,
+/// `SheetTooLarge` with its length above 65,536 bytes, and `Input(1, ..)` with `Shrunk`; `Curve`
+/// with the fault of its bytes; `CurveNotRising` with the first line, counted from 1, whose point
+/// isn't at a later frame than the point before; `GainRange` for the first gain to be moved that
+/// would leave the range from 0 to 255. After these nothing was created.
 ///
-/// `Input` with `Read` and `Write(0)` come only where a call of that kind failed, `Input` with `Absent` only where that input
-/// isn't there, and every other answer only where none failed. `Input(0, ..)` with `Read` or `Shrunk` may also come while the
-/// output is written; after it, and after `Write(0)`, the output is as it was or holds a prefix of its bytes, and after
-/// `Write(0)` not all of them. `Memory` may come once the input was found with a length that it may have, before the output is
-/// created, and not from then on.
+/// `Input` with `Read` and `Write(0)` are returned only if a call of that kind failed, `Input` with
+/// `Absent` only if that input isn't there, and any other result only if no call failed. `Input(0,
+/// ..)` with `Read` or `Shrunk` may also be returned while the output is written; after it, and
+/// after `Write(0)`, the output is as it was or holds a prefix of its bytes, and after `Write(0)`
+/// not all of them. `Memory` may be returned once the input was found with a length that it may
+/// have, before the output is created, but not from then on.
 pub fn fade<D: Folder>(
     alloc: Global,
     folder: &mut D,

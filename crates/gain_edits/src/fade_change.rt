@@ -85,8 +85,8 @@ fn fade_in(alloc: Global, sheet: &[u8], back: bool, survey: &Survey) -> Result<C
 /// What the sheet changes in the surveyed input. The files stay.
 ///
 /// # Errors
-/// `Input(1, ..)` with `Absent`, `Read` and `Shrunk`, and `SheetTooLarge`, where the sheet can't be read; else those of
-/// `fade_in`; `Memory`.
+/// `Input(1, ..)` with `Absent`, `Read` and `Shrunk`, and `SheetTooLarge`, if the sheet can't be
+/// read; otherwise those of `fade_in`; `Memory`.
 pub(crate) fn fade_change<D: Folder>(
     alloc: Global,
     folder: &mut D,

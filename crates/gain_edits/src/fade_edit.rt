@@ -8,7 +8,7 @@ use moved_gains::GainBuffers;
 use outside::Folder;
 use std::alloc::Global;
 
-/// An input that fades, the sheet that says how, and whether a fade by this sheet is undone.
+/// An input that fades, the sheet with the curve, and whether a fade with this sheet is undone.
 #[derive(Clone, Copy)]
 pub struct FadeEdit<'a> {
     pub input: &'a str,

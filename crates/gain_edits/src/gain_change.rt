@@ -31,7 +31,8 @@ pub(crate) fn plain_change(survey: &Survey, shift: &Shift) -> Result<Change, Edi
     }
 }
 
-/// The length in bytes of the output with a tag of `tag` bytes: the file without its junk and its old tag, and this one.
+/// The length in bytes of the output with a tag of `tag` bytes: the file without its junk and its
+/// old tag, plus this tag.
 fn output_length(survey: &Survey, tag: u64) -> u64
     requires laid { IsSurveyLaidOut (survey_view survey.now) }
     requires few { tag ≤ 2097088 }
@@ -43,8 +44,8 @@ fn output_length(survey: &Survey, tag: u64) -> u64
     (survey.length() - junk).saturating_sub(tag_place(survey).length) + tag
 }
 
-/// The change, noted in this tag, whose undo item says `undo`. Refused by the first of `Mono`, `Joint`, `UndoRange`,
-/// `TagTooLarge`, `OutputTooLong` and `GainRange`; or `Memory`.
+/// The change, noted in this tag, whose undo item has the steps `undo`. Refused by the first of
+/// `Mono`, `Joint`, `UndoRange`, `TagTooLarge`, `OutputTooLong` and `GainRange`; or `Memory`.
 fn noted_change(
     alloc: Global,
     survey: &Survey,
@@ -81,7 +82,8 @@ fn noted_change(
     })
 }
 
-/// The change, noted in this tag of the file. Refused by `BadUndo`, and else as above; or `Memory`.
+/// The change, noted in this tag of the file. Refused by `BadUndo`, otherwise as `noted_change`; or
+/// `Memory`.
 pub(crate) fn noted_in(
     alloc: Global,
     survey: &Survey,

@@ -15,7 +15,7 @@ use moved_gains::{Course, OutOfRange, first_out_of_range};
 use requests::Steps;
 use sync_survey::{Row, Survey};
 
-/// A gain that would leave the range, as a fault of the file, with the offset in bytes of its frame.
+/// The refusal for a gain that would leave the range, with the offset in bytes of its frame.
 fn fault_at(offset: u32, stuck: Option<OutOfRange>) -> Option<Refusal>
     ensures { result ≡ out_of_range_refusal offset stuck }
 {
@@ -32,8 +32,8 @@ fn out_of_range_in_class(class: Class, steps: &Steps, row: &Row) -> Option<OutOf
     first_out_of_range(steps, &row.front().side_in(class))
 }
 
-/// The same, but a lost frame isn't changed, so it has none. In MPEG-1 with two channels, the most frequent class, the
-/// compiler knows the places of the gains.
+/// As `out_of_range_in_class`, but a lost frame has none, since it isn't changed. In MPEG-1 with
+/// two channels, the most frequent class, the compiler knows the places of the gains.
 #[inline(always)]
 fn out_of_range_in_row(class: Class, steps: &Steps, row: &Row) -> Option<OutOfRange>
     requires { class_of row.now.header ≡ class }
@@ -82,7 +82,7 @@ pub fn range_fault(course: &Course, survey: &Survey) -> Option<Refusal>
     first_fault(course, survey.class(), survey.frames())
 }
 
-/// The same where all frames move by the same steps.
+/// The first gain that would leave the range if all frames move by the same steps.
 pub(crate) fn constant_steps_fault(steps: Steps, survey: &Survey) -> Option<Refusal>
     requires { IsSurveyLaidOut (survey_view survey.now) }
     ensures { result ≡ range_fault (constant_steps steps) (survey_view survey.now).frames }

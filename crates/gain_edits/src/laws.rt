@@ -1,11 +1,13 @@
-//! Changes of gains can be undone: by one undo, or by as many steps the other way. They change nothing else.
+//! Changes of gains can be undone: by one undo, or by as many steps the other way. They change
+//! nothing else.
 ghost use Rattle.gain_edits.specs.GivenBack.{UndoGivesBack, OppositeGivesBack};
 ghost use Rattle.gain_edits.specs.Kept.{GainKeepsAll, UndoKeepsAll};
 
-/// A law and no work: one undo takes back all changes of gains that were accepted one after the other, with or without wrap,
-/// of a well-formed file whose tag can be read and has no undo item. The undo is accepted, and gives the file without its
-/// junk, and without its tag where that had no item. So where the file has no junk, and no tag or one with an item, it gives
-/// the file itself, byte for byte. The stream comes back in every case. A proof that needs it calls this function.
+/// A law and no work: one undo takes back all changes of gains that were accepted in order, with or
+/// without wrap, for a well-formed file whose tag can be read and has no undo item. The undo is
+/// accepted, and gives the file without its junk, and without its tag if that had no item. If the
+/// file has no junk, and no tag or one with an item, it gives the file itself, byte for byte. The
+/// stream comes back in every case. A proof that needs it calls this function.
 pub fn undo_gives_back()
     ensures { UndoGivesBack }
 {}
@@ -17,9 +19,9 @@ pub fn opposite_gives_back()
     ensures { OppositeGivesBack }
 {}
 
-/// A law and no work: what `gain` and `gain -u` make of a file differs from it in gains, check words of protected frames, the
-/// tag and junk that is left out, and in nothing else; without tags `gain` leaves the tag too. A proof that needs it calls this
-/// function.
+/// A law and no work: the output of `gain` and `gain -u` differs from the input in gains, check
+/// words of protected frames, the tag and junk that is left out, and in nothing else; without tags
+/// `gain` leaves the tag too. A proof that needs it calls this function.
 pub fn gains_keep_all()
     ensures gain { GainKeepsAll }
     ensures undo { UndoKeepsAll }

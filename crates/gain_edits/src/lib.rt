@@ -1,4 +1,5 @@
-//! The commands that change gains: `gain`, `undo`, and `fade`, by which each frame's gains move by the steps that a sheet gives for its number.
+//! The commands that change gains: `gain`, `undo`, and `fade`, which moves each frame's gains by
+//! the steps that a sheet gives for its number.
 #![tactic(auto)]
 
 mod calls;

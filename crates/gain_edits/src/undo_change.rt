@@ -14,7 +14,7 @@ use std::alloc::{AllocError, Global};
 use sync_survey::Survey;
 use tag_blocks::{Tag, Undo};
 
-/// The bytes of the tag; none where it has no items.
+/// The bytes of the tag; none if it has no items.
 fn bytes_unless_empty(alloc: Global, tag: &Tag) -> Result<Vec<u8>, AllocError>
     ensures { IfOk result (λ bytes. bytes.items ≡ bytes_unless_empty tag.now) }
 {
@@ -25,8 +25,8 @@ fn bytes_unless_empty(alloc: Global, tag: &Tag) -> Result<Vec<u8>, AllocError>
     }
 }
 
-/// The gains move by the steps of the undo item, and the item is taken out of the tag: `GainRange` for the first gain that
-/// would leave the range from 0 to 255; `Memory`.
+/// The gains move by the steps of the undo item, and the item is removed from the tag: `GainRange`
+/// for the first gain that would leave the range from 0 to 255; `Memory`.
 fn undone_change(alloc: Global, survey: &Survey, tag: Tag, undo: &Undo) -> Result<Change, EditFault>
     requires { IsSurveyLaidOut (survey_view survey.now) }
     ensures { IsChangeDecided (survey_view survey.now) (undone_change (survey_view survey.now) tag undo.now)
@@ -45,7 +45,8 @@ fn undone_change(alloc: Global, survey: &Survey, tag: Tag, undo: &Undo) -> Resul
     })
 }
 
-/// What an undo changes in a file with this tag. Refused by `NoUndo` and `BadUndo`, and else as above; or `Memory`.
+/// What an undo changes in a file with this tag. Refused by `NoUndo` and `BadUndo`, otherwise as
+/// `undone_change`; or `Memory`.
 pub(crate) fn undone_in(alloc: Global, survey: &Survey, tag: Tag) -> Result<Change, EditFault>
     requires { IsSurveyLaidOut (survey_view survey.now) }
     ensures { IsChangeDecided (survey_view survey.now) (undone_tag_change (survey_view survey.now) tag) result }

@@ -16,7 +16,7 @@ use tag_blocks::{Tag, Undo, UndoItem};
 /// The undo item holds numbers of at most three digits.
 const LARGEST_NUMBER: u32 = 999;
 
-/// Why the tag of the one input isn't read, as a fault of the command.
+/// Why the tag of the one input can't be read, as a fault of the command.
 pub(crate) fn of_tag(fault: FileTagFault) -> EditFault
     ensures { result ≡ tag_edit_fault fault }
 {
@@ -28,8 +28,8 @@ pub(crate) fn of_tag(fault: FileTagFault) -> EditFault
     }
 }
 
-/// What the undo item of the file's tag says, and this where there is none. `BadUndo` with the offset in bytes of the item
-/// where its value isn't of the form.
+/// The content of the undo item of the file's tag, or `missing` if there is none. `BadUndo` with
+/// the offset in bytes of the item if its value is malformed.
 fn undo_or(survey: &Survey, tag: &Tag, missing: Result<Undo, EditFault>) -> Result<Undo, EditFault>
     requires { IsSurveyLaidOut (survey_view survey.now) }
     ensures { result ≡ undo_or missing (tag_offset (survey_view survey.now))
@@ -45,7 +45,7 @@ fn undo_or(survey: &Survey, tag: &Tag, missing: Result<Undo, EditFault>) -> Resu
     }
 }
 
-/// What the undo item says; 0 steps where there is none.
+/// The content of the undo item; 0 steps if there is none.
 pub(crate) fn noted_undo(survey: &Survey, tag: &Tag) -> Result<Undo, EditFault>
     requires { IsSurveyLaidOut (survey_view survey.now) }
     ensures { result ≡ noted_undo (tag_offset (survey_view survey.now)) (undo_from 32 tag.now.items) }
@@ -58,7 +58,7 @@ pub(crate) fn noted_undo(survey: &Survey, tag: &Tag) -> Result<Undo, EditFault>
     undo_or(survey, tag, Ok(none))
 }
 
-/// The same where there has to be one: `NoUndo` where there is none.
+/// The content of the undo item, which has to be there: `NoUndo` if there is none.
 pub(crate) fn found_undo(survey: &Survey, tag: &Tag) -> Result<Undo, EditFault>
     requires { IsSurveyLaidOut (survey_view survey.now) }
     ensures { result ≡ found_undo (tag_offset (survey_view survey.now)) (undo_from 32 tag.now.items) }
@@ -66,7 +66,7 @@ pub(crate) fn found_undo(survey: &Survey, tag: &Tag) -> Result<Undo, EditFault>
     undo_or(survey, tag, Err(Refusal::NoUndo.into()))
 }
 
-/// The steps that the item lists: those that undo the changes.
+/// The steps that the item lists, which undo the changes.
 pub(crate) fn undo_steps(undo: &Undo) -> Steps
     ensures { result ≡ undo_steps undo.now }
 {
@@ -83,7 +83,8 @@ fn difference(steps: i16, taken: i16) -> i32
     i32::from(steps) - i32::from(taken)
 }
 
-/// A number of the item less the steps of a change: `UndoRange` with the difference where it isn't from -999 to 999.
+/// A number of the item less the steps of a change: `UndoRange` with the difference if it isn't
+/// from -999 to 999.
 fn number(steps: i16, taken: i16) -> Result<i16, Refusal>
     ensures number { MatchResult result
         (λ number. (number ≡ steps -ℤ taken) × (unsigned_abs number ≤ 999)
@@ -98,8 +99,9 @@ fn number(steps: i16, taken: i16) -> Result<i16, Refusal>
     }
 }
 
-/// The undo item after a further change: the steps of the change are subtracted, and it says `W` if it did before or the
-/// change wraps. `UndoRange` with the first number, the left one first, that isn't from -999 to 999.
+/// The undo item after a further change: the steps of the change are subtracted, and it has `W` if
+/// it had before or the change wraps. `UndoRange` with the first number, the left one first, that
+/// isn't from -999 to 999.
 pub(crate) fn next_undo(shift: &Shift, undo: &Undo) -> Result<Undo, Refusal>
     ensures undo { MatchResult result
         (λ next. (next ≡ next_undo shift.now undo.now) × (undo_fault next ≡ None))

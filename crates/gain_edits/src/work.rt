@@ -1,4 +1,4 @@
-//! What a command that moves gains makes ready, and the pass that writes its file.
+//! What a command that moves gains prepares, and the pass that writes its file.
 ghost use Rattle.gain_edits.specs.Movable.{moved_file, IsMovable};
 
 use commands::OutputPass;
@@ -6,7 +6,7 @@ use moved_gains::{Change, GainBuffers, write_changed};
 use outside::{Folder, PassFault};
 use sync_survey::Survey;
 
-/// What is known of the input, what changes in it, and the memory of the pass.
+/// The survey of the input, what changes in it, and the memory of the pass.
 #[derive(Drop)]
 pub struct GainWork {
     pub survey: Survey,

@@ -1,4 +1,4 @@
--- What the one body asks of the command.
+-- What the one body requires of the command.
 use Rattle.gain_edits.proofs.ProperLemmas.{edit_proper}
 use Rattle.gain_edits.specs.declared.changes.Changes.TheVariants.{Move}
 use Rattle.gain_edits.proofs.calls.gain.Goals as goal

@@ -1,4 +1,4 @@
--- What the one body asks of the command.
+-- What the one body requires of the command.
 use Rattle.gain_edits.proofs.FadeProperLemmas.{fade_proper}
 use Rattle.gain_edits.proofs.fade_calls.fade.Goals as goal
 

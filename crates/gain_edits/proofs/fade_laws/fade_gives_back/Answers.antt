@@ -1,4 +1,4 @@
--- The law, by what both fades together make of the file: no step.
+-- The law, since both fades together are no step.
 use Rattle.gain_edits.proofs.TakenBackLemmas.{back_again, command_back}
 use Rattle.gain_edits.proofs.fade_laws.fade_gives_back.Goals as goal
 

@@ -1,4 +1,4 @@
--- The law, by that of every change.
+-- The law, from the lemma for every change.
 use Rattle.gain_edits.proofs.KeptFadeLemmas.{fade_kept}
 use Rattle.gain_edits.proofs.fade_laws.fade_keeps_all.Goals as goal
 

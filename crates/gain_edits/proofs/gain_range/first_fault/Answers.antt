@@ -8,7 +8,7 @@ use Rattle.moved_gains.{proofs.CourseLemmas.frame_steps, specs.Course.steps_at_o
 use Rattle.moved_gains.specs.Edited.{row_out_of_range}
 use Rattle.gain_edits.proofs.gain_range.first_fault.Goals as goal
 
--- the row that is looked at is judged by the steps of its offset
+-- the row that is looked at is tested with the steps at its offset
 judged : (c : After-fault_at)
     → row_range_fault (steps_at_offset c.args.course.now c.args.rows.now) c.index-rows-frame.result
     ≡ c.fault_at.result

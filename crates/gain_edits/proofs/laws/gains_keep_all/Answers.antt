@@ -1,4 +1,4 @@
--- The law, by that of every change.
+-- The law, from the lemma for every change.
 use Rattle.gain_edits.proofs.KeptGainLemmas.{gain_kept, undo_kept}
 use Rattle.gain_edits.proofs.laws.gains_keep_all.Goals as goal
 

@@ -1,4 +1,4 @@
--- The law, by what the file is after each gain.
+-- The law, from what the file is after each change.
 use Rattle.gain_edits.proofs.UndoneGainLemmas.{gains_undone}
 use Rattle.gain_edits.proofs.laws.undo_gives_back.Goals as goal
 

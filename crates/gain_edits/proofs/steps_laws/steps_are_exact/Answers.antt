@@ -1,4 +1,4 @@
--- The law, by the gains that leave the range.
+-- The law, from the gains that would leave the range.
 use Rattle.gain_edits.proofs.ExactLemmas.{exact-steps}
 use Rattle.gain_edits.proofs.steps_laws.steps_are_exact.Goals as goal
 

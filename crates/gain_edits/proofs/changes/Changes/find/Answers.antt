@@ -1,4 +1,4 @@
--- The tag is read, and then the change is decided by it; without tags it is decided at once.
+-- The tag is read, and then the change is decided with it; without tags it is decided at once.
 use Rattle.std.proofs.Common.{ap₂, None, refl, rules, Some, sym, ◌∙◌}
 use Rattle.gain_edits.proofs.RefusalLemmas.{answered, decided-may, noted-is, plain-is, tag_is_input}
 use Rattle.gain_edits.specs.Changes.{decided_change}

@@ -1,4 +1,4 @@
--- The output was created, and nothing is held of any file.
+-- The output was created, and the buffer holds no bytes of any file.
 use Rattle.gain_edits.proofs.work.GainWorkOutputPass.append.Goals as goal
 
 pub write_changed-requires-clause-fresh : goal.write_changed-requires-clause-fresh
