@@ -17,16 +17,16 @@ use Rattle.slot_plan.specs.{Parts.{AreNeedsOfOneClass, own_frame, window_in}, Pl
 use Rattle.slot_plan.specs.declared.needs.{Need.Need, Placed.Placed}
 use Rattle.sync_survey.specs.Faults.{SurveyFields}
 
--- ---- by a best plan frames can be laid
+-- ---- frames can be laid by a best plan
 
--- the items of a best plan are those of a plan from the menu of all slots
+-- the items of a best plan are the items of a plan from the menu of all slots
 behind-from : (lead_in : Bool) (needs : List Need)
     → menu_items lead_in all_slots needs ≡ items_with_lead_in lead_in any_choice needs
 unfolding items_with_lead_in menu_items
 behind-from true (first ∷ needs) = refl
 behind-from _ _ = refl
 
--- behind a lead-in or none the places are asked for the frames
+-- after a lead-in or none the places are for the frames
 pub asks-behind : (lead_in : Bool) (needs : List Need)
     → Asks (items_with_lead_in lead_in any_choice needs) needs
 asks-behind lead_in needs = subst (λ items. Asks items needs) (behind-from lead_in needs)
@@ -62,7 +62,7 @@ module _ (chosen : Chosen) (s : SurveyFields) (placed : IsPlacedSurvey s)
   window_is = window-is s.class (chosen_needs chosen s) (rows-same chosen s placed some within)
       (needs-some chosen s placed some within)
 
-  -- they fit in their own slots behind a whole window
+  -- the frames fit in their own slots after a whole window
   pub needs-feasible : HasLayout (window_in (chosen_needs chosen s))
       (window_in (chosen_needs chosen s))
       (map own_frame (chosen_needs chosen s))
@@ -70,7 +70,7 @@ module _ (chosen : Chosen) (s : SurveyFields) (placed : IsPlacedSurvey s)
       subst (λ w. HasLayout w w (map own_frame (chosen_needs chosen s))) (sym window_is)
       (part-fits s chosen.from chosen.to placed).1
 
-  -- what the planner answers is that plan
+  -- what the planner returns is the best plan
   pub best-answer : (plan : List Placed)
       → IsBestPlan (window_in (chosen_needs chosen s)) any_choice (chosen_needs chosen s) plan
       → best_planning s.class (chosen_needs chosen s) ≡ Ok plan
@@ -79,18 +79,18 @@ module _ (chosen : Chosen) (s : SurveyFields) (placed : IsPlacedSurvey s)
       ((best-plan-of (window_of s.class.version) any_choice (chosen_needs chosen s) plan in-order).0
       (subst (λ w. IsBestPlan w any_choice (chosen_needs chosen s) plan) window_is best))
 
-  -- the first of all lists with a layout is the plan of the packing with the least slots
+  -- the first of all lists with a layout is the plan of packing with the least slots
   pub plain-plan : IsPlan (window_of s.class.version) any_choice (chosen_needs chosen s ∷ [])
       (first_plan any_choice s.class (chosen_needs chosen s))
   plain-plan = the-plan chosen s placed some within any_choice (inr refl)
 
-  -- they have a best plan
+  -- the frames have a best plan
   pub best-some : (best : List Placed)
       × (best_plan_of (window_of s.class.version) any_choice (chosen_needs chosen s) ≡ Some best)
   best-some = best-exists (window_of s.class.version) any_choice (chosen_needs chosen s)
       (first_plan any_choice s.class (chosen_needs chosen s)) plain-plan
 
-  -- the plan that isn't refused is the best
+  -- the plan that isn't refused is the best plan
   pub best-is : (plan : List Placed) → best_planning s.class (chosen_needs chosen s) ≡ Ok plan
       → IsBestPlan (window_of s.class.version) any_choice (chosen_needs chosen s) plan
   best-is plan planned =
@@ -101,7 +101,7 @@ module _ (chosen : Chosen) (s : SurveyFields) (placed : IsPlacedSurvey s)
       (unwrapped (best_plan_of (window_of s.class.version) any_choice (chosen_needs chosen s))
       best-some.0 plan best-some.1 same)
 
-  -- and by it the frames can be laid
+  -- the frames can be laid by the best plan
   pub best-fitting : (plan : List Placed) → best_planning s.class (chosen_needs chosen s) ≡ Ok plan
       → IsFittingFew (window_of s.class.version) (chosen_needs chosen s) plan
   best-fitting plan planned =

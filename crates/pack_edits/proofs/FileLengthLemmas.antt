@@ -1,5 +1,5 @@
--- How long a file of frames in the slots of a plan is: what is in
--- front of the frames and behind them, and the lengths of the slots.
+-- How long a file of frames in the slots of a plan is: what comes before and after the frames, and
+-- the lengths of the slots.
 use Rattle.std.proofs.Common.{ap, arith, drop, length, length-append, length-drop, List, map, None}
 use Rattle.std.proofs.Common.{Option, refl, slice_get, Some, take, ℕ, [], ◌++◌, ◌+◌, ◌-◌, ◌<◌, ◌∙◌}
 use Rattle.std.proofs.{Common.{◌∷◌, ◌≡◌, ◌≤◌}, lemmas.List.{length-take-le, Sums.sum_by-cons}}
@@ -91,7 +91,7 @@ same-size c _ _ same = absurd cc
 
 -- ---- the file
 
--- what is in front of the frames and behind them
+-- the length of what comes before and after the frames
 abbrev pub others_length : Row → List ℕ → SurveyFields → ℕ
 others_length first file s =
     let h = info_header_of first.header in
@@ -110,7 +110,7 @@ module _ (l : LaidPart) (file : List ℕ) (s : SurveyFields) (is : CanBeRelaid f
       length-frames s.class (frames_laid l file s) are.entries are.fit ∙ same-size s.class
       (frames_laid l file s) l.placed (laid-slots l file s is some within fitting)
 
-  -- the file is as long as these and what is in front of the frames and behind them
+  -- the file is as long as these and what comes before and after the frames
   pub length-file : (first : Row) → slice_get s.frames l.from ≡ Some first
       → length (file_with_first (Some first) l file s)
       ≡ others_length first file s + size_of s.class l.placed
@@ -130,7 +130,7 @@ module _ (l : LaidPart) (file : List ℕ) (s : SurveyFields) (is : CanBeRelaid f
         length-append frames back,
       )
 
--- ---- by two plans
+-- ---- two plans
 
 module _ (l : LaidPart) (other : List Placed) (file : List ℕ) (s : SurveyFields)
     (is : CanBeRelaid file s)
@@ -152,6 +152,6 @@ module _ (l : LaidPart) (other : List Placed) (file : List ℕ) (s : SurveyField
         length-file by_other file s is some within fits extension first found,
       )
 
-  -- of the same frames the file of shorter slots is the shorter one
+  -- of two files of the same frames the one with shorter slots is the shorter
   pub no-longer : length (file_laid l file s) ≤ length (file_laid by_other file s)
   no-longer = from-first (slice_get s.frames l.from) refl

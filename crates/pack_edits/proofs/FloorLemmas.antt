@@ -1,4 +1,4 @@
--- Where all bit rates from one on are allowed, no file is refused with `Unfit`.
+-- If all bit rates from one on are allowed, no file is refused with `Unfit`.
 use Rattle.std.proofs.Common.{ap, Bool, cond, Err, false, inl, inr, length, List, nat_le, nat_lt}
 use Rattle.std.proofs.Common.{None, Ok, refl, Result, Some, true, ℕ, ◌&&◌, ◌≡◌}
 use Rattle.commands.specs.Refusing.{refusal_or, then_made}
@@ -64,7 +64,7 @@ module _ (rate i : ℕ) (file : List ℕ) (s : SurveyFields)
         | inr no_plan ↦ unfit-plan no_plan.0 no_plan.1 no_plan.2
       ]
 
--- with all bit rates from one of the class on no file is refused for want of room
+-- with all bit rates of the class from one on, no file is refused because there is no room
 pub floors-fit : FloorsFit
 unfolding made_file
 floors-fit rate i file made = at (survey_of file most_frames) refl made

@@ -1,5 +1,5 @@
--- A file of at most so many frames: its faults, and that it
--- has none where more frames are allowed, if it has none here.
+-- A file of at most as many frames as are allowed: its faults, and that it has none if more frames
+-- are allowed.
 use Rattle.std.proofs.Common.{ap, arith, Bool, Err, false, IfErr, inl, inr, length, List, None, Ok}
 use Rattle.std.proofs.Common.{Option, refl, Result, rules, Some, subst, sym, ℕ, [], ◌==◌, ◌∙◌, ◌∷◌}
 use Rattle.std.proofs.{Common.{◌≡◌, ◌≤◌}, lemmas.Bool.ne_eqb}
@@ -28,7 +28,7 @@ use Rattle.sync_survey.specs.{MainData.{rows_of, StreamFrame}, Row.Row, Survey.s
 use Rattle.sync_survey.specs.{Walk.head_of, declared.places.Head.Head}
 use Rattle.sync_survey.specs.declared.survey_fault.SurveyFault.{SurveyFault, TheVariants.Absent}
 
--- ---- where more frames are allowed
+-- ---- more frames are allowed
 
 same_count : (n : ℕ) → (n == n) ≡ false → ⊥
 same_count n is = search rules
@@ -80,7 +80,7 @@ survey_of-more file allowed other s more e =
     })
     ∙ ap Ok parts.2
 
--- ---- where the source has no fault
+-- ---- the source has no fault
 
 limited-sound : (allowed : ℕ) (o : Option (List ℕ)) (made : Result (List ℕ) EditFault)
     → ((file : List ℕ) → o ≡ Some file → (s : SurveyFields) × (survey_of file allowed ≡ Ok s))
@@ -110,7 +110,7 @@ limited-late allowed file made few late = at (survey_of file allowed) refl
     at (Ok s) is = late
 
 module _ (allowed : ℕ) (task : Task) where
-  -- by what the folder tells, the source has no fault
+  -- the source has no fault, if its content is known
   abbrev pub IsFaultless : Files → Type 0
   IsFaultless files = (file : List ℕ) → Holds files task.source file
       → (s : SurveyFields) × (survey_of file allowed ≡ Ok s)
@@ -129,7 +129,7 @@ module _ (allowed : ℕ) (task : Task) where
       subst (λ r. IfErr r P) (sym (limited-sound allowed (f task.source) (task.makes f) sound)) is
 
   module _ (old new : Seen) (fault : EditFault) (sound : IsFaultless old.files) where
-    -- a fault before the output is one with the limit too
+    -- a fault before the output is created is one with the limit too
     pub limited-early : IsEarlyFault task old new fault
         → IsEarlyFault (limited_task (Some allowed) task) old new fault
     limited-early h = each_why (why_of fault) h (record {
@@ -152,7 +152,7 @@ module _ (allowed : ℕ) (task : Task) where
       no_memory = λ n. n;
     })
 
-  -- a fault has the numbers of the task without the limit
+  -- a fault with the numbers of the task has the numbers of the task with the limit
   pub limited-numbers : (fault : EditFault) → HasTaskNumbers task fault
       → HasTaskNumbers (limited_task (Some allowed) task) fault
   limited-numbers (Input place fault) h = h
@@ -173,7 +173,7 @@ module _ (allowed : ℕ) (task : Task) where
       at (Told f) sound makes = λ bytes held. let m = makes bytes held in
           (m.0, limited-sound allowed (f task.source) (task.makes f) sound ∙ m.1)
 
-  -- a proper task is so with the limit
+  -- a proper task is proper with the limit
   pub limited-proper : IsProperTask task → IsProperTask (limited_task (Some allowed) task)
   limited-proper proper = record {
     some = proper.some;
@@ -209,7 +209,7 @@ module _ (allowed : ℕ) (make : Making) (stream : List ℕ → List StreamFrame
       ap (λ o. limited_result (Some allowed) o (input_result make o)) missing
 
   module _ (old new : Seen) (fault : EditFault) where
-    -- a fault of the file by the limit comes before the output is created
+    -- a fault of the file with the limit is one met before the output is created
     pub survey-early : IsFileFault 0 allowed input old new fault
         → IsEarlyFault (limited_task (Some allowed) of_file) old new fault
     survey-early h = each_why (why_of fault) h (record {

@@ -1,5 +1,5 @@
--- The slots of some bit rates: their areas ascend, there are some where the named one is a
--- bit rate of the class, and the largest slot is among those of all bit rates from one on.
+-- The slots of some bit rates: their areas ascend, there are some if the named one is a bit rate of
+-- the class, and the largest slot is among the slots of all bit rates from one on.
 use Rattle.std.proofs.Common.{All, AllPairs, arith, Bool, cond, Contains, false, filter, get_or}
 use Rattle.std.proofs.Common.{leb, length, List, None, refl, slice_index, Some, subst, suc, true}
 use Rattle.std.proofs.Common.{zero, ℕ, [], ◌&&◌, ◌-◌, ◌<◌, ◌==◌, ◌∷◌, ◌≡◌, ◌≤◌}
@@ -18,9 +18,9 @@ use Rattle.rate_plan.specs.Menus.{HasAscendingAreas}
 use Rattle.requests.specs.declared.mode.PackMode.{PackMode, TheVariants.{Constant, Floor}}
 use Rattle.slot_plan.specs.Parts.{slot_areas}
 
--- ---- in the order of their areas
+-- ---- in order of area
 
--- the areas of some of the slots ascend where those of all do
+-- the areas of some of the slots ascend if the areas of all do
 pub menu-areas : (p : SlotFields → Bool) (class : ClassFields) (protected : Bool)
     → AllPairs (λ m n. m < n) (areas_of class protected)
     → AllPairs (λ m n. m < n) (slot_areas class protected (filter p all_slots))
@@ -51,14 +51,14 @@ pub menu-ascends : (mode : PackMode) (class : ClassFields) → IsClass class
 menu-ascends mode class sound =
     λ protected. menu-areas (allows mode class) class protected (areas-ascend class sound protected)
 
--- ---- they are slots
+-- ---- menus have slots of the standard
 
 -- all slots have legal bit rates
 pub all-slots : All IsSlot all_slots
 all-slots = λ k d within. subst IsSlot (get_or_default all_slots k (slot_of 1 false) d within)
     (IsSlot-nth_slot k (omega (arith, within, length-all_slots)))
 
--- so have those of a menu
+-- the slots of a menu have legal bit rates
 pub menu-slots : (mode : PackMode) (class : ClassFields) (slot : SlotFields)
     → Contains (menu_in mode class) slot → IsSlot slot
 menu-slots mode class slot has =
@@ -77,7 +77,7 @@ rate-is rate class none = omega
     at true is none = is
     at false is none = absurd cc
 
--- ---- the largest
+-- ---- the largest slot
 
 rates-top : (version : Version) → list_all (λ (s : SlotFields). leb (slice_index (rates version)
     (s.rate_index - 1)) (slice_index (rates version) 13)) all_slots ≡ true
@@ -85,7 +85,7 @@ unfolding all_slots slots_to
 rates-top One = refl
 rates-top _ = refl
 
--- where all of these numbers are at most this, so is one of them
+-- if all of these numbers are at most `most`, so is one of them
 any-most : (f : SlotFields → ℕ) (n most : ℕ) (xs : List SlotFields)
     → list_all (λ x. leb (f x) most) xs ≡ true → 1 ≤ length (filter (λ x. f x == n) xs) → n ≤ most
 any-most f n most [] all some = absurd (omega (arith, some))
@@ -137,7 +137,7 @@ floor-largest rate class none =
     (rates-top class.version) (rate-is rate class none) in
     largest-kept (Floor rate) class (le-leb rate (rate_of class largest_slot) most)
 
--- ---- there are some
+-- ---- menus have at least one slot
 
 kept-some : (mode : PackMode) (class : ClassFields) → Contains (menu_in mode class) largest_slot
     → 1 ≤ length (menu_in mode class)

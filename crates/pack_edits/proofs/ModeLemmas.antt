@@ -1,4 +1,4 @@
--- What the one body asks of a packing in each mode.
+-- What the one body requires of a packing in each mode.
 use Rattle.std.proofs.Common.{arith, IfErr, inr, length, List, Ok, refl, subst, ℕ, ◌<◌, ◌≡◌, ◌≤◌}
 use Rattle.commands.proofs.InputLemmas.{fault_is_input, input_is_early, input_numbers}
 use Rattle.commands.proofs.InputLemmas.{of_survey_input}
@@ -29,7 +29,7 @@ pub allowed-most : (mode : PackMode) → allowed_frames mode ≤ most_frames
 allowed-most Best = omega arith
 allowed-most _ = omega arith
 
--- by the plan frames can be laid, with at most one lead-in
+-- frames can be laid by the plan of a mode
 module _ (chosen : Chosen) (s : SurveyFields) (placed : IsPlacedSurvey s)
     (some : chosen.from < chosen.to)
     (within : chosen.to ≤ length s.frames) where
@@ -40,7 +40,7 @@ module _ (chosen : Chosen) (s : SurveyFields) (placed : IsPlacedSurvey s)
     few = plan-few chosen s placed some within any_choice (inr refl);
   }
 
-  -- by the plan of a mode they can be laid, with at most one lead-in
+  -- frames can be laid by the plan of a mode, with at most one lead-in
   pub mode-fitting : (mode : PackMode) (plan : List Placed)
       → mode_planning mode s.class (chosen_needs chosen s) ≡ Ok plan
       → IsFittingFew (window_of s.class.version) (chosen_needs chosen s) plan
@@ -53,7 +53,7 @@ module _ (chosen : Chosen) (s : SurveyFields) (placed : IsPlacedSurvey s)
   mode-fitting (Floor rate) plan planned =
       chosen-fitting chosen s placed some within (Floor rate) plan planned
 
--- the plans of each mode are late in their refusals, and can be laid
+-- the plans of each mode are refused late, and frames can be laid by them
 pub planning : (mode : PackMode) → IsPlanning (mode_planning mode)
 planning mode = record {
   late = late mode;
@@ -81,7 +81,7 @@ pub mode_proper : (mode : PackMode) (input : List ℕ) → IsProperTask (pack_ta
 mode_proper Best input = limited-proper most_best (free_task Best input) (free_proper Best input)
 mode_proper mode input = free_proper mode input
 
--- a fault of the survey comes before the output is created
+-- a fault of the survey is one met before the output is created
 pub mode_survey : (mode : PackMode) (input : List ℕ) (old new : Seen) (fault : EditFault)
     → IsFileFault 0 (allowed_frames mode) input old new fault
     → IsEarlyFault (pack_task mode input) old new fault
@@ -93,7 +93,7 @@ mode_survey mode input old new fault is =
     input_is_early make (laying_stream all_choice (mode_planning mode))
     (mode_refuses mode) input old new fault (fault_is_input make input old new fault is)
 
--- the input has no fault where so many frames are allowed
+-- the input has no fault when as many frames as in this mode are allowed
 abbrev pub IsAllowed : PackMode → List ℕ → Files → Type 0
 IsAllowed mode input files = (file : List ℕ) → Holds files input file
     → (s : SurveyFields) × (survey_of file (allowed_frames mode) ≡ Ok s)
@@ -105,7 +105,7 @@ free_early mode input old new fault is =
     input_is_early (laying_making all_choice (mode_planning mode))
     (laying_stream all_choice (mode_planning mode)) (mode_refuses mode) input old new fault is
 
--- a fault that was met after the survey
+-- a fault met after the survey is one met before the output is created
 pub mode_early : (mode : PackMode) (input : List ℕ) (old new : Seen) (fault : EditFault)
     → IsAllowed mode input old.files
     → IsInputFault (laying_making all_choice (mode_planning mode)) input old new fault
@@ -119,20 +119,20 @@ free_numbers : (mode : PackMode) (input : List ℕ) (fault : EditFault)
 free_numbers mode input fault is = input_numbers (laying_making all_choice (mode_planning mode))
     (laying_stream all_choice (mode_planning mode)) (mode_refuses mode) input fault is
 
--- a fault of the input has the numbers of the command's inputs
+-- the numbers of a fault of the input are in the range of the command's inputs
 pub mode_numbers : (mode : PackMode) (input : List ℕ) (fault : EditFault)
     → HasInputNumbers (mode_refuses mode) fault → HasTaskNumbers (pack_task mode input) fault
 mode_numbers Best input fault is =
     limited-numbers most_best (free_task Best input) fault (free_numbers Best input fault is)
 mode_numbers mode input fault is = free_numbers mode input fault is
 
--- so has a fault of the survey
+-- the numbers of a fault of the survey are in the range of the command's inputs
 pub mode_survey_numbers : (mode : PackMode) (input : List ℕ) (fault : EditFault)
     → HasSurveyNumbers 0 fault → HasTaskNumbers (pack_task mode input) fault
 mode_survey_numbers mode input fault is =
     mode_numbers mode input fault (of_survey_input (mode_refuses mode) fault is)
 
--- what is written of a file with no more frames than allowed is what the command makes
+-- what is written for a file with no more frames than allowed is what the command makes
 pub mode_makes : (mode : PackMode) (input : List ℕ) (made : List ℕ → List ℕ) (files : Files)
     → IsAllowed mode input files
     → IsMaking (laying_task all_choice (mode_planning mode) (mode_refuses mode) input) made files

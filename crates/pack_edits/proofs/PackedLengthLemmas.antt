@@ -1,4 +1,4 @@
--- What `pack --best` writes, and what `pack` writes of the same input.
+-- What `pack --best` writes, and what `pack` writes for the same input.
 use Rattle.std.proofs.Common.{ap, Err, length, List, None, Ok, OnOk, Option, refl, Result, Some}
 use Rattle.std.proofs.Common.{subst, sym, ℕ, [], ◌∙◌, ◌∷◌, ◌≡◌, ◌≤◌}
 use Rattle.best_plan.specs.Best.{IsBestPlan}
@@ -33,8 +33,8 @@ use Rattle.sync_survey.specs.declared.survey_fault.SurveyFault.{SurveyFault}
 
 -- ---- what is written
 
--- no name clashes, the input is there without fault, all its frames are
--- chosen, and these are the bytes of them in the slots of their best plan
+-- no name clashes, the input is there without fault, all its frames are chosen, and these are their
+-- bytes in the slots of their best plan
 record IsMadeOf (input output : List ℕ) (files : Contents) (made : List ℕ) : Type 0 where
   apart : clash_from (output ∷ []) 0 (input ∷ []) ≡ None
   file : List ℕ
@@ -80,7 +80,7 @@ module _ (input output : List ℕ) (files : Contents) (made : List ℕ) where
   unfolding task_result
   made-of e = by-clash (clash_from (output ∷ []) 0 (input ∷ [])) refl e
 
--- ---- its length
+-- ---- the length of what is written
 
 module _ (input output : List ℕ) (files : Contents) (best : List ℕ)
     (m : IsMadeOf input output files best) where
@@ -127,7 +127,7 @@ module _ (input output : List ℕ) (files : Contents) (best : List ℕ)
         fewest = by-other;
       }
 
-  -- ---- beside that of the plain packing
+  -- ---- the length of the plain packing
 
   abbrev plain : List Placed
   plain = first_plan any_choice m.survey.class (chosen_needs m.by.chosen m.survey)
@@ -161,7 +161,7 @@ longer-never = λ input output files best e.
       plain-longer input output files best m,
     )
 
--- no plan by which the frames can be laid makes a shorter file than `pack --best`
+-- no plan by which the frames can be laid gives a shorter file than `pack --best`
 pub bytes-fewest : FewestBytes
 bytes-fewest = λ input output files best e.
     let m = made-of input output files best e in
@@ -195,7 +195,7 @@ written-fewest input output file made (Told f) new done there holds =
     let same : least.0 ≡ file = let both : Some least.0 ≡ Some file = sym least.1 ∙ there in cc in
     subst (λ (l : List ℕ). IsFewestBytes l made) same least.2
 
--- so what it wrote has the fewest bytes
+-- what the command wrote has the fewest bytes
 pub done-fewest : (mode : PackMode) (input output : List ℕ) (old new : Seen)
     → IsCommandDone (pack_mode_command mode input output) old new
     → WritesFewest mode input output old.files new.files
@@ -204,7 +204,7 @@ done-fewest Best input output old new done = λ file made there holds. written-f
 done-fewest (Constant rate) input output old new done = tt
 done-fewest _ input output old new done = tt
 
--- what a run with this answer left
+-- a run that was done wrote the fewest bytes
 pub run-fewest : (mode : PackMode) (input output : List ℕ) (old new : Seen)
     (answer : Result (Unit {0}) EditFault)
     → IsRunOf (pack_mode_command mode input output) old new answer

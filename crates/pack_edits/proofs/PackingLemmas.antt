@@ -1,5 +1,4 @@
--- Faults that are met before the output is created:
--- of the frames that were chosen, and of their plan.
+-- Faults that are met before the output is created: of the chosen frames, and of their plan.
 use Rattle.std.proofs.Common.{Bool, Err, List, Ok, subst, ℕ, ◌≡◌}
 use Rattle.commands.proofs.InputLemmas.{memory_is_input, refused_is_input}
 use Rattle.commands.specs.AfterCall.{HasInputNumbers}
@@ -14,13 +13,13 @@ use Rattle.pack_edits.specs.Answers.{IsPlanFault}
 use Rattle.slot_plan.specs.declared.needs.Need.{Need}
 use Rattle.sync_survey.specs.{Faults.SurveyFields, Survey.survey_of}
 
--- a fault that was met in a state equal to the old one
+-- a fault that was met in a state equal to the old one is one of the old one
 pub input_moved : (make : Making) (name : List ℕ) (before old new : Seen) (fault : EditFault)
     → before ≡ old → IsInputFault make name before new fault → IsInputFault make name old new fault
 input_moved make name before old new fault same is =
     subst (λ o. IsInputFault make name o new fault) same is
 
--- the input was surveyed, its frames were chosen, and there is no plan of them
+-- the input was surveyed, its frames were chosen, and they have no plan
 module _ (plan : Planning) (refuses : Refusal → Bool) (name : List ℕ) (old new : Seen)
     (s : SurveyFields) (chosen : Chosen) (there : IsFileThere old.files name)
     (surveyed : (bytes : List ℕ) → Holds old.files name bytes → survey_of bytes most_frames ≡ Ok s)
@@ -31,7 +30,7 @@ module _ (plan : Planning) (refuses : Refusal → Bool) (name : List ℕ) (old n
       → laying_making all_choice plan file s ≡ Err fault
   unplanned file fault is none = laying-is all_choice plan file s chosen (Err fault) is none
 
-  -- a fault of the plan is one of the input
+  -- a fault of the plan is a fault of the input
   pub plan_is_input : (fault : EditFault)
       → IsPlanFault plan refuses s.class (chosen_needs chosen s) fault
       → IsInputFault (laying_making all_choice plan) name old new fault
@@ -43,7 +42,7 @@ module _ (plan : Planning) (refuses : Refusal → Bool) (name : List ℕ) (old n
       memory_is_input (laying_making all_choice plan) name old new s there surveyed stays
   plan_is_input _ is = absurd is
 
--- a fault of the plan has the numbers of the input
+-- a fault of the plan has the numbers of a fault of the input
 pub plan_numbers : (plan : Planning) (refuses : Refusal → Bool) (class : ClassFields)
     (needs : List Need) (fault : EditFault) → IsPlanFault plan refuses class needs fault
     → HasInputNumbers refuses fault

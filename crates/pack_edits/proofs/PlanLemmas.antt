@@ -1,5 +1,5 @@
--- The plan with the slots of some bit rates: it can be laid,
--- and with all bit rates from one on there is always one.
+-- The plan with the slots of some bit rates: frames can be laid by it, and with all bit rates from
+-- one on there is always one.
 use Rattle.std.proofs.Common.{All, ap, append-nil, arith, Bool, Contains, drop, Err, false, get_or}
 use Rattle.std.proofs.Common.{IfErr, length, length-drop, List, map, MatchResult, None, Ok, refl}
 use Rattle.std.proofs.Common.{Result, subst, suc, sym, true, zero, ℕ, [], ◌+◌, ◌-◌, ◌<◌, ◌∙◌, ◌∷◌}
@@ -33,7 +33,7 @@ use Rattle.sync_survey.specs.{Faults.SurveyFields, Row.Row}
 
 -- ---- from a menu
 
--- behind a lead-in from the menu or none the places are asked for the frames
+-- after a lead-in from the menu or none the places are for the frames
 pub asks-from : (lead_in : Bool) (menu : List SlotFields) (needs : List Need)
     → Asks (menu_items lead_in menu needs) needs
 unfolding menu_items
@@ -69,12 +69,12 @@ for-length [] [] for_items = refl
 for-length (item ∷ items) (p ∷ placed) for_items = ap suc (for-length items placed for_items.2)
 for-length _ _ for_items = absurd for_items
 
--- by it frames can be laid, with at most one lead-in
+-- frames can be laid by the plan, with at most one lead-in
 pub record IsFittingFew (window : ℕ) (needs : List Need) (placed : List Placed) : Type 0 where
   pub fitting : IsFittingPlan window needs placed
   pub few : length placed ≤ length needs + 1
 
--- these items ask for these frames, and were laid as early as they may be
+-- these items are for these frames, and were laid as early as they may be
 pub items-fitting : (window : ℕ) (lead_in : Bool) (menu : List SlotFields) (needs : List Need)
     (items : List PlanItem) → menu_items lead_in menu needs ≡ items
     → ((slot : SlotFields) → Contains menu slot → IsSlot slot) → (placed : List Placed)
@@ -107,7 +107,7 @@ menu-fitting window menu needs placed slots is =
 
 -- ---- with the slots of some bit rates
 
--- a plan that isn't refused is the one that was found
+-- a plan that isn't refused is the plan that was found
 pub fitted-ok : (r : Result (List Placed) ℕ) (placed : List Placed) → fitted_plan r ≡ Ok placed
     → r ≡ Ok placed
 fitted-ok (Ok first) placed is = cc
@@ -126,7 +126,7 @@ rates-late mode class needs =
     (unless_late (no_rate mode class) (menu_in mode class))
     (λ menu. fitted-late (least_menu_plan (window_of class.version) menu needs))
 
--- by a plan the frames can be laid
+-- frames can be laid by a plan that isn't refused
 pub rates-fitting : (mode : PackMode) (class : ClassFields) (needs : List Need)
     (placed : List Placed) → IsClass class → AreNeedsOfClass class needs → 1 ≤ length needs
     → rates_plan mode class needs ≡ Ok placed → IsFittingFew (window_of class.version) needs placed
@@ -142,9 +142,9 @@ rates-fitting mode class needs placed sound same some planned =
     (((least_menu_plan-is window class (menu_in mode class) needs same some
     (menu-ascends mode class sound) (menu-some mode class ok.0)).0 placed).1 is)
 
--- ---- what the planner answers
+-- ---- what the planner returns
 
--- the window of the needs is that of their class
+-- the window of the needs is the window of their class
 pub window-is : (class : ClassFields) (needs : List Need) → AreNeedsOfClass class needs
     → 1 ≤ length needs → window_in needs ≡ window_of class.version
 unfolding AreNeedsOfClass
@@ -159,22 +159,22 @@ is-menu class menu [] same ascend = tt
 is-menu class menu (first ∷ needs) same ascend =
     subst (λ c. HasAscendingAreas c menu) (sym same.0) ascend
 
--- what the planner is given of frames
+-- what the planner is given for frames
 pub needs-one : (rows : List Row) → needs_of_parts (rows ∷ []) ≡ map need_of rows
 unfolding needs_of_parts
 needs-one rows = append-nil (map need_of rows)
 
--- what the planner is given of one part
+-- what the planner is given for one part
 pub given-needs : (rows : List Row) (parts : PlanInput) (needs : List Need)
     → parts ≡ plan_input (rows ∷ []) → needs ≡ parts.needs → needs ≡ map need_of rows
 given-needs rows parts needs same is = is ∙ ap (λ (a : PlanInput). a.needs) same ∙ needs-one rows
 
--- what it says of the plan from this menu
+-- what the planner returns for this menu
 abbrev Says : ℕ → List SlotFields → List Need → Result Plan RateFault → Type 0
 Says window menu needs r = MatchResult r (λ plan. least_menu_plan window menu needs
     ≡ Ok (entries plan)) (IsMenuFault (least_menu_plan window menu needs))
 
--- what the planner says of the needs' window it says of that of their class
+-- what the planner returns with the window of the needs is right for the window of their class
 pub planner-says : (class : ClassFields) (menu : List SlotFields) (needs : List Need)
     (r : Result Plan RateFault) → AreNeedsOfClass class needs → 1 ≤ length needs
     → Says (window_in needs) menu needs r → Says (window_of class.version) menu needs r
@@ -210,7 +210,7 @@ IsNamed _ = ⊥
 module _ (chosen : Chosen) (s : SurveyFields) (placed : IsPlacedSurvey s)
     (some : chosen.from < chosen.to)
     (within : chosen.to ≤ length s.frames) where
-  -- some frames are chosen
+  -- at least one frame is chosen
   pub rows-some : 1 ≤ length (chosen_rows chosen s)
   rows-some = omega (
     arith,
@@ -220,7 +220,7 @@ module _ (chosen : Chosen) (s : SurveyFields) (placed : IsPlacedSurvey s)
     length-take (chosen.to - chosen.from) (drop chosen.from s.frames),
   )
 
-  -- no more than the survey has
+  -- no more frames are chosen than the survey has
   pub rows-few : length (chosen_rows chosen s) ≤ length s.frames
   rows-few = omega (
     arith,
@@ -228,20 +228,20 @@ module _ (chosen : Chosen) (s : SurveyFields) (placed : IsPlacedSurvey s)
     length-take (chosen.to - chosen.from) (drop chosen.from s.frames),
   )
 
-  -- they are of its class
+  -- the needs are of the class of the survey
   pub rows-same : AreNeedsOfClass s.class (chosen_needs chosen s)
   rows-same = (part-fits s chosen.from chosen.to placed).0
 
-  -- which is one of the standard
+  -- the class is one of the standard
   pub rows-sound : IsClass s.class
   rows-sound = class-sound s.class (chosen_rows chosen s)
       (part-known s chosen.from chosen.to placed) rows-same rows-some
 
-  -- so there are needs
+  -- there is at least one need
   pub needs-some : 1 ≤ length (chosen_needs chosen s)
   needs-some = omega (arith, rows-some, length-map (chosen_rows chosen s) need_of)
 
-  -- by the plan of a menu they can be laid
+  -- the frames can be laid by the plan of a menu
   pub chosen-fitting : (mode : PackMode) (plan : List Placed)
       → rates_plan mode s.class (chosen_needs chosen s) ≡ Ok plan
       → IsFittingFew (window_of s.class.version) (chosen_needs chosen s) plan
@@ -256,7 +256,7 @@ module _ (chosen : Chosen) (s : SurveyFields) (placed : IsPlacedSurvey s)
   menu_answer mode =
       least_menu_plan (window_of s.class.version) (menu_in mode s.class) (chosen_needs chosen s)
 
-  -- where the largest slot is allowed no frame is unfit
+  -- if the largest slot is allowed, no frame is unfit
   never-unfit : (mode : PackMode) (i : ℕ) → no_rate mode s.class ≡ None
       → Contains (menu_in mode s.class) largest_slot → menu_answer mode ≡ Err i → ⊥
   never-unfit mode i none largest is =
@@ -269,7 +269,7 @@ module _ (chosen : Chosen) (s : SurveyFields) (placed : IsPlacedSurvey s)
       (known-slots (chosen_rows chosen s) known) largest
       (part-fits s chosen.from chosen.to placed).1 unfit
 
-  -- so it is with all bit rates from one on
+  -- with all bit rates from one on, no frame is unfit
   pub floor-unfit : (rate i : ℕ) → no_rate (Floor rate) s.class ≡ None
       → menu_answer (Floor rate) ≡ Err i → ⊥
   floor-unfit rate i none is = never-unfit (Floor rate) i none (floor-largest rate s.class none) is
@@ -286,7 +286,7 @@ module _ (chosen : Chosen) (s : SurveyFields) (placed : IsPlacedSurvey s)
   IsFaultIn mode fault =
       IsPlanFault (mode_planning mode) (mode_refuses mode) s.class (chosen_needs chosen s) fault
 
-  -- what the planner of a menu answers, where it is asked for a plan of one
+  -- a fault of the planner of a menu is a fault of the mode
   pub menu-fault : (mode : PackMode) (fault : RateFault) → IsNamed mode → no_rate mode s.class
       ≡ None → IsMenuFault (menu_answer mode) fault → IsFaultIn mode (rate_edit_fault fault)
   menu-fault (Constant rate) (Unfit i) named none is =

@@ -1,5 +1,5 @@
--- Of all plans by which frames can be laid, with no lead-ins
--- but those of the best plan, none has shorter slots.
+-- Of all plans by which frames can be laid, with no lead-ins other than the best plan's, none has
+-- shorter slots.
 use Rattle.std.proofs.Common.{All, ap, arith, Bool, Contains, false, inl, inr, List, map, None}
 use Rattle.std.proofs.Common.{Option, refl, Some, subst, suc, sum, sym, true, ℕ, [], ◌+◌, ◌↔◌, ◌∙◌}
 use Rattle.std.proofs.{Common.{◌∷◌, ◌≡◌, ◌≤◌}, lemmas.List.{Elements.All-cons, Sums.sum_by-cons}}
@@ -20,7 +20,7 @@ use Rattle.slot_plan.specs.Parts.{need_item, open_frame, part_items, PlanItem}
 use Rattle.slot_plan.specs.{Plans.{AreItemSlots, IsPlan, item_areas}, Reserve.free_bytes_behind}
 use Rattle.slot_plan.specs.declared.needs.{Need.Need, Placed.Placed}
 
--- ---- where lead-ins are
+-- ---- places of lead-ins
 
 -- the places of lead-ins are those of the items
 abbrev Flagged : List PlanItem → List Placed → Type 0
@@ -56,7 +56,7 @@ flagged-none window reach (need ∷ needs) (o ∷ other) fits none =
     )
 flagged-none window reach _ _ fits none = absurd fits
 
--- ---- such a plan has one of the lists among which the best is the shortest
+-- ---- a plan has one of the lists among which the best is the shortest
 
 abbrev AreWide : List PlanItem → Type 0
 AreWide [] = Unit {0}
@@ -84,7 +84,7 @@ for-flagged (item ∷ items) (p ∷ placed) wide flagged slots = (
 )
 for-flagged _ _ wide flagged slots = absurd flagged
 
--- its main data have room, whatever main_data_begin it gives them
+-- in the areas of the plan there is room for the main data, whatever main_data_begin it gives them
 fits-room : (window reach free : ℕ) (items : List PlanItem) (needs : List Need)
     (placed : List Placed) → Asks items needs → Flagged items placed
     → FitsFromReach window reach needs placed → reach ≤ free
@@ -107,7 +107,7 @@ fits-room window reach free (item ∷ items) (need ∷ needs) (p ∷ placed) ask
     )
 fits-room window reach free _ _ _ asks flagged fits within = absurd flagged
 
--- ---- the lengths of its slots
+-- ---- the lengths of the slots
 
 abbrev AreAllOf : ClassFields → List PlanItem → Type 0
 AreAllOf c [] = Unit {0}
@@ -126,7 +126,7 @@ all-behind c false needs same = all-each c needs same
 all-behind c true [] same = tt
 all-behind c true (first ∷ needs) same = (same.0, all-each c (first ∷ needs) same)
 
--- what isn't area
+-- the bytes of frames outside their areas
 abbrev overheads : List PlanItem → ℕ
 overheads [] = 0
 overheads (item ∷ items) = overhead_of item.class item.protected + overheads items
@@ -203,7 +203,7 @@ module _ (window : ℕ) (c : ClassFields) (needs : List Need) (class : IsClass c
   unfolding items_with_lead_in
   lead-none lead_in without can = sym (without.1 can)
 
-  -- the slots of the best plan are together the shortest of all plans with as many lead-ins or more
+  -- the slots of the best plan are together the shortest of all plans with no other lead-ins
   pub best-least : (best other : List Placed) → IsBestPlan window any_choice needs best
       → AreInSlots best → IsFittingPlan window needs other → HasNoMoreLeadIns best other
       → size_of c best ≤ size_of c other
@@ -217,7 +217,7 @@ module _ (window : ℕ) (c : ClassFields) (needs : List Need) (class : IsClass c
       behind-least is.lead_in best other is.whole slots fitting
       (subst (λ b. Flagged (items_with_lead_in b any_choice needs) other) without flagged)
 
--- ---- the plain plan has no other lead-ins
+-- ---- the plain plan has no lead-ins other than the best plan's
 
 flags-for : (items : List PlanItem) (placed : List Placed) → AreItemSlots items placed
     → lead_ins placed ≡ map (λ (item : PlanItem). item.lead_in) items
@@ -265,7 +265,7 @@ module _ (window : ℕ) (best placed : List Placed) where
       (subst (λ (l : List PlanItem). AreItemSlots l placed)
       (whole-one any_choice needs other) for_items)
 
-  -- the best plan has no more places than any plan
+  -- the plain plan has its lead-ins where the best plan has them, or none
   pub plan-no_more : (needs : List Need) → IsBestPlan window any_choice needs best
       → IsPlan window any_choice (needs ∷ []) placed → HasNoMoreLeadIns best placed
   plan-no_more needs is plan =

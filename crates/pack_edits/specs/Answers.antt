@@ -1,4 +1,4 @@
--- What the survey of an input that is packed answers, and the planner of its frames.
+-- What the survey of an input that is packed returns, and the planner of its frames.
 use Rattle.std.specs.Prelude.{Bool, Err, IfErr, IfOk, length, List, Ok, OnOk, Result, true, ℕ, ◌≡◌}
 use Rattle.std.specs.Prelude.{◌≤◌}
 use Rattle.bit_fields.specs.Bits.{AreBytes}
@@ -14,14 +14,14 @@ use Rattle.slot_plan.specs.declared.needs.Need.{Need}
 use Rattle.sync_survey.specs.{Faults.survey_view, Survey.{IsSurveyLaidOut, survey_of}}
 use Rattle.sync_survey.specs.declared.surveys.Survey.{Survey}
 
--- why there is no plan: a refusal of the definition, which may come, or want of memory
+-- why there is no plan: a refusal of the definition, which may be returned, or out of memory
 abbrev pub IsPlanFault : Planning → (Refusal → Bool) → ClassFields → List Need → EditFault → Type 0
 IsPlanFault plan refuses class needs (Refused refusal) =
     (plan class needs ≡ Err (Refused refusal)) × (refuses refusal ≡ true)
 IsPlanFault plan refuses class needs Memory = Unit {0}
 IsPlanFault plan refuses class needs _ = ⊥
 
--- The input was surveyed, and has no more frames than the mode allows, or it is at fault.
+-- The input was surveyed, and has no more frames than the mode allows, or it has a fault.
 pub record PackedSurvey (mode : PackMode) (name : List ℕ) (old new : Seen)
     (result : Result Survey EditFault) : Type 0 where
   pub there : OnOk result (IsFileThere old.files name)
@@ -31,7 +31,7 @@ pub record PackedSurvey (mode : PackMode) (name : List ℕ) (old new : Seen)
       (λ s. OnFile old name (λ bytes. survey_of bytes (allowed_frames mode) ≡ Ok (survey_view s)))
   pub laid : IfOk result (λ s. IsSurveyLaidOut (survey_view s))
   pub few : IfOk result (λ s. length (survey_view s).frames ≤ allowed_frames mode)
-  -- what is told of it are bytes
+  -- the file's known content consists of bytes
   pub octets : OnOk result (OnFile old name AreBytes)
   pub refused : IfErr result (IsEarlyFault (pack_task mode name) old new)
   pub numbers : IfErr result (HasTaskNumbers (pack_task mode name))

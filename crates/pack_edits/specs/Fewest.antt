@@ -8,7 +8,7 @@ use Rattle.requests.specs.declared.mode.PackMode.{PackMode, TheVariants.Best}
 use Rattle.slot_plan.specs.declared.needs.Placed.{Placed}
 use Rattle.sync_survey.specs.{Faults.SurveyFields, Survey.survey_of}
 
--- which of the places of a plan are those of lead-ins
+-- which of the places of a plan are places of lead-ins
 abbrev pub lead_ins : List Placed → List Bool
 lead_ins placed = map (λ p. p.lead_in) placed
 
@@ -17,9 +17,9 @@ abbrev pub HasNoMoreLeadIns : List Placed → List Placed → Type 0
 HasNoMoreLeadIns placed other =
     (lead_ins other ≡ lead_ins placed) ⊎ All (λ p. p.lead_in ≡ false) other
 
--- These bytes are those of all frames of the file in the slots of a plan by which they can be laid,
--- between the file's blocks and after an Info frame. By every other plan by which they can be laid,
--- each frame in any of the 28 slots, and with no other lead-ins, there are at least as many bytes.
+-- These bytes are the file of all frames in the slots of a plan by which they can be laid, between
+-- the file's blocks and after an Info frame. Any other plan by which they can be laid, with each
+-- frame in any of the 28 slots and with no other lead-ins, takes at least as many bytes.
 pub record IsFewestBytes (file made : List ℕ) : Type 0 where
   pub survey : SurveyFields
   pub surveyed : survey_of file most_frames ≡ Ok survey

@@ -14,7 +14,7 @@ use Rattle.requests.specs.declared.mode.PackMode.TheVariants.{Best, Constant, Fl
 use Rattle.sync_survey.specs.{Faults.SurveyFields, Survey.survey_of}
 use Rattle.sync_survey.specs.declared.survey_fault.SurveyFault.{SurveyFault}
 
--- Of all lists of slots whose main data have room, with a lead-in only where there is none without,
+-- Of all lists of slots with room for the main data, with a lead-in only if there is none without,
 -- the one with the least sum of areas, and of several the lexicographically least (`best_plan_of`).
 -- The frames of a well-formed file have one (the law `best_exists`).
 abbrev pub best_planning : Planning
@@ -37,11 +37,11 @@ mode_refuses _ _ = false
 
 -- ---- how many frames are allowed
 
--- how many frames a file may have that is packed in the fewest bytes
+-- how many frames a file may have to be packed in the fewest bytes
 abbrev pub most_best : ℕ
 most_best = 200000
 
--- the other modes have no limit besides that of all commands
+-- the other modes have no limit besides the one of all commands
 abbrev pub mode_limit : PackMode → Option ℕ
 mode_limit Best = Some most_best
 mode_limit _ = None
@@ -56,26 +56,26 @@ abbrev pub survey_fault_or : Result SurveyFields SurveyFault → Result (List �
 survey_fault_or (Err fault) made = Err (Input 0 fault)
 survey_fault_or (Ok s) made = made
 
--- a file that has a fault where this many frames are allowed is refused with it
+-- a file that has a fault when this many frames are allowed is refused with it
 abbrev pub limited_result : Option ℕ → Option (List ℕ) → Result (List ℕ) EditFault
     → Result (List ℕ) EditFault
 limited_result None file made = made
 limited_result (Some allowed) None made = made
 limited_result (Some allowed) (Some file) made = survey_fault_or (survey_of file allowed) made
 
--- the same task for a source of at most as many frames as the limit, where there is one
+-- the same task for a source with at most as many frames as the limit, if there is one
 abbrev pub limited_task : Option ℕ → Task → Task
 limited_task limit task =
     record task { makes = λ files. limited_result limit (files task.source) (task.makes files) }
 
 -- ---- the command
 
--- what is made is the file of all frames in the slots that the mode chooses
+-- it makes the file of all frames in the slots that the mode chooses
 abbrev pub pack_task : PackMode → List ℕ → Task
 pack_task mode input =
     limited_task (mode_limit mode)
     (laying_task all_choice (mode_planning mode) (mode_refuses mode) input)
 
--- all frames of the input, packed in this mode, are the output
+-- the output is all frames of the input, packed in this mode
 abbrev pub pack_mode_command : PackMode → List ℕ → List ℕ → Command
 pack_mode_command mode input output = one_command (pack_task mode input) output

@@ -19,7 +19,7 @@ allows (Constant rate) class slot = rate_of class slot == rate
 allows (Floor rate) class slot = leb rate (rate_of class slot)
 allows _ class slot = true
 
--- the menu: the slots that are allowed, in the order of their areas
+-- the menu: the slots that are allowed, in order of area
 abbrev pub menu_in : PackMode → ClassFields → List SlotFields
 menu_in mode class = filter (allows mode class) all_slots
 
@@ -27,11 +27,11 @@ menu_in mode class = filter (allows mode class) all_slots
 abbrev pub is_rate : ℕ → ClassFields → Bool
 is_rate rate class = nat_lt 0 (length (menu_in (Constant rate) class))
 
--- the refusal of a bit rate that isn't one of the class
+-- the refusal of a bit rate that isn't a bit rate of the class
 abbrev pub rate_refusal : ℕ → ClassFields → Option Refusal
 rate_refusal rate class = if is_rate rate class then None else Some (NoRate rate)
 
--- what the mode names isn't a bit rate of the class
+-- the refusal of a mode that names what isn't a bit rate of the class
 abbrev pub no_rate : PackMode → ClassFields → Option Refusal
 no_rate (Constant rate) class = rate_refusal rate class
 no_rate (Floor rate) class = rate_refusal rate class
@@ -43,13 +43,13 @@ fitted_plan (Ok placed) = Ok placed
 fitted_plan (Err i) = Err (Refused (Unfit i))
 
 -- The first of all lists of slots from the menu for which there is a layout, without a lead-in or
--- else with one; or why there is none: the first frame up to which there is none.
+-- otherwise with one; or why there is none: the first frame up to which there is none.
 abbrev pub rates_plan : PackMode → ClassFields → List Need → Result (List Placed) EditFault
 rates_plan mode class needs =
     then_made (refusal_or (no_rate mode class) (menu_in mode class))
     (λ menu. fitted_plan (least_menu_plan (window_of class.version) menu needs))
 
--- a fault of the planner as one of a command
+-- a fault of the planner as a fault of a command
 abbrev pub rate_edit_fault : RateFault → EditFault
 rate_edit_fault (UnfitFrame i) = Refused (Unfit i)
 rate_edit_fault NoMemory = Memory

@@ -9,10 +9,10 @@ use requests::PackMode;
 use std::alloc::Global;
 use sync_survey::Survey;
 
-/// How many frames a file may have that is packed in the fewest bytes.
+/// How many frames a file may have to be packed in the fewest bytes.
 const MOST_BEST: u32 = 200_000;
 
-/// How many frames a file may have that is packed in this mode.
+/// How many frames a file may have to be packed in this mode.
 fn allowed(mode: PackMode) -> u32
     ensures { result ≡ allowed_frames mode }
 {
@@ -25,8 +25,8 @@ fn allowed(mode: PackMode) -> u32
 /// The survey of the input.
 ///
 /// # Errors
-/// `Input(0, ..)` with the fault of the survey, which is `TooManyFrames` where the input has more frames than the mode allows;
-/// `Memory`. The files stay.
+/// `Input(0, ..)` with the fault of the survey, which is `TooManyFrames` if the input has more
+/// frames than the mode allows; `Memory`. The files stay.
 pub(crate) fn survey_packed<D: Folder>(
     alloc: Global,
     folder: &mut D,

@@ -1,4 +1,5 @@
-//! Packing: all frames of a file in the least slots, in slots of some bit rates alone, or in those that take the fewest bytes.
+//! Packing: all frames of a file in the least slots, in slots of some bit rates alone, or in the
+//! slots that take the fewest bytes.
 #![tactic(auto)]
 
 mod calls;

@@ -18,7 +18,7 @@ fn allows(mode: PackMode, class: Class, slot: Slot) -> bool
     }
 }
 
-/// Those of some slots that have a bit rate which the mode allows.
+/// Those of the given slots that have a bit rate which the mode allows.
 fn allowed_of(mode: PackMode, class: Class, slots: &[Slot]) -> ArrayVec<Slot, 28>
     requires { length slots.now ≤ 28 }
     ensures { result.items ≡ filter (allows mode class) slots.now }
@@ -32,7 +32,7 @@ fn allowed_of(mode: PackMode, class: Class, slots: &[Slot]) -> ArrayVec<Slot, 28
     menu
 }
 
-/// The slots whose bit rates the mode allows, the areas ascending.
+/// The slots whose bit rates the mode allows, in order of area.
 pub(crate) fn menu_of(mode: PackMode, class: Class) -> ArrayVec<Slot, 28>
     ensures menu { result.items ≡ menu_in mode class }
     ensures ascending { HasAscendingAreas class result.items }

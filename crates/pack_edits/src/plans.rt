@@ -1,4 +1,4 @@
-//! The plan of all frames of a file by a mode, and the Info frame before them.
+//! The plan of all frames of a file in a mode, and the Info frame before them.
 ghost use Rattle.std.specs.Prelude.{◌≡◌, ◌≤◌, length, None, Ok, IfOk, IfErr, MatchResult};
 ghost use Rattle.frame_header.specs.Tables.{window_of};
 ghost use Rattle.slot_plan.specs.Parts.{AreNeedsOfClass};
@@ -24,7 +24,7 @@ use slot_plan::{Least, Need, Plan, plan};
 use std::alloc::Global;
 use sync_survey::Survey;
 
-/// `NoRate` where the mode names a bit rate, in kbit/s, that no slot of the class has.
+/// `NoRate` if the mode names a bit rate, in kbit/s, that no slot of the class has.
 fn no_rate(mode: PackMode, class: Class) -> Option<Refusal>
     ensures { result ≡ no_rate mode class }
 {
@@ -39,7 +39,7 @@ fn no_rate(mode: PackMode, class: Class) -> Option<Refusal>
     }
 }
 
-/// A fault of the planner as one of a command.
+/// A fault of the planner as a fault of a command.
 fn of_rate(fault: RateFault) -> EditFault
     ensures { result ≡ rate_edit_fault fault }
 {
@@ -49,8 +49,8 @@ fn of_rate(fault: RateFault) -> EditFault
     }
 }
 
-/// The plan of frames with slots whose bit rates the mode allows: `Unfit` with the first frame up to which the main data have no
-/// room; `Memory`.
+/// The plan of frames with slots whose bit rates the mode allows: `Unfit` with the first frame up
+/// to which there is no room for the main data; `Memory`.
 fn plan_menu(alloc: Global, class: Class, needs: &[Need], mode: PackMode) -> Result<Plan, RateFault>
     requires class { AreNeedsOfClass class needs.now }
     requires some { 1 ≤ length needs.now }
@@ -65,7 +65,7 @@ fn plan_menu(alloc: Global, class: Class, needs: &[Need], mode: PackMode) -> Res
     rate_plan(alloc, needs, menu.as_slice())
 }
 
-/// The plan of chosen frames by a mode.
+/// The plan of chosen frames in a mode.
 fn plan_by(
     alloc: Global,
     survey: &Survey,
@@ -103,10 +103,11 @@ fn plan_by(
     }
 }
 
-/// Chosen frames with their plan by a mode, and their Info frame.
+/// Chosen frames with their plan in a mode, and their Info frame.
 ///
 /// # Errors
-/// `NoRate` where the mode names what isn't a bit rate of the class, and `Unfit` where the frames don't fit; `Memory`.
+/// `NoRate` if the mode names what isn't a bit rate of the class, and `Unfit` if the frames don't
+/// fit; `Memory`.
 pub(crate) fn plan_packed(
     alloc: Global,
     survey: &Survey,

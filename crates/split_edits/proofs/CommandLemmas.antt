@@ -1,4 +1,4 @@
--- What the command leaves, by its steps.
+-- What the command leaves, given its steps.
 use Rattle.std.proofs.Common.{ap, arith, Err, inl, inr, length, List, map, None, Ok, Option, refl}
 use Rattle.std.proofs.Common.{Result, Some, subst, sym, take, ℕ, [], ◌+◌, ◌<◌, ◌∙◌, ◌∷◌, ◌≡◌, ◌≢◌}
 use Rattle.std.{proofs.Common.◌≤◌, specs.Prelude.{IfErr, ◌⊎◌}}
@@ -42,7 +42,7 @@ use Rattle.sync_survey.specs.declared.survey_fault.SurveyFault.TheVariants.{Abse
 
 -- ---- what is laid from one place on
 
--- what is laid with a first piece in front is that piece, and what is laid of the others
+-- what is laid with a first piece is that piece, and then what is laid for the others
 pub first-parts : (first : LaidPart) (r : Result (List LaidPart) EditFault) (ls : List LaidPart)
     → with_first first r ≡ Ok ls → (more : List LaidPart) × (r ≡ Ok more) × (first ∷ more ≡ ls)
 first-parts first (Ok more) ls e = (more, refl, cc)
@@ -82,7 +82,7 @@ takes (Ok made) late = tt
 takes (Err fault) late = late
 
 module _ {X : Type 0} (cut : Cutting X) (proper : IsProperCutting cut) where
-  -- ---- the refusals that come once memory was taken
+  -- ---- refusals that come after memory was taken
 
   made-late : (prefix file : List ℕ) (s : SurveyFields) (f : Contents)
       → IfErr (then_made (cut.places f) (places_result cut prefix file s)) IsLateFault
@@ -102,7 +102,7 @@ module _ {X : Type 0} (cut : Cutting X) (proper : IsProperCutting cut) where
       (sym (survey_of-short file most_frames few))
       (by-late prefix file f (survey_fields file most_frames) (surveyed_of_bytes file most_frames))
 
-  -- ---- none comes before the sheet is read
+  -- ---- no refusal comes before the sheet is read
 
   made-before : (prefix file : List ℕ) (s : SurveyFields) (f : Contents) → IfErr
       (then_made (cut.places f) (places_result cut prefix file s)) (IsNotBefore (Input 1 Read))
@@ -135,7 +135,7 @@ module _ {X : Type 0} (cut : Cutting X) (proper : IsProperCutting cut) where
     at-hold [] ls e = let none : [] ≡ ls = cc in subst (Hold 1) none tt
     at-hold (place ∷ places) ls e = from-hold 1 place places ls e
 
--- ---- what the told files make of the command
+-- ---- what the contents of the files make of the command
 
 if-told : (files : Files) {P : Contents → Type 0} → ((f : Contents) → files ≡ Told f → P f)
     → IfTold files P
@@ -168,7 +168,7 @@ module _ {X : Type 0} (cut : Cutting X) (proper : IsProperCutting cut) (input pr
   gives-equal (Told f) place e =
       ap (λ o. equal_names_or o (input_pieces cut prefix (cut.places f) (f input))) e
 
-  -- a name of an input is one of the 99
+  -- if the name of an input is one of the 99, the command leaves everything as it was
   pub equal-left : (place : ℕ) (now : Seen) → clash_of command ≡ Some place
       → IsCommandFault command now now (EqualNames place)
   equal-left place now e = record { defined = gives-equal now.files place e; stays = refl }
@@ -210,7 +210,7 @@ module _ {X : Type 0} (cut : Cutting X) (proper : IsProperCutting cut) (input pr
         (Some held.0)) (short-late cut proper prefix held.0 f (few held.0 held.1)))
 
     module _ (old new : Seen) (fault : EditFault) where
-      -- a fault of the input leaves all as it was
+      -- a fault of the input leaves everything as it was
       pub input-left : IsFileFault 0 most_frames input old new fault
           → IsCommandFault command old new fault
       input-left h = each_why (why_of fault) h (record {
@@ -242,7 +242,7 @@ module _ {X : Type 0} (cut : Cutting X) (proper : IsProperCutting cut) (input pr
     -- ---- a surveyed input
 
     module _ (old mid new : Seen) (stays : mid ≡ old) (fault : EditFault) where
-      -- its head could not be read
+      -- a head that could not be read leaves everything as it was
       pub head-left : IsHeadFault input mid new fault → IsCommandFault command old new fault
       head-left h = each_why (why_of fault) (rw stays at h) (record {
         rejected = λ r. absurd r;
@@ -281,12 +281,12 @@ module _ {X : Type 0} (cut : Cutting X) (proper : IsProperCutting cut) (input pr
       behind-takes = if-told old.files (λ f told. let made = makes-then f told in
           rw made.3 (takes _ (made-late cut proper prefix made.0 s f)))
 
-      -- the sheet could not be read
+      -- no fault of the definition comes before the sheet that could not be read
       behind-before : IfTold old.files (λ f. IfErr (command.makes f) (IsNotBefore (Input 1 Read)))
       behind-before = if-told old.files (λ f told. let made = makes-then f told in
           rw made.3 (made-before cut proper prefix made.0 s f))
 
-      -- there are no positions
+      -- if there are no places, the command is refused
       places-refused : (fault : EditFault) → SaysPlaces cut old.files (Err fault)
           → HasAnswer command old.files (Err fault)
       places-refused fault none =
@@ -370,7 +370,7 @@ module _ {X : Type 0} (cut : Cutting X) (proper : IsProperCutting cut) (input pr
                   (λ fs. Holds fs input made.0) (sym told) made.1)) made.2 places parts.0 parts.1));
             })
 
-        -- the pieces, of which all or some were written
+        -- the pieces, all or some of which were written
         module _ (pieces : List PlannedPiece) (named : ArePieces prefix (cut.survey s) 1 pieces)
             (laid : (bytes : List ℕ) → Holds old.files input bytes → piece_parts cut bytes s places
             ≡ Ok (map piece_part pieces)) (few : length pieces ≤ 99) where
@@ -498,20 +498,20 @@ module _ {X : Type 0} (cut : Cutting X) (proper : IsProperCutting cut) (input pr
             no_memory = λ w. absurd w;
           })
 
-      -- ---- what is left by a step after those that left all as it was
+      -- ---- what is left by a step after those that left everything as it was
 
       module _ (mid new : Seen) (stays : mid ≡ old) where
-        -- where there are no positions
+        -- if there are no places, everything stays as it was
         pub places-left : (fault : EditFault) → IsPlacesFault cut mid new fault
             → IsCommandFault command old new fault
         places-left fault h = places-left-here new fault (rw stays at h)
 
-        -- want of memory leaves all as it was
+        -- out of memory leaves everything as it was
         pub memory-left : new ≡ mid → IsCommandFault command old new Memory
         memory-left same = record { names = apart; takes = behind-takes; stays = same ∙ stays }
 
         module _ (places : List X) (are : SaysPlaces cut old.files (Ok places)) where
-          -- where they aren't pieces
+          -- if places give no pieces, everything stays as it was
           pub range-left : (fault : EditFault) → new ≡ mid → (fault ≡ Memory)
               ⊎ (IsEditRefusal cut.refuses fault × ((bytes : List ℕ) → Holds old.files input bytes
               → piece_parts cut bytes s places ≡ Err fault)) → IsCommandFault command old new fault
@@ -546,10 +546,10 @@ module _ {X : Type 0} (cut : Cutting X) (proper : IsProperCutting cut) (input pr
             split-left touches fault h = split-left-here places are pieces named laid few new fault
                 (rw stays at touches) (rw stays at h)
 
--- ---- the numbers of a fault, whatever is told of the files
+-- ---- the numbers of a fault, whatever is known of the files
 
 module _ {X : Type 0} (cut : Cutting X) (input prefix : List ℕ) where
-  -- of one that was met while the places were found
+  -- a fault that was met while the places were found has the right numbers
   pub places-numbers : (fault : EditFault) → HasPlacesNumbers cut fault
       → HasNumbers (split_command cut input prefix) fault
   places-numbers (Input place fault) is =
@@ -565,20 +565,20 @@ module _ {X : Type 0} (cut : Cutting X) (input prefix : List ℕ) where
   survey-numbers Memory is = tt
   survey-numbers _ is = absurd is
 
-  -- so has one of the head
+  -- a fault of the head has the right numbers
   pub head-numbers : (fault : EditFault) → HasHeadNumbers fault
       → HasNumbers (split_command cut input prefix) fault
   head-numbers (Input place fault) is = (omega (arith, is.0), is.1, is.2, inl is.0)
   head-numbers _ is = absurd is
 
-  -- of places between which there is nothing
+  -- a fault of places between which there is nothing has the right numbers
   pub range-numbers : {Y : Type 0} (fault : EditFault) → (fault ≡ Memory)
       ⊎ (IsEditRefusal cut.refuses fault × Y) → HasNumbers (split_command cut input prefix) fault
   range-numbers fault (inl none) = subst (HasNumbers (split_command cut input prefix)) (sym none) tt
   range-numbers (Refused refusal) (inr is) = is.0
   range-numbers _ (inr is) = absurd is.0
 
-  -- and one of the second pass
+  -- a fault of the second pass has the right numbers
   pub pieces-numbers : (count : ℕ) (fault : EditFault) → count < 100 → HasPiecesNumbers count fault
       → HasNumbers (split_command cut input prefix) fault
   pieces-numbers count (Input place fault) most is = (omega (arith, is.0), is.1, is.2, inl is.0)

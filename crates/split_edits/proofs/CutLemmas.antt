@@ -1,5 +1,5 @@
--- What a file is cut into at positions, and at places of samples:
--- no fault comes too early, and what is laid holds its stream.
+-- What a file is cut into at positions, and at places of samples: no fault comes too early, and
+-- what is laid holds its stream.
 use Rattle.std.proofs.Common.{ap, ap₂, arith, Bool, cond, Err, false, length, List, None, Ok}
 use Rattle.std.proofs.Common.{Option, refl, Result, Some, subst, sym, true, ℕ, ◌&&◌, ◌||◌, ◌∙◌, ◌≡◌}
 use Rattle.std.specs.Prelude.{IfErr, IfSome, nat_le, nat_lt, replicate}
@@ -60,13 +60,13 @@ as-all : (P : EditFault → Type 0) (r : Result (List Place) EditFault) → IfEr
 as-all P (Ok places) is = tt
 as-all P (Err fault) is = is
 
--- nothing is refused where the test holds
+-- nothing is refused if the test holds
 unless-test : (P : EditFault → Type 0) (refusal : Refusal) → P (Refused refusal) → (test : Bool)
     → IfSome (cond test None (Some refusal)) (λ r. P (Refused r))
 unless-test P refusal is true = tt
 unless-test P refusal is false = is
 
--- ---- at positions
+-- ---- cut at positions
 
 module _ (P : EditFault → Type 0)
     (range : (from to frames : ℕ) → P (Refused (Range from to frames))) where
@@ -95,7 +95,7 @@ frames-hold from to file s laid surveyed e =
     (chosen-holds parts.0 file s
     (survey-had file most_frames s surveyed) right.some right.within right.extension)
 
--- a file that is cut at positions
+-- the cutting at positions is proper
 pub points-proper : (points : Points) → IsProperCutting (cutting_of points)
 points-proper (Places places) = record {
   places_late = λ f. tt;
@@ -112,16 +112,16 @@ points-proper (InSheet sheet) = record {
   streams = λ from to file s laid octets surveyed e. frames-hold from to file s laid surveyed e;
 }
 
--- its refusals are among those that there can be
+-- a refusal of positions is one that may be returned
 pub points-refusal : (points : Points) (fault : EditFault) → IsEditRefusal cut_refuses fault
     → IsEditRefusal (refuses_of points) fault
 points-refusal (Places places) fault is = is
 points-refusal (InSheet sheet) (Refused refusal) is = ap (λ b. b || cue_sheet_refuses refusal) is
 points-refusal (InSheet sheet) _ is = absurd is
 
--- the frames that were chosen in the slots of their plan, by the survey that is known
+-- the chosen frames in the slots of their plan, given the known survey
 module _ (from to : Place) (file : List ℕ) (s known : SurveyFields) (same : known ≡ s) where
-  -- they are what is laid from the one place to the other
+  -- these are what is laid from the one place to the other
   pub frames-laid : (chosen : Chosen) (laid : LaidPart) → cut_choice from to file known ≡ Ok chosen
       → laid ≡ placed_part chosen (first_plan own_choice known.class (chosen_needs chosen known))
       → cut_part from to file s ≡ Ok laid
@@ -132,7 +132,7 @@ module _ (from to : Place) (file : List ℕ) (s known : SurveyFields) (same : kn
       (planned_part (first_planning own_choice) known))
       chose ∙ ap Ok (sym is))
 
-  -- and where they are refused, so is what is laid
+  -- if the frames are refused, what is laid is refused
   pub frames-refused : (fault : EditFault) → cut_choice from to file known ≡ Err fault
       → cut_part from to file s ≡ Err fault
   unfolding laying_part
@@ -142,7 +142,7 @@ module _ (from to : Place) (file : List ℕ) (s known : SurveyFields) (same : kn
       (planned_part (first_planning own_choice) known))
       chose)
 
--- ---- at places of samples
+-- ---- cut at places of samples
 
 module _ (P : EditFault → Type 0)
     (span : (a b samples : ℕ) → P (Refused (NoSpan a b samples))) where
@@ -176,7 +176,7 @@ exact-hold from to file s laid surveyed e =
     (apart_had file s surveyed)
     (span_apart s parts.0 (span-there from to head s parts.0 parts.1)))
 
--- a file that is cut at places of samples
+-- the cutting at places of samples is proper
 pub exact-points-proper : (points : ExactPoints) → IsProperCutting (exact_cutting_of points)
 exact-points-proper (ExactPlaces places) = record {
   places_late = λ f. tt;
@@ -194,7 +194,7 @@ exact-points-proper (InExactSheet sheet) = record {
   streams = λ from to file s laid octets surveyed e. exact-hold from to file s laid surveyed e;
 }
 
--- its refusals are among those that there can be
+-- a refusal of places is one that may be returned
 pub exact-points-refusal : (points : ExactPoints) (fault : EditFault)
     → IsEditRefusal exact_refuses fault → IsEditRefusal (exact_refuses_of points) fault
 exact-points-refusal (ExactPlaces places) fault is = is
@@ -209,7 +209,7 @@ unfolding file_span
 span_same from to head s =
     ap (λ (n : ℕ). span_between s.class (played_of head s.class n) from to) (apart-length s)
 
--- the span that was found, by the survey and the head that are known
+-- the span that was found, given the known survey and head
 module _ (from to : ExactPlace) (file : List ℕ) (s known : SurveyFields)
     (same : known ≡ survey_without_head s)
     (head : Option Info) (head_is : head ≡ fields_of_head file s.head) where
@@ -221,7 +221,7 @@ module _ (from to : ExactPlace) (file : List ℕ) (s known : SurveyFields)
       ∙ ap (file_span from to head) (sym same)
       ∙ is
 
-  -- its piece is what is laid from the one place to the other
+  -- the piece of the span is what is laid from the one place to the other
   pub exact-laid-is : (span : Span) (laid : LaidPart) → file_span from to head known ≡ Ok span
       → laid ≡ span_piece head span file known → exact_part from to file s ≡ Ok laid
   unfolding exact_part
@@ -233,7 +233,7 @@ module _ (from to : ExactPlace) (file : List ℕ) (s known : SurveyFields)
       (sym same)
       ∙ ap Ok (sym piece)
 
-  -- and where it is refused, so is what is laid
+  -- if the span is refused, what is laid is refused
   pub exact-laid-refused : (fault : EditFault) → file_span from to head known ≡ Err fault
       → exact_part from to file s ≡ Err fault
   unfolding exact_part

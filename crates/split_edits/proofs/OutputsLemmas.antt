@@ -1,4 +1,4 @@
--- Outputs that are written one after the other.
+-- Outputs that are written in order.
 use Rattle.std.proofs.Common.{ap, append-nil, arith, drop, inl, inr, is_some, length, length-drop}
 use Rattle.std.proofs.Common.{List, map, None, Option, refl, slice_index_or, Some, string_bytes}
 use Rattle.std.proofs.Common.{subst, sym, take, ℕ, [], ◌++◌, ◌+◌, ◌<◌, ◌∙◌, ◌∷◌, ◌≡◌, ◌≢◌}
@@ -19,7 +19,7 @@ use Rattle.split_edits.specs.Steps.{output_of, piece_outputs, pieces_of, with_ou
 use Rattle.split_edits.specs.declared.piece.PlannedPiece.{PlannedPiece}
 use Rattle.sync_survey.specs.Faults.{SurveyFields}
 
--- ---- one output more
+-- ---- one more output
 
 written-append : (xs ys : List Output) (f : Contents)
     → written_files (xs ++ ys) f ≡ written_files ys (written_files xs f)
@@ -58,13 +58,13 @@ module _ (k : ℕ) (outputs rest : List Output) (o : Output) (now new : Files) (
 
   module _ (old : Files) (holds : Holds old input file)
       (is : now ≡ with_outputs (take k outputs) old) where
-    -- a prefix of the next output is a part of all
+    -- a prefix of the next output is a part of all outputs
     pub part-of : HoldsPrefix o.name o.bytes now new
         → (count : Option ℕ) × (new ≡ with_part k count outputs old)
     part-of (inl stays) = (None, not-created old holds is stays)
     part-of (inr part) = (Some part.0, begun-with old holds is part.0 part.1)
 
-    -- where it was created and a write failed, it lacks bytes
+    -- if the next output was created and a write failed, it lacks bytes
     pub less-of : HoldsLess o.name o.bytes now new → (count : Option ℕ)
         × LacksBytes count (drop k outputs) × (new ≡ with_part k count outputs old)
     less-of (inl stays) = (None, tt, not-created old holds is stays)
@@ -115,7 +115,7 @@ none-wrote s input files there = record {
 abbrev pub piece_made : SurveyFields → PlannedPiece → List ℕ → List ℕ
 piece_made s piece file = file_laid (selected_part piece.selected) file s
 
--- the next one was written, or begun
+-- the next piece was written, or begun
 module _ (s : SurveyFields) (input : List ℕ) (all : List PlannedPiece) (k : ℕ)
     (piece : PlannedPiece)
     (old now new : Files) (next : drop k all ≡ piece ∷ drop (k + 1) all) (wrote : Wrote s input
@@ -142,7 +142,7 @@ module _ (s : SurveyFields) (input : List ℕ) (all : List PlannedPiece) (k : �
       (λ other apart. All-take (λ name. other ≢ name) (k + 1) (names_of_pieces all) apart)
       touched-here
 
-  -- if it was written whole, one more was
+  -- if the next piece was written whole, one more piece is whole
   pub more-wrote : input ≢ string_bytes piece.name → ((bytes : List ℕ) → Holds now input bytes
       → new ≡ files_holding now (string_bytes piece.name) (piece_made s piece bytes))
       → Wrote s input (take (k + 1) all) old new
@@ -212,7 +212,8 @@ module _ (s : SurveyFields) (input : List ℕ) (all : List PlannedPiece) (k : �
     touches = touched-here;
   })
 
-  -- if its pass failed, the fault is one of the pieces, with the ones before it whole
+  -- if the pass of the next piece failed, the fault is one of the pieces, and the pieces before it
+  -- are whole
   pub pieces-fault : (fault : PassFault) (place : ℕ) (before between after : Counts)
       → place ≡ length done → between ≡ before → IsPassFault (piece_made s piece) (input ∷ [])
       (string_bytes piece.name) (seen_folder now between) (seen_folder new after)

@@ -24,7 +24,7 @@ of_made made = Ok made
 ok-made : (a b : Made) → of_made a ≡ of_made b → a ≡ b
 ok-made a b e = cc
 
--- the file, its survey, the places, and what is laid of it between them
+-- the file, its survey, the places, and what is laid between them
 pub record IsSplit {P : Type 0} (cut : Cutting P) (files : Contents) (input : List ℕ) : Type 0 where
   pub file : List ℕ
   pub survey : SurveyFields
@@ -35,7 +35,7 @@ pub record IsSplit {P : Type 0} (cut : Cutting P) (files : Contents) (input : Li
   pub laid : List LaidPart
   pub picked : piece_parts cut file survey found ≡ Ok laid
 
--- the pieces
+-- the pieces that are made
 abbrev pub made_in : {P : Type 0} (cut : Cutting P) (files : Contents) (prefix input : List ℕ)
     → IsSplit cut files input → Made
 made_in cut files prefix input is =
@@ -83,7 +83,7 @@ module _ {P : Type 0} (cut : Cutting P) (files : Contents) (prefix input : List 
   equal-parts (Some place) made e = absurd cc
   equal-parts None made e = (refl, where-parts (files input) made refl e)
 
-  -- a split that isn't refused has no clash, and was made so
+  -- a split that isn't refused has no clash, and these pieces were made
   pub split-parts : (made : Made) → (split_command cut input prefix).makes files ≡ Ok made
       → (clash_from (piece_names prefix) 0 (input ∷ cut.more) ≡ None) × Splits made
   unfolding split_result
@@ -91,7 +91,7 @@ module _ {P : Type 0} (cut : Cutting P) (files : Contents) (prefix input : List 
 
 -- ---- a cue sheet
 
--- the bytes of a sheet that isn't too long, its starts, and the places, up to the end
+-- the bytes of a sheet that isn't too long, its starts, and the places, including the end
 pub record IsCue (o : Option (List ℕ)) (places : List Place) : Type 0 where
   pub bytes : List ℕ
   pub there : o ≡ Some bytes
@@ -105,12 +105,12 @@ end-parts : (r : Result (List Place) CueFault) (places : List Place) → places_
 end-parts (Ok starts) places e = (starts, refl, cc)
 end-parts (Err fault) places e = absurd cc
 
--- the positions are those that the bytes of the sheet say
+-- the positions are those that the bytes of the sheet list
 by-sheet : (o : Option (List ℕ))
     → cue_sheet_places o ≡ then_made (sheet_in o) (λ bytes. places_to_end (cue_of bytes))
 by-sheet o = refl
 
--- places that are read of a sheet are so made
+-- places that are read from a sheet have these parts
 pub cue-parts : (o : Option (List ℕ)) (places : List Place) → cue_sheet_places o ≡ Ok places
     → IsCue o places
 cue-parts o places e =
@@ -128,7 +128,7 @@ cue-parts o places e =
           parts.2;
     }
 
--- and places that are so made are those that are read
+-- places with these parts are the places that are read from the sheet
 pub parts-cue : (o : Option (List ℕ)) (places : List Place) → IsCue o places
     → cue_sheet_places o ≡ Ok places
 parts-cue o places is =

@@ -1,4 +1,4 @@
--- Pieces one more at a time, from the places and for the outputs.
+-- Pieces, one more at a time, made from the places and written to the outputs.
 use Rattle.std.proofs.Common.{ap, append-nil, append_assoc, ap₂, arith, bytes_eq, drop, Err, false}
 use Rattle.std.proofs.Common.{get_or, inl, inr, length, List, map, Ok, refl, Result, slice_index_or}
 use Rattle.std.proofs.Common.{string_bytes, subst, suc, sym, take, true, zero, ℕ, [], ◌++◌, ◌+◌}
@@ -36,7 +36,7 @@ module _ {P : Type 0} (cut : Cutting P) (file : List ℕ) (s : SurveyFields) (in
     (rest : List P) (done : List LaidPart) (whole : Result (List LaidPart) EditFault)
     (before : laid_before done (piece_parts_from cut file s from (drop index rest)) ≡ whole) where
   module _ (to : P) (next : drop index rest ≡ to ∷ drop (index + 1) rest) where
-    -- what is laid up to a place, and then after it
+    -- one more pair of places is laid
     pub place-laid : (first : LaidPart) → cut.between from to file s ≡ Ok first
         → laid_before (done ++ first ∷ []) (piece_parts_from cut file s to (drop (index + 1) rest))
         ≡ whole
@@ -44,16 +44,16 @@ module _ {P : Type 0} (cut : Cutting P) (file : List ℕ) (s : SurveyFields) (in
         sym (before-first done first (piece_parts_from cut file s to (drop (index + 1) rest)))
         ∙ rw (next, is) at before
 
-    -- a pair of places that is refused
+    -- a pair of places that is refused refuses all
     pub place-refused : (fault : EditFault) → cut.between from to file s ≡ Err fault
         → whole ≡ Err fault
     place-refused fault is = sym (rw (next, is) at before)
 
-  -- where no place is left all pieces are laid
+  -- if no place is left, all pieces are laid
   pub places-laid : length rest ≤ index → whole ≡ Ok done
   places-laid all = sym (rw (drop_all index rest all) at before) ∙ ap Ok (append-nil done)
 
--- it is that from the first place on
+-- all pieces are what is laid from the first place on
 pub laid-is : {P : Type 0} (cut : Cutting P) (file : List ℕ) (s : SurveyFields) (from : P)
     (places : List P) → 2 ≤ length places → from ≡ get_or places 0 from
     → piece_parts cut file s places
@@ -64,12 +64,12 @@ laid-is cut file s from (place ∷ places) some is =
     ∙ ap (piece_parts_from cut file s from)
     (sym (take_all (length (place ∷ places) - 1) places (omega arith)))
 
--- a fault of a pair of places is one of them all
+-- a fault of a pair of places is a fault of all
 pub fault-of-all : {M A B C : Type 0} → (B → C) → M ⊎ (A × B) → M ⊎ (A × C)
 fault-of-all all (inl none) = inl none
 fault-of-all all (inr is) = inr (is.0, all is.1)
 
--- what holds of an error holds of the answer with it
+-- what holds of an error holds of the result with it
 pub match_err : {T E : Type 0} (r : Result T E) (P : T → Type 0) (Q : E → Type 0) {e : E}
     → IsErrAnd r (λ y. y ≡ e) → Q e → MatchResult r P Q
 match_err (Ok x) P Q is q = absurd is
@@ -77,7 +77,7 @@ match_err (Err y) P Q is q = subst Q (sym is) q
 
 -- ---- the names
 
--- a piece more has the next number in its name
+-- one more piece has the next number in its name
 pub pieces-push : (prefix : List ℕ) (s : SurveyFields) (k n : ℕ) (pieces : List PlannedPiece)
     (piece : PlannedPiece) → ArePieces prefix s k pieces → n ≡ k + length pieces
     → string_bytes piece.name ≡ piece_name prefix n → IsWritableSelection s piece.selected
@@ -90,7 +90,7 @@ pieces-push prefix s k n (first ∷ pieces) piece are is named writable = (
   pieces-push prefix s (k + 1) n pieces piece are.2 (omega (arith, is)) named writable,
 )
 
--- the files of pieces are those of what is laid for them
+-- the files of pieces are the files of what is laid for them
 pub outputs-are : (prefix : List ℕ) (s : SurveyFields) (k : ℕ) (pieces : List PlannedPiece)
     (bytes : List ℕ) → ArePieces prefix s k pieces
     → piece_outputs s pieces bytes ≡ pieces_from prefix k bytes s (map piece_part pieces)
@@ -99,7 +99,7 @@ outputs-are prefix s k (piece ∷ pieces) bytes are =
     ap₂ (λ name outputs. record { name = name; bytes = file_laid (piece_part piece) bytes s }
     ∷ outputs) are.0 (outputs-are prefix s (k + 1) pieces bytes are.2)
 
--- an input that has the name of no piece
+-- an input that has no piece's name
 other-name : (prefix input : List ℕ) (k : ℕ) → list_any (bytes_eq input) (piece_names prefix)
     ≡ false → 1 ≤ k → k ≤ 99 → input ≢ piece_name prefix k
 other-name prefix input k none from to same =
@@ -121,7 +121,7 @@ can-be-written prefix input s k (piece ∷ pieces) none from to are =
     ((λ same. other-name prefix input k none from (omega (arith, to)) (same ∙ are.0)), are.1)
     (can-be-written prefix input s (k + 1) pieces none (omega arith) (omega (arith, to)) are.2)
 
--- ---- their names are the first of the 99
+-- ---- the names are the first of the 99
 
 names-are : (prefix : List ℕ) (s : SurveyFields) (k : ℕ) (pieces : List PlannedPiece)
     → ArePieces prefix s k pieces
@@ -156,14 +156,14 @@ All-first P (suc m) (suc n) (x ∷ xs) all = All-cons P x (take m (take n xs))
 
 module _ (prefix : List ℕ) (s : SurveyFields) (pieces : List PlannedPiece)
     (P : List ℕ → Type 0) where
-  -- what holds of the first names of a prefix holds of those of the first pieces
+  -- what holds of the first names of a prefix holds of the names of the first pieces
   pub names-first : (k : ℕ) → length pieces ≤ 99 → ArePieces prefix s 1 pieces
       → All P (take (k + 1) (piece_names prefix)) → All P (take (k + 1) (names_of_pieces pieces))
   names-first k few are all =
       subst (λ names. All P (take (k + 1) names)) (sym (names-prefix prefix s pieces few are))
       (All-first P (k + 1) (length pieces) (piece_names prefix) all)
 
-  -- and what holds of all holds of those of all pieces
+  -- what holds of all names of a prefix holds of the names of all pieces
   pub names-all : length pieces ≤ 99 → ArePieces prefix s 1 pieces → All P (piece_names prefix)
       → All P (names_of_pieces pieces)
   names-all few are all = subst (All P) (sym (names-prefix prefix s pieces few are))

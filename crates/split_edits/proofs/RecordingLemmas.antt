@@ -1,5 +1,5 @@
--- The pieces of a split at places of samples, played one after
--- another, are the samples from the first place to the last.
+-- The pieces of a split at places of samples, played in order, are the samples from the first place
+-- to the last.
 use Rattle.std.proofs.Common.{ap, ap₂, arith, length, List, map, Ok, Option, refl, Some, subst, suc}
 use Rattle.std.proofs.Common.{sym, zero, ℕ, [], ◌&&◌, ◌*◌, ◌++◌, ◌+◌, ◌-◌, ◌<◌, ◌∙◌, ◌∷◌, ◌≡◌, ◌≤◌}
 use Rattle.std.specs.{List.range_with_len, Prelude.{nat_le, nat_lt}}
@@ -27,7 +27,7 @@ use Rattle.sync_survey.specs.Faults.{SurveyFields}
 
 -- ---- the samples of one piece
 
--- numbers from one on, each with the number that is as far from another
+-- consecutive numbers, each mapped to the number as far from another start
 numbers-moved : (f : ℕ → ℕ) (x a n : ℕ) → ((k : ℕ) → k < n → f (x + k) ≡ a + k)
     → map f (range_with_len x n) ≡ range_with_len a n
 numbers-moved f x a zero same = refl
@@ -52,7 +52,7 @@ module _ (file : List ℕ) (s : SurveyFields) (is : CanBeRelaid file s) where
   abbrev sample : ExactPlace → ℕ
   sample place = sample_named file s place
 
-  -- by the equations of its start and its length
+  -- the samples of a piece, given the equations of its start and its length
   played-samples : (laid : LaidPart) (a b : ℕ)
       → (piece_played file (survey_without_head s) laid).start + laid.from * samples_in s.class
       ≡ (input_played file s).start + a + piece_lead_ins laid * samples_in s.class
@@ -104,7 +104,7 @@ module _ (file : List ℕ) (s : SurveyFields) (is : CanBeRelaid file s) where
       samples = played-samples piece (sample from) (sample to) starts.0 starts.1;
     }
 
-  -- a piece that was laid
+  -- a piece that was laid plays its samples
   laid-plays : (from to : ExactPlace) (laid : LaidPart) → exact_part from to file s ≡ Ok laid
       → PlaysBetween file s from to laid
   unfolding exact_part
@@ -115,7 +115,7 @@ module _ (file : List ℕ) (s : SurveyFields) (is : CanBeRelaid file s) where
       let same : span_piece head chose.0 file (survey_without_head s) ≡ laid = cc in
       subst (PlaysBetween file s from to) same (between-plays from to chose.0 chose.1)
 
-  -- its places are in order
+  -- the places of a piece are in order
   laid-ascends : (from to : ExactPlace) (laid : LaidPart) → PlaysBetween file s from to laid
       → sample from ≤ sample to
   unfolding file_span
@@ -166,7 +166,7 @@ module _ (file : List ℕ) (s : SurveyFields) (is : CanBeRelaid file s) where
         subst (PlayInTurn file s from (to ∷ tos))
         more.2 (laid-plays from to parts.0 parts.1, from-turns to tos more.0 more.1)
 
--- the pieces, one after another, play the samples from the first place to the last
+-- the pieces, in order, play the samples from the first place to the last
 pub pieces-recording : PiecesAreTheRecording
 pieces-recording points file s place places laid surveyed e =
     let is = survey-had file most_frames s surveyed in

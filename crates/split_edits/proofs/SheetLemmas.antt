@@ -1,4 +1,4 @@
--- What the bytes of a sheet say.
+-- What the bytes of a sheet list.
 use Rattle.std.proofs.Common.{ap, arith, Err, List, map, true, ℕ, [], ◌∷◌, ◌≡◌}
 use Rattle.std.proofs.lemmas.List.{length-map, Elements.{All-cons, All-head, All-nil, All-tail}}
 use Rattle.std.specs.List.{All}
@@ -15,13 +15,13 @@ use Rattle.split_edits.specs.Cutting.{ArePlaces}
 use Rattle.split_edits.specs.Split.{cue_sheet_refuses, places_in, places_to_end}
 use Rattle.split_edits.specs.Steps.{HasCueSheetNumbers, IsCueSheetFault}
 
--- a sheet whose bytes aren't read says no positions
+-- a sheet whose bytes can't be read lists no positions
 read-places : (bytes : List ℕ) (fault : EditFault) → sheet_read bytes ≡ Err fault
     → places_in bytes ≡ Err fault
 read-places bytes fault is = ap (λ r. then_made r (λ read. places_to_end (cue_of read))) is
 
 module _ (name : List ℕ) (old new : Seen) (fault : EditFault) where
-  -- a sheet that isn't read is a fault of the sheet
+  -- a sheet that can't be read is a fault of the sheet
   pub unread-fault : IsSheetFault name old new fault → IsCueSheetFault name old new fault
   unread-fault h = each_why (why_of fault) h
       (each_refusal (λ r. record {
@@ -34,12 +34,12 @@ of_read : (refusal : Refusal) → sheet_refuses refusal ≡ true → cue_sheet_r
 of_read (SheetTooLarge size) is = is
 of_read _ is = absurd cc
 
--- a fault of a sheet that isn't read has the number of the sheet
+-- a fault of a sheet that can't be read has the number of the sheet
 pub unread-number : (fault : EditFault) → HasSheetNumbers fault → HasCueSheetNumbers fault
 unread-number (Refused refusal) h = of_read refusal h
 unread-number _ h = h
 
--- ---- places of samples that a sheet says
+-- ---- places of samples that a sheet lists
 
 all-exact : (positions : List Place) → All IsPlace positions
     → All IsExactPlace (map Position positions)

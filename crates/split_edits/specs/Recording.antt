@@ -1,4 +1,4 @@
--- What is played of the pieces of `split_exact`, one after another.
+-- The samples that the pieces of `split_exact` play, in order.
 use Rattle.std.specs.List.{range_with_len}
 use Rattle.std.specs.Prelude.{flat_map, length, List, map, Ok, Some, ℕ, [], ◌*◌, ◌+◌, ◌-◌, ◌∷◌, ◌≡◌}
 use Rattle.commands.specs.SingleOutput.{most_frames}
@@ -20,23 +20,23 @@ use Rattle.sync_survey.specs.{Faults.SurveyFields, Survey.survey_of}
 abbrev pub input_played : List ℕ → SurveyFields → Played
 input_played file s = played_of (fields_of_head file s.head) s.class (length s.frames)
 
--- the number of the sample that a place names
+-- the number of the sample at a place
 abbrev pub sample_named : List ℕ → SurveyFields → ExactPlace → ℕ
 sample_named file s place = sample_at s.class (length_of_played (input_played file s)) place
 
 -- ---- the samples of a piece
 
--- how many lead-ins are before the frames of a piece
+-- how many lead-ins come before the frames of a piece
 abbrev pub piece_lead_ins : LaidPart → ℕ
 piece_lead_ins laid = length laid.placed - (laid.to - laid.from)
 
--- the positions of a piece that are played, by its Info frame and the number of its frames
+-- the positions of a piece that are played, given its Info frame and the number of its frames
 abbrev pub piece_played : List ℕ → SurveyFields → LaidPart → Played
 piece_played file s laid =
     played_of (Some (info_laid laid file s)) s.class (piece_lead_ins laid + (laid.to - laid.from))
 
--- The sample of the input, whose first played position is `start`, that is at
--- the offset in its frame at which position x of a piece is in the same frame.
+-- The sample of the input, whose first played position is `start`, that is at the same offset of
+-- the same frame as position x of a piece.
 abbrev pub piece_sample : ClassFields → ℕ → LaidPart → ℕ → ℕ
 piece_sample class start laid x =
     x + laid.from * samples_in class - (piece_lead_ins laid * samples_in class + start)
@@ -48,14 +48,14 @@ piece_samples file s laid =
     map (piece_sample s.class (input_played file s).start laid)
     (range_with_len played.start (length_of_played played))
 
--- those of all pieces, one after another
+-- the samples of the input that all pieces play, in order
 abbrev pub all_piece_samples : List ℕ → SurveyFields → List LaidPart → List ℕ
 all_piece_samples file s laid = flat_map (piece_samples file s) laid
 
 -- ---- the law
 
--- What is laid is the piece of the span from one place to another. It plays the
--- samples from the one to before the other, each at its place in its frame.
+-- What is laid is the piece of the span from one place to another. It plays the samples from the
+-- one to before the other, each at its place in its frame.
 pub record PlaysBetween (file : List ℕ) (s : SurveyFields) (from to : ExactPlace) (laid : LaidPart)
     : Type 0 where
   pub span : Span
@@ -67,7 +67,8 @@ pub record PlaysBetween (file : List ℕ) (s : SurveyFields) (from to : ExactPla
   pub samples : piece_samples file s laid
       ≡ samples_between (sample_named file s from) (sample_named file s to)
 
--- so does each of these, from a place to the first of others, and from each of them to the next
+-- each of these plays its samples, from a place to the first of others, and from each of them to
+-- the next
 abbrev pub PlayInTurn : List ℕ → SurveyFields → ExactPlace → List ExactPlace → List LaidPart
     → Type 0
 PlayInTurn file s from [] [] = Unit {0}
@@ -75,8 +76,8 @@ PlayInTurn file s from (to ∷ places) (laid ∷ more) =
     PlaysBetween file s from to laid × PlayInTurn file s to places more
 PlayInTurn file s from _ _ = ⊥
 
--- the pieces from a place on, one by one and together: each sample
--- from the first place to the last is played once, in order
+-- the pieces from a place on, one by one and together: each sample from the first place to the last
+-- is played once, in order
 pub record PlayTheRecording (file : List ℕ) (s : SurveyFields) (place : ExactPlace)
     (places : List ExactPlace) (laid : List LaidPart)
     : Type 0 where
@@ -85,7 +86,7 @@ pub record PlayTheRecording (file : List ℕ) (s : SurveyFields) (place : ExactP
       ≡ samples_between (sample_named file s place)
       (last_point (sample_named file s place) (map (sample_named file s) places))
 
--- so do the pieces of every split at places of samples that isn't refused
+-- this holds for the pieces of every split at places of samples that isn't refused
 abbrev pub PiecesAreTheRecording : Type 0
 PiecesAreTheRecording =
     (points : ExactPoints) (file : List ℕ) (s : SurveyFields) (place : ExactPlace)

@@ -27,24 +27,24 @@ use Rattle.sync_survey.specs.declared.survey_fault.SurveyFault.TheVariants.{Shru
 
 -- ---- the sheet
 
--- what a fault says of its cause that was met while the positions of the sheet were read
+-- what a fault met while the positions of the sheet were read says about its cause
 abbrev pub IsCueSheetFault : List ℕ → Seen → Seen → EditFault → Type 0
 IsCueSheetFault name old new fault =
     IsFaultOfSheet (λ bytes. cue_sheet_places (Some bytes)) name old new fault
 
--- the fault is one of the sheet, or want of memory
+-- the fault is one of the sheet, or out of memory
 abbrev pub HasCueSheetNumbers : EditFault → Type 0
 HasCueSheetNumbers (Refused refusal) = cue_sheet_refuses refusal ≡ true
 HasCueSheetNumbers fault = HasSheetNumbers fault
 
 -- ---- the places
 
--- where the folder tells its files, they say these places, or this fault
+-- where the contents of the folder are known, they give these places, or this fault
 abbrev pub SaysPlaces : {P : Type 0} → Cutting P → Files → Result (List P) EditFault → Type 0
 SaysPlaces cut files answer = IfTold files (λ f. cut.places f ≡ answer)
 
--- What a fault that was met while the places were found says of its cause. The
--- sheet is the first input besides the one that is cut, and input 1 of the command.
+-- What a fault met while the places were found says about its cause. The sheet is the first input
+-- besides the one that is cut, and input 1 of the command.
 abbrev pub IsPlacesFault : {P : Type 0} → Cutting P → Seen → Seen → EditFault → Type 0
 IsPlacesFault cut old new fault = by_why
     (record no_cause {
@@ -57,8 +57,8 @@ IsPlacesFault cut old new fault = by_why
     })
     (why_of fault)
 
--- the fault is one of the sheet, which is there then,
--- a refusal that there can be, or want of memory
+-- the fault is one of the sheet, of which there is one then, a refusal that may be returned, or out
+-- of memory
 abbrev pub HasPlacesNumbers : {P : Type 0} → Cutting P → EditFault → Type 0
 HasPlacesNumbers cut (Input place fault) =
     (1 ≤ length cut.more) × HasSheetNumbers (Input place fault)
@@ -68,34 +68,34 @@ HasPlacesNumbers cut _ = ⊥
 
 -- ---- what is known of the input
 
--- It is known of a file with this survey: the survey by which pieces
--- are laid, which the file has, and what is read of the head.
+-- What is known of a file with this survey: the survey by which pieces are laid, by which the file
+-- can be relaid, and what is read from the head.
 pub record IsSplitSource {P : Type 0} (cut : Cutting P) (head : List ℕ → SurveyFields → Option Info)
     (source : SplitSource) (file : List ℕ) (s : SurveyFields) : Type 0 where
   pub survey : survey_view source.survey ≡ cut.survey s
   pub has : CanBeRelaid file (cut.survey s)
   pub head_is : source.head ≡ head file s
 
--- ---- pieces that are to be written
+-- ---- pieces to be written
 
--- what is laid for a piece
+-- the laid part of a piece
 abbrev pub piece_part : PlannedPiece → LaidPart
 piece_part piece = selected_part piece.selected
 
--- the pieces have the names of the prefix with the
--- numbers from this one on, and each can be written
+-- the pieces have the names of the prefix with the numbers from this one on, and each can be
+-- written
 abbrev pub ArePieces : List ℕ → SurveyFields → ℕ → List PlannedPiece → Type 0
 ArePieces prefix s k [] = Unit {0}
 ArePieces prefix s k (piece ∷ pieces) = (string_bytes piece.name ≡ piece_name prefix k)
     × IsWritableSelection s piece.selected × ArePieces prefix s (k + 1) pieces
 
--- they are ready to be written beside this input
+-- the pieces can be written beside this input
 abbrev pub CanPiecesBeWritten : List ℕ → SurveyFields → List PlannedPiece → Type 0
 CanPiecesBeWritten input s pieces =
     All (λ piece. (input ≢ string_bytes piece.name) × IsWritableSelection s piece.selected) pieces
 
--- The input is there, has the survey by which the pieces are laid, and
--- no more pieces than there are names are ready to be written beside it.
+-- The input is there and has the survey by which the pieces are laid, and the pieces, no more than
+-- there are names, can be written beside it.
 pub record IsSplit (input : List ℕ) (s : SurveyFields) (pieces : List PlannedPiece)
     (now : Seen) : Type 0 where
   pub there : IsFileThere now.files input
@@ -104,7 +104,7 @@ pub record IsSplit (input : List ℕ) (s : SurveyFields) (pieces : List PlannedP
   pub few : length pieces ≤ 99
   pub ready : CanPiecesBeWritten input s pieces
 
--- their files
+-- the file of a piece
 abbrev pub output_of : List ℕ → SurveyFields → PlannedPiece → Output
 output_of file s piece =
     record {
@@ -118,7 +118,7 @@ piece_outputs s pieces file = map (output_of file s) pieces
 
 -- ---- the second pass
 
--- the files, where they are told, with these outputs
+-- the files, if their contents are known, with these outputs
 unfoldable pub with_outputs : List Output → Files → Files
 with_outputs outputs (Told f) = Told (written_files outputs f)
 with_outputs outputs (Untold touched) = Untold touched
@@ -132,13 +132,13 @@ with_part k count outputs (Untold touched) = Untold touched
 abbrev pub names_of_pieces : List PlannedPiece → List (List ℕ)
 names_of_pieces pieces = map (λ piece. string_bytes piece.name) pieces
 
--- pieces that are written: what is made of the input, their names, and the name of the input
+-- pieces that are written: what is made from the input, their names, and the name of the input
 pub record Pieces : Type 0 where
   pub made : List ℕ → List Output
   pub names : List (List ℕ)
   pub input : List ℕ
 
--- these pieces, as they are written of the input
+-- these pieces, as they are written from the input
 abbrev pub pieces_of : List ℕ → SurveyFields → List PlannedPiece → Pieces
 pieces_of input s pieces =
     record { made = piece_outputs s pieces; names = names_of_pieces pieces; input = input }
@@ -149,8 +149,8 @@ pub record IsWrittenPart (p : Pieces) (k : ℕ) (old new : Files) : Type 0 where
       (count : Option ℕ) × (new ≡ with_part k count (p.made bytes) old)
   pub touches : OnlyTouches (take (k + 1) p.names) old new
 
--- the same where a call failed that writes the next one:
--- it holds a prefix that lacks bytes, or wasn't created
+-- the same if a call failed that writes the next one: it holds a prefix that lacks bytes, or wasn't
+-- created
 pub record IsUnfinishedPart (p : Pieces) (k : ℕ) (old new : Files) : Type 0 where
   pub files : (bytes : List ℕ) → Holds old p.input bytes
       → (k < length (p.made bytes)) × (count : Option ℕ) × LacksBytes count (drop k (p.made bytes))
@@ -164,21 +164,21 @@ pub record PiecesStopReading (p : Pieces) (old new : Seen) (fault : EditFault) :
   pub place : ℕ
   pub files : IsWrittenPart p place old.files new.files
 
--- it became shorter
+-- the input became shorter
 pub record PiecesStopShort (input : List ℕ) (old new : Seen) (fault : EditFault) : Type 0 where
   pub first : ℕ
   pub second : ℕ
   pub is : fault ≡ Input 0 (Shrunk first second)
   pub ended : InputEndsEarly (input ∷ []) old new fault
 
--- the output of this place could not be written
+-- the output with this number could not be written
 pub record PiecesStopWriting (p : Pieces) (place : ℕ) (old new : Seen) : Type 0 where
   pub within : place < length p.names
   pub rose : HappenedTo
       (slice_index_or p.names place []) old.counts.write_faults new.counts.write_faults
   pub files : IsUnfinishedPart p place old.files new.files
 
--- what a fault that was met while the pieces were written leaves
+-- what a fault met while the pieces were written leaves
 abbrev pub IsPiecesFault : Pieces → Seen → Seen → EditFault → Type 0
 IsPiecesFault p old new fault = by_why
     (record no_cause {
@@ -188,13 +188,13 @@ IsPiecesFault p old new fault = by_why
     })
     (why_of fault)
 
--- the numbers of such a fault are in range, where there are `count` pieces
+-- the numbers of such a fault are in range if there are `count` pieces
 abbrev pub HasPiecesNumbers : ℕ → EditFault → Type 0
 HasPiecesNumbers count (Input place fault) = (place ≡ 0) × (fault ≢ NoRoom) × HasRightNumbers fault
 HasPiecesNumbers count (Unwritable place) = place < count
 HasPiecesNumbers count _ = ⊥
 
--- All these pieces, of which there are so many, were written, or this is left.
+-- All `count` pieces were written, or this is left.
 pub record WritesPieces (p : Pieces) (count : ℕ) (old new : Seen)
     (result : Result (Unit {0}) EditFault) : Type 0 where
   pub written : OnOk result

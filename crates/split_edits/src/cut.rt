@@ -1,4 +1,4 @@
-//! What the commands that split a file differ in.
+//! What differs between the commands that split a file.
 ghost use Rattle.std.specs.Prelude.{◌≡◌, ◌⊎◌, ◌≤◌, List, ℕ, Option, length, option_copied, option_to_list, Ok, Err, IfOk, IfErr, MatchResult};
 ghost use Rattle.outside.specs.Files.{IsFileThere};
 ghost use Rattle.outside.specs.Seen.{OnFile, OnlyRead};
@@ -19,28 +19,28 @@ use outside::Folder;
 use std::alloc::Global;
 use sync_survey::Survey;
 
-/// Where a file is cut, and what is laid between two of these places.
+/// Where a file is cut, and what is laid between two such places.
 pub(crate) trait Cut {
     /// A place at which a file is cut.
     type Place: Drop;
 
-    /// At which places it is cut, and what is laid between two of them.
+    /// At which places the file is cut, and what is laid between two of them.
     ghost cutting: { Self → Cutting Self.Place };
 
-    /// What is asked of it.
+    /// What is required of the cut.
     ghost IsLegal: { Self → Type 0 };
 
-    /// What is asked of a place.
+    /// What is required of a place.
     ghost IsSound: { Self.Place → Type 0 };
 
-    /// What is read of the head of a file with this survey.
+    /// What is read from the head of a file with this survey.
     ghost head: { List ℕ → SurveyFields → Option InfoFields };
 
-    /// The name of the cue sheet that says the places, if they aren't given.
+    /// The name of the cue sheet with the places, if they aren't given.
     fn sheet(&self) -> Option<&str>
         ensures { option_to_list (option_copied result) ≡ (cutting self.now).more };
 
-    /// The places: those that are given, or the starts in a cue sheet and the end. The files stay.
+    /// The places: the given ones, or the starts in a cue sheet and the end. The files stay.
     ///
     /// # Errors
     /// Those of `sheet_places`; `Memory`.
@@ -59,10 +59,10 @@ pub(crate) trait Cut {
         ensures numbers { IfErr result (HasPlacesNumbers (cutting self.now)) }
         ensures reads { OnlyRead result (D.seen folder.old) (D.seen folder.new) };
 
-    /// What pieces need of a surveyed input. The files stay.
+    /// What pieces need from a surveyed input. The files stay.
     ///
     /// # Errors
-    /// `Input(0, ..)` with `Read` and `Shrunk` where the frame of the head could not be read.
+    /// `Input(0, ..)` with `Read` and `Shrunk` if the frame of the head could not be read.
     fn read<D: Folder>(
         &self,
         folder: &mut D,
@@ -86,8 +86,8 @@ pub(crate) trait Cut {
         ensures numbers { IfErr result HasHeadNumbers }
         ensures reads { OnlyRead result (D.seen folder.old) (D.seen folder.new) };
 
-    /// What is laid from one place of the input to another: refused where there is nothing between them, or where the second
-    /// is after the end; `Memory`.
+    /// What is laid from one place of the input to another: refused if there is nothing between
+    /// them, or if the second is after the end; `Memory`.
     fn select(
         &self,
         alloc: Global,

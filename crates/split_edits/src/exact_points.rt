@@ -20,7 +20,8 @@ use sync_survey::Survey;
 /// Where a file is cut, to a sample.
 #[derive(Clone, Copy)]
 pub enum ExactPoints<'a> {
-    /// At these places, 2 to 100: each but the last is where a piece begins, and the last where the last piece ends.
+    /// At these places, 2 to 100: each but the last begins a piece, and the last ends the last
+    /// piece.
     Places(&'a [ExactPlace]),
     /// At the start of each track in the cue sheet of this name, and at the end.
     Sheet(&'a str),

@@ -1,4 +1,4 @@
-//! Pieces that are ready to be written.
+//! Pieces that are prepared to be written.
 ghost use Rattle.std.specs.Prelude.{◌≡◌, ◌⊎◌, ◌+◌, ◌≤◌, List, ℕ, length, map, Ok, Err, IfOk, IfErr, MatchResult, string_bytes};
 ghost use Rattle.sync_survey.specs.Faults.{survey_view, SurveyFields};
 ghost use Rattle.sync_survey.specs.Survey.{IsSurveyLaidOut};
@@ -16,7 +16,7 @@ use laying::Selected;
 use requests::piece_name;
 use std::alloc::Global;
 
-/// A piece that is to be written: its name, and its frames with their plan.
+/// A piece to be written: its name, and its frames with their plan.
 #[derive(Drop)]
 pub(crate) struct PlannedPiece {
     pub name: String,
@@ -47,7 +47,8 @@ impl PlannedPiece {
     }
 }
 
-/// The pieces from each place to the next: refused as `Cut::select` says, for the first pair that is; `Memory`.
+/// The pieces from each place to the next: refused as `Cut::select` says, for the first pair that
+/// is refused; `Memory`.
 pub(crate) fn make_pieces<C: Cut>(
     alloc: Global,
     cut: &C,

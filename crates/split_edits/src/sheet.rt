@@ -34,9 +34,10 @@ fn places_in(alloc: Global, bytes: &[u8]) -> Result<Vec<Place>, EditFault>
 /// The positions at which a sheet, the second input of a command, cuts a file. The files stay.
 ///
 /// # Errors
-/// `Input(1, ..)` with `Absent` and `Read`, and, only where the folder doesn't tell its files, with `Shrunk`, the length in
-/// bytes that the sheet was found with and the one that it had when it was read; `SheetTooLarge` with its length above 65,536
-/// bytes; `Sheet` with the fault of its bytes; `Memory`.
+/// `Input(1, ..)` with `Absent` and `Read`, and, only if the folder's contents aren't known, with
+/// `Shrunk`, the length in bytes that the sheet was found with and the length that it had when it
+/// was read; `SheetTooLarge` with its length above 65,536 bytes; `Sheet` with the fault of its
+/// bytes; `Memory`.
 pub(crate) fn sheet_places<D: Folder>(
     alloc: Global,
     folder: &mut D,

@@ -2,7 +2,7 @@
 use info_header::Info;
 use sync_survey::Survey;
 
-/// The survey by which pieces are laid, and what is read of the head, where pieces need it.
+/// The survey by which pieces are laid, and what is read from the head if pieces need it.
 #[derive(Drop)]
 pub(crate) struct SplitSource {
     pub survey: Survey,

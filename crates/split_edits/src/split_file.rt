@@ -34,8 +34,8 @@ fn clash(input: &str, sheet: Option<&str>, prefix: &str) -> Option<u32>
 /// Cuts the input: creates and writes a file for each piece, from each place to the next.
 ///
 /// # Errors
-/// As `split`, but for the refusals of its places, which are those of `Cut::select`, and for the head of the input, whose frame
-/// is read after the survey where pieces need it.
+/// As `split`, except for the refusals of its places, which are those of `Cut::select`, and for the
+/// head of the input, whose frame is read after the survey if pieces need it.
 fn split_by<C: Cut, D: Folder>(
     alloc: Global,
     folder: &mut D,
@@ -66,25 +66,30 @@ fn split_by<C: Cut, D: Folder>(
     )
 }
 
-/// Writes the pieces of the input, which are the frames from each position up to, but not including, the next, with all main
-/// data. Each is a file as `edits::cut` writes one that keeps the slots of its frames: the ID3v2 blocks of the input before
-/// its first frame, an Info frame, these frames in the slots of their plan, with a lead-in where the first of them need more
-/// room for their main data than they have themselves, and all other blocks. The name of a piece is the prefix, two decimal
+/// Writes the pieces of the input: the frames from each position up to, but not including, the
+/// next, with all main data. Each is a file as `edits::cut` writes it when it keeps the slots of
+/// the frames: the ID3v2 blocks of the input before its first frame, an Info frame, these frames in
+/// the slots of their plan, with a lead-in if the first of them need more room for their main data
+/// than they have themselves, and all other blocks. The name of a piece is the prefix, two decimal
 /// digits of its number, which is counted from 1, and `.mp3`.
 ///
 /// # Errors
-/// In this order: `EqualNames` with 0 where the name of the input is one of the 99 that the prefix can give, byte
-/// for byte, whether there are so many pieces or not, and with 1 where that of the sheet is; `Input(0, ..)` with the fault
-/// of the survey of the input, of which 2,900,000 frames are allowed; of a sheet, which is input 1, `Input(1, ..)` with
-/// `Absent`, `Read` and `Shrunk`, `SheetTooLarge` with its length where it has more than 65,536 bytes, and `Sheet` with its
-/// first fault; `Range` with the numbers of the two frames and that of all frames for the first position and the next between
-/// which there is no frame, or of which the second is after the end. After these nothing was created.
+/// In this order: `EqualNames` with 0 if the name of the input is one of the 99 names with the
+/// prefix, byte for byte, however many pieces there are, and with 1 if the name of the sheet is;
+/// `Input(0, ..)` with the fault of the survey of the input, which may have 2,900,000 frames; for a
+/// sheet, which is input 1, `Input(1, ..)` with `Absent`, `Read` and `Shrunk`, `SheetTooLarge` with
+/// its length if it has more than 65,536 bytes, and `Sheet` with its first fault; `Range` with the
+/// numbers of the two frames and the number of all frames, for the first position and its next
+/// between which there is no frame, or if the next is after the end. After these nothing was
+/// created.
 ///
-/// `Input` with `Read` and `Write` come only where a call of that kind failed, `Input` with `Absent` only where that input
-/// isn't there, and every other answer only where none failed. `Write` names the piece, counted from 0. After it, and after
-/// `Input(0, ..)` with `Read` or `Shrunk` where an output was created, the pieces before are whole, and this one is as it was
-/// or holds a prefix of its bytes, and after `Write` not all of them. `Memory` may come once the input was found with a length
-/// that it may have, before the first output is created, and not from then on.
+/// `Input` with `Read` and `Write` are returned only if a call of that kind failed, `Input` with
+/// `Absent` only if that input isn't there, and any other result only if no call failed. `Write`
+/// has the number of the piece, counted from 0. After it, and after `Input(0, ..)` with `Read` or
+/// `Shrunk` if an output was created, the pieces before are whole, and this one is as it was or
+/// holds a prefix of its bytes, and after `Write` not all of them. `Memory` may be returned once
+/// the input was found with a length that it may have, before the first output is created, but not
+/// from then on.
 pub fn split<D: Folder>(
     alloc: Global,
     folder: &mut D,
@@ -101,15 +106,17 @@ pub fn split<D: Folder>(
     split_by(alloc, folder, input, points, prefix)
 }
 
-/// Writes the pieces of the input, by each of which players play exactly the samples from one place up to, but not including,
-/// the next. Each is a file as `edits::cut_exact` writes one, so that neighbouring pieces share the frames that a decoder needs
-/// for both; played one after another, they are the samples of the input from the first place to the last, each once. A start
-/// in a cue sheet is that many whole samples after the first as take no longer. The name of a piece is as `split` has it.
+/// Writes the pieces of the input, from each of which players play exactly the samples from one
+/// place up to, but not including, the next. Each is a file as `edits::cut_exact` writes it, so
+/// neighbouring pieces share the frames that a decoder needs for both; played in order, they are
+/// the samples of the input from the first place to the last, each once. A start in a cue sheet is
+/// the greatest whole number of samples that take no longer than its time. The names of the pieces
+/// are as in `split`.
 ///
 /// # Errors
-/// As `split`, and in its order, but for `Span`, which comes in place of `Range`: with the numbers of the two samples and that of
-/// all that are played, for the first place and the next between which there is no sample, or of which the second is after the
-/// end.
+/// As `split`, and in its order, except for `Span` instead of `Range`: with the numbers of the two
+/// samples and the number of all samples that are played, for the first place and its next between
+/// which there is no sample, or if the next is after the end.
 pub fn split_exact<D: Folder>(
     alloc: Global,
     folder: &mut D,

@@ -1,4 +1,4 @@
-//! The second pass: pieces are written one after the other.
+//! The second pass: pieces are written in order.
 ghost use Rattle.std.specs.Prelude.{◌≡◌, [], length};
 ghost use Rattle.outside.specs.Feed.{IsFedFrom};
 ghost use Rattle.sync_survey.specs.Faults.{survey_view};
@@ -10,12 +10,12 @@ use laying::{Relay, RelayBuffers};
 use outside::{Folder, Pass};
 use sync_survey::Survey;
 
-/// Creates the outputs of the pieces and writes them, one after the other. It takes no memory.
+/// Creates the outputs of the pieces and writes them, in order. It takes no memory.
 ///
 /// # Errors
-/// `Input(0, ..)` with `Read`, and with `Shrunk` only where the folder doesn't tell its files; `Write` with the number of the
-/// piece, counted from 0. Then the pieces before are whole, and this one holds a prefix of its bytes, with `Write` not all of
-/// them, or wasn't created.
+/// `Input(0, ..)` with `Read`, and with `Shrunk` only if the folder's contents aren't known;
+/// `Write` with the number of the piece, counted from 0. Then the pieces before are whole, and this
+/// one holds a prefix of its bytes, with `Write` not all of them, or wasn't created.
 pub(crate) fn write_pieces<D: Folder>(
     folder: &mut D,
     input: &str,

@@ -1,4 +1,4 @@
--- What the one body asks of the command.
+-- What the one body requires of the command.
 use Rattle.pack_edits.proofs.{ModeLemmas.mode_proper, PackedLengthLemmas.run-fewest}
 use Rattle.pack_edits.proofs.calls.pack_with.Goals as goal
 

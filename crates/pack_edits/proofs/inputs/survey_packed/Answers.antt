@@ -1,4 +1,4 @@
--- Where the input has no fault with fewer frames allowed, it has none with more.
+-- If the input has no fault with fewer frames allowed, it has none with more.
 use Rattle.std.proofs.{Common.{Ok, subst, ◌≡◌}, lemmas.Result.{IfErr-weaker, IfOk-weaker}}
 use Rattle.commands.specs.SingleOutput.{IsFileFault, most_frames}
 use Rattle.pack_edits.proofs.LimitLemmas.{survey_of-more}

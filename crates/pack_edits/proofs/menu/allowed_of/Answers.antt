@@ -1,4 +1,4 @@
--- One slot more is kept or left out.
+-- One more slot is kept or left out.
 use Rattle.std.proofs.{Common.{append-nil, arith}, lemmas.List.Elements.filter_more}
 use Rattle.pack_edits.specs.Rates.{allows}
 use Rattle.pack_edits.proofs.menu.allowed_of.Goals as goal

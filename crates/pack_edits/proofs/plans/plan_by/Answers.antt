@@ -1,4 +1,4 @@
--- What each planner is asked for, and that its answer is the plan of the mode.
+-- What each planner requires, and that it returns the plan of the mode.
 use Rattle.std.proofs.Common.{ap, arith, inl, inr, length, List, map, None, Ok, refl, subst, sym, ℕ}
 use Rattle.std.proofs.{Common.{◌∙◌, ◌≡◌, ◌≤◌, ◌⊎◌}, lemmas.List.length-map}
 use Rattle.best_plan.specs.Best.{IsBestPlan}

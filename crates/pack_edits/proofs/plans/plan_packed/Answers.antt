@@ -1,4 +1,4 @@
--- By the plan the frames can be laid.
+-- The frames can be laid by the plan.
 use Rattle.std.proofs.{Common.{ap, arith, Ok, sym, ◌∙◌}, lemmas.List.length-map}
 use Rattle.commands.specs.Refusing.{then_made}
 use Rattle.cut_edits.specs.Chosen.{chosen_in, chosen_rows, placed_part}

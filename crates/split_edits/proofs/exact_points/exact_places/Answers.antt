@@ -1,4 +1,4 @@
--- A place more.
+-- One more place.
 use Rattle.std.proofs.Common.{ap, arith, get_or, List, map, sym, take, [], ◌++◌, ◌∙◌, ◌∷◌}
 use Rattle.std.proofs.lemmas.{Grind.take_at_read, List.{map-append, take_all}}
 use Rattle.cue_sheet.specs.declared.place.Place.TheVariants.{Frame}

@@ -1,4 +1,4 @@
--- Each piece goes on where the one before it ends.
+-- Each piece continues where the one before it ends.
 use Rattle.split_edits.proofs.RecordingLemmas.{pieces-recording}
 use Rattle.split_edits.proofs.laws.pieces_are_the_recording.Goals as goal
 

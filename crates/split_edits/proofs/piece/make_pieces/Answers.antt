@@ -1,4 +1,4 @@
--- A piece more.
+-- One more piece.
 use Rattle.std.proofs.Common.{ap, arith, drop, length, length-append, List, map, Ok, subst, sym}
 use Rattle.std.proofs.{Common.{take, [], ◌+◌, ◌-◌, ◌∙◌, ◌∷◌, ◌≡◌}, lemmas.List.map-append}
 use Rattle.std.proofs.lemmas.List.Elements.{All-drop, All-take}

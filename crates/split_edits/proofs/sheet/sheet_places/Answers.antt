@@ -1,4 +1,4 @@
--- A sheet whose bytes aren't read says no positions.
+-- A sheet whose bytes can't be read lists no positions.
 use Rattle.commands.proofs.RefusingLemmas.{err_with}
 use Rattle.split_edits.proofs.SheetLemmas.{unread-fault, unread-number}
 use Rattle.split_edits.proofs.sheet.sheet_places.Goals as goal

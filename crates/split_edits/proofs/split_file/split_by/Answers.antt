@@ -1,4 +1,4 @@
--- A clash of names, what was met before the first output is created, and the second pass.
+-- A clash of names, faults met before the first output is created, and the second pass.
 use Rattle.std.proofs.Common.{ap, ap₂, arith, length, List, map, None, Ok, refl, rules, subst, sym}
 use Rattle.std.proofs.{Common.{ℕ, ◌∙◌, ◌≡◌, ◌≤◌}, lemmas.Result.{IfErr-weaker, on_ok_weaker}}
 use Rattle.commands.{proofs.MakeLemmas.{names_free, no_clash, refused_run}, specs.Command.clash_of}
@@ -79,7 +79,7 @@ returns-in_err-places g c =
     (none_fell_by_reads _ _ (only_reads_then _ _ _ (only_reads_then _ _ _
     c.survey_at.ensures.reads.counts c.read.ensures.reads.counts) c.places.ensures.reads.counts))
 
--- the places are those that the files from before say, and nothing changed
+-- the places are those that the files gave before, and nothing changed
 module _ (g : given.Over) (c : After-as_slice g) where
   abbrev old : Seen
   old = g.D.Folder.seen c.args.folder.now
@@ -136,7 +136,7 @@ returns-in_err-buffers g c =
     (old g at) c.in_ok-survey.ensures.there c.in_ok-survey.ensures.surveyed _ _ (stays g at) refl)
     tt (fell g at)
 
--- no more than there are names
+-- there are no more pieces than names
 few : (g : given.Over) (c : In_ok-pieces g) → length c.in_ok-pieces.pieces.items ≤ 99
 few g c = omega (
   arith,

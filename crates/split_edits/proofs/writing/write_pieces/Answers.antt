@@ -1,4 +1,4 @@
--- A piece more that is whole, or begun.
+-- One more piece is whole, or begun.
 use Rattle.std.proofs.Common.{arith, drop, length, refl, rules, string_bytes, subst, sym, take, []}
 use Rattle.std.proofs.{Common.{◌+◌, ◌∙◌, ◌∷◌, ◌≡◌, ◌≢◌}, lemmas.List.{length-take, take_all}}
 use Rattle.commands.proofs.OutputLemmas.{not_begun, output_whole, pass_fault, touches_prefix}
@@ -142,7 +142,7 @@ loop-piece-preserved g c =
           ∙ c.loop-piece.invariant.counts;
     }
 
--- all of them
+-- all pieces are whole
 all-wrote : (g : given.Over) (c : After-loop-piece g)
     → Wrote (survey_view c.args.survey.now) c.args.input.now c.args.pieces.now
     (g.D.Folder.seen c.args.folder.now).files (g.D.Folder.seen c.loop-piece.folder).files

@@ -1,4 +1,4 @@
--- The positions that a sheet says are places of samples.
+-- The positions that a sheet lists are places of samples.
 use Rattle.std.proofs.Common.{ap, map, subst, sym, ◌∙◌}
 use Rattle.exact_span.specs.Places.{IsExactPlace}
 use Rattle.exact_span.specs.declared.exact_place.ExactPlace.TheVariants.{Place as Position}

@@ -1,4 +1,4 @@
--- The survey once its head is set apart.
+-- The survey whose head is set apart.
 use Rattle.std.proofs.Common.{ap, arith, length, subst, sym}
 use Rattle.cut_edits.proofs.{HeadLemmas.apart-length, PieceLemmas.apart_had}
 use Rattle.sync_survey.{proofs.EmptiedLemmas.apart-laid, specs.Faults.{survey_view, SurveyFields}}

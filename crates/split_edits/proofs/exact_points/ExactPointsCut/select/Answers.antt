@@ -1,4 +1,4 @@
--- The frames of the span, by the survey and the head that are known.
+-- The frames of the span, given the known survey and head.
 use Rattle.std.proofs.Common.{ap, inr, Option, subst, sym, ◌∙◌}
 use Rattle.cut_edits.specs.Exact.{file_span, span_piece}
 use Rattle.info_header.specs.declared.fields.Info.{Info}

@@ -1,4 +1,4 @@
--- The chosen frames in their own slots, by the survey that is known.
+-- The chosen frames in their own slots, given the known survey.
 use Rattle.std.proofs.Common.{inr}
 use Rattle.cut_edits.specs.Chosen.{chosen_in}
 use Rattle.laying.specs.Laid.{selected_part}
