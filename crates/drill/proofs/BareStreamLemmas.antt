@@ -1,5 +1,5 @@
--- A file that is nothing but frames, with all main data laid into their areas: it is
--- well-formed, a survey tells the frames that were given, and they are its stream.
+-- A file that is nothing but frames, with all main data laid into their areas: it is well-formed, a
+-- survey finds the frames that were given, and they are its stream.
 use Rattle.std.proofs.Common.{ap, append-nil, append_assoc, ap₂, arith, drop, length, length-append}
 use Rattle.std.proofs.Common.{List, map, None, Ok, Option, option_map, refl, slice_get, Some, subst}
 use Rattle.std.proofs.Common.{sym, take, ℕ, [], ◌++◌, ◌+◌, ◌-◌, ◌∙◌, ◌∷◌, ◌≡◌, ◌≤◌}
@@ -34,8 +34,8 @@ use Rattle.sync_survey.specs.declared.items.Item.TheVariants.{End, Frame as Fram
 use Rattle.sync_survey.specs.declared.places.{Head.Head, Piece.Piece, PlacedFrame.PlacedFrame}
 use Rattle.sync_survey.specs.declared.{places.Start.Start, runs.Region.TheVariants.{Front, Stream}}
 
--- frames of the class, whose main data can be laid into
--- their areas; the first one's text isn't that of a head
+-- frames of the class, whose main data can be laid into their areas; the first has no text of a
+-- head
 pub record IsBare (c : ClassFields) (f : Frame) (more : List Frame) : Type 0 where
   pub entries : AreStreamEntries c (f ∷ more)
   pub fits : CanDataBeLaid (all_frame_data (f ∷ more))
@@ -204,7 +204,7 @@ module _ (c : ClassFields) (f : Frame) (more : List Frame) (is : IsBare c f more
     length = length file;
   }
 
-  -- the survey of the file tells its frames
+  -- the survey of the file finds its frames
   pub bare-survey : (allowed : ℕ) → length frames ≤ allowed
       → survey_fields file allowed ≡ Ok (bare_fields f more)
   bare-survey allowed few = surveyed-told file allowed begin (read allowed few) ∙ ap Ok told

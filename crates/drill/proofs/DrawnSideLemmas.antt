@@ -1,5 +1,5 @@
--- The side information that was drawn: each field is within its
--- bits, and the main data fit into the room that there is for them.
+-- The side information that was drawn: each field is within its bits, and there is room for the
+-- main data.
 use Rattle.std.proofs.Common.{arith, List, lit<, map, refl, ℕ, [], ◌%◌, ◌*◌, ◌+◌, ◌<◌, ◌∷◌, ◌≡◌}
 use Rattle.std.proofs.{Common.◌≤◌, lemmas.Nat.mod_below}
 use Rattle.drill.specs.Draws.{draws, state_after}
@@ -9,7 +9,7 @@ use Rattle.laying.specs.LaidFiles.{HasPairs}
 use Rattle.side_info.{proofs.SideLemmas.SideFits-from_parts, specs.Granule.GranuleFits}
 use Rattle.side_info.specs.{Side.{payload_bits, SideFits}, declared.side.Side.Side}
 
--- four draws and four more are eight
+-- four draws and four more are eight draws
 pub behind-twice : (state : ℕ) → state_after 4 (state_after 4 state) ≡ state_after 8 state
 unfolding state_after
 behind-twice state = refl
@@ -66,26 +66,26 @@ module _ (begin a b c d e f g h : ℕ) where
   by-pairs : HasPairs (side_by begin (a ∷ b ∷ c ∷ d ∷ []) (e ∷ f ∷ g ∷ h ∷ []))
   by-pairs = record { scfsi = refl; granules = refl; first = refl; second = refl }
 
--- ---- with those of the generator
+-- ---- with draws of the generator
 
 -- the drawn side information has pairs of granules and channels
 pub drawn_side-pairs : (begin state : ℕ) → HasPairs (drawn_side begin state)
 unfolding drawn_side draws
 drawn_side-pairs begin state = by-pairs begin _ _ _ _ _ _ _ _
 
--- its fields are within their bits
+-- the fields of the drawn side information are within their bits
 pub drawn_side-fits : (begin state : ℕ) → begin ≤ 511
     → SideFits (class_of drill_header) (drawn_side begin state)
 unfolding drawn_side draws
 drawn_side-fits begin state few = by-fits begin _ _ _ _ _ _ _ _ few
 
--- its main data fit into the room
+-- there is room for the main data
 pub drawn_side-room : (begin state : ℕ)
     → payload_bits (drawn_side begin state) ≤ 8 * drill_room begin
 unfolding drawn_side draws
 drawn_side-room begin state = by-room begin _ _ _ _ _ _ _ _
 
--- its main_data_begin is the one that was given
+-- main_data_begin is the one that was given
 pub drawn_side-begin : (begin state : ℕ) → (drawn_side begin state).main_data_begin ≡ begin
 unfolding drawn_side
 drawn_side-begin begin state = refl

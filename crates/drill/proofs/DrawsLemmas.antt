@@ -1,4 +1,4 @@
--- Draws, one after the other, and the main data that are made of them.
+-- Draws, in order, and the main data that are made from them.
 use Rattle.std.proofs.Common.{ap, append_assoc, arith, drop, get_or, length, List, map, refl, set}
 use Rattle.std.proofs.Common.{suc, sym, take, zero, zero-add, ℕ, [], ◌%◌, ◌*◌, ◌++◌, ◌+◌, ◌-◌, ◌/◌}
 use Rattle.std.proofs.Common.{◌<◌, ◌∙◌, ◌∷◌, ◌≡◌}
@@ -9,21 +9,21 @@ use Rattle.drill.specs.Drill.{drawn_bytes, first_bits}
 use Rattle.frame_writer.specs.Laid.{zeros}
 use Rattle.reservoir.specs.Window.{AreBitsPacked, main_bits}
 
--- ---- one draw more
+-- ---- one more draw
 
--- behind no draws the state is the same
+-- after no draws the state is the same
 pub behind-none : (state : ℕ) → state_after 0 state ≡ state
 unfolding state_after
 behind-none state = refl
 
--- behind one draw more it is the next state
+-- after one more draw it is the next state
 pub behind-more : (count state : ℕ)
     → state_after (suc count) state ≡ next_state (state_after count state)
 unfolding state_after
 behind-more zero state = refl
 behind-more (suc count) state = behind-more count (next_state state)
 
--- draws and more draws are as many as both
+-- some draws and then more lead to the same state as all of them together
 pub behind-sum : (first second state : ℕ)
     → state_after second (state_after first state) ≡ state_after (first + second) state
 unfolding state_after
@@ -45,12 +45,12 @@ draws-more zero state = refl
 draws-more (suc count) state =
     ap (λ (xs : List ℕ). drawn_number (next_state state) ∷ xs) (draws-more count (next_state state))
 
--- so there are bytes
+-- there are as many bytes as were asked for
 pub length-drawn : (count state : ℕ) → length (drawn_bytes count state) ≡ count
 length-drawn count state =
     length-map (draws count state) (λ draw. draw % 64) ∙ length-draws count state
 
--- ---- bytes written one after another
+-- ---- bytes written in order
 
 -- before the first byte none was drawn
 pub no-byte : (state : ℕ) (octets : List ℕ) → octets ≡ drawn_bytes 0 state ++ octets
@@ -78,7 +78,7 @@ byte-more octets now i state within is =
 
 -- ---- the main data
 
--- what is packed out of bytes that begin where the window does
+-- the first bits of bytes that begin where the window does
 pub packed-first : (packed octets : List ℕ) (count from : ℕ) → AreBytes packed → from ≡ 0
     → length octets ≡ (count + 7) / 8 → AreBitsPacked packed count (main_bits octets from count)
     → packed ≡ first_bits count octets

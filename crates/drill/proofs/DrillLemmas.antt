@@ -55,7 +55,7 @@ header-is = record {
   emphasis = lit≤ tt;
 }
 
--- what is kept of bytes, and 0 after it
+-- the bits that are kept of bytes, and zeros after them
 abbrev spelled : ℕ → List ℕ → List ℕ
 spelled count octets = take count (bits octets) ++ zeros (8 * length octets - count)
 
@@ -69,7 +69,7 @@ bits-first : (count : ℕ) (octets : List ℕ) → count ≤ 8 * length octets
 bits-first count octets few = bits-bytes (length octets) (spelled count octets)
     (AreBits-spelled count octets) (length-spelled count octets few)
 
--- after the bits the payload is 0
+-- after its bits the payload is 0
 filled : (count state : ℕ)
     → drop count (bits (drawn_payload count state)) ≡ zeros (8 * ((count + 7) / 8) - count)
 unfolding drawn_payload
@@ -87,7 +87,7 @@ unfolding drawn_payload
 octets-are count state = AreBytes-bytes (spelled count (drawn_bytes ((count + 7) / 8) state))
     (AreBits-spelled count (drawn_bytes ((count + 7) / 8) state))
 
--- the main data have as many bytes as hold the bits that were drawn
+-- the main data have as many bytes as are needed for the bits that were drawn
 pub bytes-is : (begin state : ℕ)
     → payload_bytes (drawn_side begin state) ≡ (drawn_bits begin state + 7) / 8
 unfolding payload_bytes
@@ -118,7 +118,7 @@ entries-are : (seed i count : ℕ) → AreStreamEntries (class_of drill_header) 
 entries-are seed i zero = tt
 entries-are seed i (suc count) = (is_entry seed i, entries-are seed (i + 1) count)
 
--- after a frame main data end where its own do
+-- after a frame the main data end where its own main data end
 pub ended-next : (seed i : ℕ) → (drill_state_at seed (suc i)).ended
     ≡ data_start i (drill_state_at seed i) + length (drill_frame_at seed i).payload
 unfolding drill_state_at
@@ -153,7 +153,7 @@ unfolding number
 number-zeros zero = refl
 number-zeros (suc n) = omega (arith, number-zeros n)
 
--- the first bits of a byte and 0 after them
+-- the first bits of a byte, and zeros after them, are below 64
 part-low : (high low octet : ℕ) → octet < 64 → octet / 2 ^ low % 2 ^ high * 2 ^ low < 64
 part-low high low octet small = omega (
   arith,
@@ -281,7 +281,7 @@ front-size seed i = length-front drill_header (drill_frame_at seed i).kept.side 
 
 -- ---- the stream
 
--- before the first none end after 0
+-- before the first frame no main data end after 0
 pub first-begin : (seed : ℕ) → (drill_state_at seed 0).ended ≡ 0
 unfolding drill_state_at
 first-begin seed = refl
@@ -292,7 +292,7 @@ pub frames-first : (seed count : ℕ)
 unfolding drill_frames
 frames-first seed count = refl
 
--- so is the stream
+-- the stream is the first frame and those from the second on
 pub stream-first : (seed count : ℕ)
     → drill_stream seed (suc count) ≡ bytes_of_frames (drill_frame_at seed 0 ∷ from_on seed 1 count)
 unfolding drill_stream
@@ -344,7 +344,7 @@ areas-long : (seed i count : ℕ)
 areas-long seed i zero = refl
 areas-long seed i (suc count) = omega (arith, area-is, areas-long seed (i + 1) count)
 
--- it has 417 bytes for each frame
+-- the stream has 417 bytes for each frame
 pub streams-long : StreamsAreLong
 unfolding drill_stream drill_frames
 streams-long seed count =
@@ -359,7 +359,7 @@ streams-long seed count =
       areas-long seed 0 count,
     ))
 
--- it holds the frames that were drawn
+-- the stream holds the frames that were drawn
 pub streams-hold : StreamsHold
 streams-hold seed zero some = absurd (omega (arith, some))
 streams-hold seed (suc count) some =
@@ -380,7 +380,7 @@ fields-first seed count = λ i. record {
   length = length (sym (stream-first seed count) i);
 }
 
--- it has their survey
+-- the stream has the survey of these frames
 pub streams-surveyed : StreamsAreSurveyed
 streams-surveyed seed zero allowed some few within = absurd (omega (arith, some))
 streams-surveyed seed (suc count) allowed some few within =

@@ -1,4 +1,4 @@
--- Frames of a stream that are given to a writer one after another.
+-- Frames of a stream that are given to a writer, one more at a time.
 use Rattle.std.proofs.Common.{ap, append_assoc, ap₂, arith, false, length, length-append, List, map}
 use Rattle.std.proofs.Common.{min, refl, subst, suc, sym, take, zero, zero-add, ℕ, [], ◌*◌, ◌++◌}
 use Rattle.std.proofs.Common.{◌+◌, ◌-◌, ◌/◌, ◌<◌, ◌∙◌, ◌∷◌, ◌≡◌, ◌≤◌}
@@ -34,7 +34,7 @@ pub area-is : area_of (class_of drill_header) drill_header.slot false ≡ 381
 unfolding area_of length_of rate_of frequency_of overhead_of side_size_of
 area-is = refl
 
--- the bits that are kept and those that are 0 are as many as the bytes have
+-- the bits that are kept and the zeros are as many as the bits of the bytes
 pub length-spelled : (count : ℕ) (octets : List ℕ) → count ≤ 8 * length octets
     → length (take count (bits octets) ++ zeros (8 * length octets - count)) ≡ 8 * length octets
 length-spelled count octets few =
@@ -46,13 +46,13 @@ length-spelled count octets few =
       length-replicate {A = ℕ} (8 * length octets - count) 0,
     )
 
--- to keep the first bits of bytes keeps their number
+-- keeping the first bits of bytes keeps the number of bytes
 pub length-first_bits : (count : ℕ) (octets : List ℕ) → count ≤ 8 * length octets
     → length (first_bits count octets) ≡ length octets
 length-first_bits count octets few =
     length-bytes (length octets) _ (length-spelled count octets few)
 
--- the main data have as many bytes as hold their bits
+-- the main data have as many bytes as are needed for their bits
 pub length-payload : (bit_count state : ℕ)
     → length (drawn_payload bit_count state) ≡ (bit_count + 7) / 8
 unfolding drawn_payload
@@ -61,7 +61,7 @@ length-payload bit_count state =
     let many = length-drawn ((bit_count + 7) / 8) state in
     length-first_bits bit_count octets (omega (arith, many)) ∙ many
 
--- the main data fit into the room for them
+-- there is room for the main data
 pub payload-within : (begin state : ℕ) → length (drawn_frame begin state).payload ≤ 381 + begin
 payload-within begin state = omega (
   arith,
@@ -75,7 +75,7 @@ reach-most held same = omega (arith, ap (λ (c : ClassFields). window_of c.versi
 
 -- ---- where the main data of a frame begin and end
 
--- those before a frame end within the areas of the frames before it
+-- the main data before a frame end within the areas of the frames before it
 pub before-ended : (seed i : ℕ) → (drill_state_at seed i).ended ≤ area_start i
 unfolding drill_state_at
 before-ended seed zero = omega arith
@@ -88,7 +88,7 @@ next-begin : (i : ℕ) (b : DrillState) → b.ended ≤ area_start i
     ≡ data_begin (suc i) (next_drill_state i b)
 next-begin i b ended = omega (arith, ended, payload-within (data_begin i b) b.state)
 
--- so main_data_begin is at most 511
+-- main_data_begin is at most 511
 pub begin-few : (seed i : ℕ) → data_begin i (drill_state_at seed i) ≤ 511
 begin-few seed i = omega (arith, before-ended seed i)
 
@@ -102,11 +102,11 @@ module _ (seed i : ℕ) (old : DrillWriter) (is : IsBeforeFrame seed i old) wher
   abbrev b : DrillState
   b = drill_state_at seed i
 
-  -- the next frame is the one at i
+  -- the next frame is frame i
   pub frame-is : next_frame old ≡ drill_frame_at seed i
   frame-is = ap₂ drawn_frame is.reach is.state
 
-  -- how far later main data reach after it is the next main_data_begin
+  -- how far later main data reach after this frame is the next main_data_begin
   pub reach-next : (held : WaitingFrames)
       → reach_of held ≡ reach_after_frame (class_of drill_header) (next_frame old)
       → reach_of held ≡ data_begin (suc i) (drill_state_at seed (suc i))
@@ -114,7 +114,7 @@ module _ (seed i : ℕ) (old : DrillWriter) (is : IsBeforeFrame seed i old) wher
   reach-next held reach = reach ∙ ap (reach_after_frame (class_of drill_header)) frame-is
       ∙ reach-frame (data_begin i b) b.state ∙ next-begin i b (before-ended seed i)
 
-  -- the writer is then before the one after it
+  -- after this frame the writer is before the next one
   pub before-more : (new : DrillWriter) → IsNextDrawn new → new.draws.state
       ≡ state_after (draws_of (reach_of old.writer) old.draws.state) old.draws.state
       → reach_of new.writer ≡ reach_after_frame (class_of drill_header) (next_frame old)
@@ -138,12 +138,12 @@ before-first seed making state new = record {
 
 -- ---- all frames
 
--- a stream of no frames is none
+-- a stream of no frames is empty
 pub frames-none : (seed : ℕ) → drill_frames seed 0 ≡ []
 unfolding drill_frames
 frames-none seed = refl
 
--- a stream of one frame more ends with this frame
+-- a stream of one more frame ends with this frame
 pub frames-more : (seed i : ℕ)
     → drill_frames seed (suc i) ≡ drill_frames seed i ++ drill_frame_at seed i ∷ []
 unfolding drill_frames
@@ -190,7 +190,7 @@ begins-behind seed i (suc count) free within = omega (
 -- ---- what was appended
 
 module _ (name : List ℕ) where
-  -- nothing yet
+  -- at first nothing was appended
   pub made-none : (seed : ℕ) (making : DrillWriter) (files : Files) → IsFileThere files name
       → IsNewQueue (class_of drill_header) making.writer → making.unsent ≡ []
       → HasMade name (drill_writing making) (drill_frames seed 0) files files
@@ -203,7 +203,7 @@ module _ (name : List ℕ) where
 
   module _ (seed i : ℕ) (old : DrillWriter) (is : IsBeforeFrame seed i old) (before mid : Files)
       (made : HasMade name (drill_writing old) (drill_frames seed i) before mid) where
-    -- with a frame more the stream is one frame longer
+    -- with one more frame the stream is one frame longer
     pub made-more : (new : Writing) (after : Files)
         → AcceptsFrame name (next_frame old) (drill_writing old) new mid after
         → HasMade name new (drill_frames seed (suc i)) before after
@@ -217,7 +217,7 @@ module _ (name : List ℕ) where
           (on.writer [] made.passed (drill_frames seed i) made.writer);
     }
 
-    -- a write failed at a frame
+    -- if a write failed at a frame, a prefix of the stream was appended
     pub made-part : (count : ℕ) (held : WaitingFrames) (after : Files) → i < count
         → reach_of held ≡ reach_after_frame (class_of drill_header) (next_frame old)
         → WritesPart name (next_frame old) (drill_writing old) held mid after
@@ -243,7 +243,7 @@ module _ (name : List ℕ) where
         (prefix_in_front [] are.taken later.0 (subst (λ (xs : List ℕ). AppendedPrefix name xs before
         after) are.is (passed_then_prefix passed part.prefix)))
 
-  -- the frames, of which the last wait
+  -- the bytes of the frames were appended, except those that wait
   pub made-passed : (seed count : ℕ) (w : Writing) (before after : Files)
       → HasMade name w (drill_frames seed count) before after
       → AppendsWaiting name (drill_stream seed count) (waiting_bytes w) before after

@@ -1,4 +1,4 @@
--- The frames of a stream have a layout without a lead-in: that in which they were drawn.
+-- The frames of a stream have a layout without a lead-in: the one in which they were drawn.
 use Rattle.std.proofs.Common.{ap, append-nil, arith, Contains, false, length, List, map, None}
 use Rattle.std.proofs.Common.{Option, refl, Some, subst, suc, sym, zero, ℕ, [], ◌+◌, ◌∙◌, ◌∷◌, ◌≡◌}
 use Rattle.std.proofs.{Math.Path.transport, lemmas.List.Elements.{All-cons, All-nil}}
@@ -21,17 +21,17 @@ use Rattle.slot_plan.specs.declared.needs.{Need.Need, Placed.Placed}
 abbrev needs_on : ℕ → ℕ → ℕ → ℕ → List Need
 needs_on seed at i count = map need_of (rows_from at (from_on seed i count))
 
--- where their main data begin
+-- where the main data of these frames begin
 abbrev starts_on : ℕ → ℕ → ℕ → List ℕ
 starts_on seed i zero = []
 starts_on seed i (suc count) = data_start i (drill_state_at seed i) ∷ starts_on seed (i + 1) count
 
--- each has its own area
+-- the areas of these frames
 abbrev areas_on : ℕ → List ℕ
 areas_on zero = []
 areas_on (suc count) = 381 ∷ areas_on count
 
--- the bytes that a frame needs are those of its main data
+-- the bytes that a frame needs are the bytes of its main data
 need-bytes : (seed i : ℕ) → payload_bytes (drawn_side (data_begin i (drill_state_at seed i))
     (drill_state_at seed i).state)
     ≡ length (drill_frame_at seed i).payload
@@ -79,7 +79,7 @@ module _ (choices : HeaderFields → List SlotFields)
             (starts_on seed (one j) count)) (layout seed later (suc i) count),
       )
 
-  -- the layout is one of all lists of areas
+  -- the layout is among the layouts for all lists of areas
   can-be : (seed count : ℕ)
       → CanBeLaid 511 (map open_frame (part_items choices (drill_needs seed count) None))
   unfolding CanBeLaid HasLayout part_items drill_frames
@@ -94,7 +94,7 @@ module _ (choices : HeaderFields → List SlotFields)
     ),
   )
 
-  -- so there is no lead-in
+  -- if there is such a layout, there is no lead-in
   none-alone : (part : List Need) (lead_ins : List (Option SlotFields))
       → CanBeLaid 511 (map open_frame (part_items choices part None))
       → AreLeadIns 511 choices (part ∷ []) lead_ins → lead_ins ≡ None ∷ []
@@ -118,7 +118,7 @@ module _ (choices : HeaderFields → List SlotFields)
   unfolding all_items part_items
   items-alone part = append-nil (map (need_item choices) part)
 
-  -- no place of its plan is a lead-in
+  -- no place of the plan is a lead-in
   pub no-lead_in : (seed count : ℕ) (placed : List Placed)
       → IsPlan 511 choices (drill_needs seed count ∷ []) placed
       → All (λ p. p.lead_in ≡ false) placed

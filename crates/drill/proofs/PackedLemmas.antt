@@ -1,5 +1,5 @@
--- A stream made from a seed, packed: the packing isn't refused, the
--- packed file holds the frames that were drawn, and needs no lead-in.
+-- A stream made from a seed, packed: the packing isn't refused, the packed file holds the frames
+-- that were drawn, and it needs no lead-in.
 use Rattle.std.proofs.Common.{All, ap, arith, Bool, decimal, Err, false, inl, inr, length, List}
 use Rattle.std.proofs.Common.{map, nat_le, nat_lt, None, Ok, Option, refl, Result, rules}
 use Rattle.std.proofs.Common.{slice_range, Some, subst, suc, sym, true, ℕ, [], ◌&&◌, ◌++◌, ◌<◌, ◌∙◌}
@@ -137,7 +137,7 @@ module _ (seed count : ℕ) (some : 0 < count) (few : count ≤ 20000) where
   right : IsRight all told
   right = all_right file told all choice-is
 
-  -- its frames in the slots of their plan
+  -- the frames of the stream in the slots of their plan
   abbrev plan_all : List Placed
   plan_all = first_plan any_choice told.class (chosen_needs all told)
 
@@ -178,7 +178,7 @@ module _ (seed count : ℕ) (some : 0 < count) (few : count ≤ 20000) where
   none-led = streams-need_no_lead_in seed count any_choice (packed_plan seed count)
       (Contains-all_slots drill_header.slot (search rules)) is-plan
 
-  -- so there are none
+  -- the plan has no lead-ins
   pub no-lead_ins : lead_ins_in (packed_plan seed count) ≡ 0
   no-lead_ins = none-counted (packed_plan seed count) none-led
 
@@ -214,7 +214,7 @@ module _ (seed count : ℕ) (some : 0 < count) (few : count ≤ 20000) where
         right.some right.within fitting right.extension));
   }
 
-  -- how many frames a survey finds in it
+  -- how many frames a survey finds in the packed file
   pub packed-frames : (t : SurveyFields) → survey_of (packed_file seed count) most_frames ≡ Ok t
       → length t.frames ≡ count
   packed-frames t e =
@@ -252,13 +252,13 @@ packed-length file t e = survey-length file most_frames t (survey_of-parts file 
 pub drills-packed : DrillsArePacked
 drills-packed = is-packed
 
--- and has no lead-in
+-- the packed file has no lead-in
 pub drills-no_lead_in : DrillsHaveNoLeadIn
 drills-no_lead_in = no-lead_ins
 
 -- ---- the line
 
--- the line of the summary is that of the stream
+-- the line of the summary is the line of the stream
 pub text-of : (seed count : ℕ) (s : Summary) → s ≡ drill_summary seed count
     → summary_text s ≡ drill_text seed count
 unfolding drill_text
@@ -274,12 +274,12 @@ module _ (seed count : ℕ) (files : Files) (old new : Heard) where
   text-is text (inl always) = same_Some (drill_text seed count) text always
   text-is text (inr told) = ap text_in told.3 ∙ told.4
 
-  -- with all of the line sent the command said what it says
+  -- if all of the line was sent, the command sent its text
   pub told-all : new.sent ≡ sent_and_more old.sent (drill_text seed count) → new.faults ≡ old.faults
       → SaysAll (drill_command seed count) files old new
   told-all = says-all (drill_command seed count) files old new (drill_text seed count) text-is
 
-  -- with a prefix of it sent the command said that prefix
+  -- if a prefix of the line was sent, the command sent a prefix of its text
   pub told-part : SentPrefix (drill_text seed count) old.sent new.sent → Rose old.faults new.faults
       → SaysPrefix (drill_command seed count) files old new
   told-part = says-prefix (drill_command seed count) files old new (drill_text seed count) text-is

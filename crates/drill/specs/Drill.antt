@@ -1,6 +1,6 @@
 -- A stream that is made from a number: frames whose main data are drawn from it and use the bit
 -- reservoir (main_data_begin, ISO/IEC 11172-3, 2.4.2.7). The same number and count of frames give
--- the same bytes. All are of MPEG-1, 128 kbit/s at 44,100 Hz in two channels, so 417 bytes long
+-- the same bytes. All frames are MPEG-1, 128 kbit/s at 44,100 Hz in two channels, so 417 bytes long
 -- with an own area of 381.
 use Rattle.std.specs.List.{range_with_len}
 use Rattle.std.specs.Prelude.{false, length, List, map, max, slice_index, suc, take, zero, ℕ, []}
@@ -29,8 +29,8 @@ drill_header = record {
   emphasis = 0;
 }
 
--- how many bytes there are for the main data of a frame: those of
--- its own area, and those before it that its main_data_begin counts
+-- how many bytes there are for the main data of a frame: its own area, and the bytes before it that
+-- its main_data_begin counts
 abbrev pub drill_room : ℕ → ℕ
 drill_room begin = 381 + begin
 
@@ -39,7 +39,7 @@ drill_room begin = 381 + begin
 abbrev pub drawn_lengths : ℕ → ℕ → List ℕ
 drawn_lengths begin state = map (λ draw. draw % (2 * drill_room begin + 1)) (draws 4 state)
 
--- the global_gain of each, from 100 to 199
+-- the global_gain of each granule and channel, from 100 to 199
 abbrev pub drawn_gains : ℕ → List ℕ
 drawn_gains state = map (λ draw. 100 + draw % 100) (draws 4 (state_after 4 state))
 
@@ -47,8 +47,7 @@ drawn_gains state = map (λ draw. 100 + draw % 100) (draws 4 (state_after 4 stat
 abbrev pub granule_with : ℕ → ℕ → Granule
 granule_with bit_count gain = record no_granule { part2_3_length = bit_count; global_gain = gain }
 
--- granule i of these, counted through the channels
--- of the first and then through those of the second
+-- granule i of these, counted through the channels of the first granule and then of the second
 abbrev pub nth_drawn : List ℕ → List ℕ → ℕ → Granule
 nth_drawn lengths gains i = granule_with (slice_index lengths i) (slice_index gains i)
 
@@ -67,16 +66,16 @@ side_with begin lengths gains =
 unfoldable pub drawn_side : ℕ → ℕ → Side
 drawn_side begin state = side_with begin (drawn_lengths begin state) (drawn_gains state)
 
--- so many draws as bytes, each from 00 to 3f (hexadecimal)
+-- `count` draws as bytes, each from 00 to 3f (hexadecimal)
 abbrev pub drawn_bytes : ℕ → ℕ → List ℕ
 drawn_bytes count state = map (λ draw. draw % 64) (draws count state)
 
--- the first bits of bytes, so many, and zeros after them to the end of the last byte
+-- the first `count` bits of bytes, and zeros after them to the end of the last byte
 abbrev pub first_bits : ℕ → List ℕ → List ℕ
 first_bits count octets = bytes (take count (bits octets) ++ zeros (8 * length octets - count))
 
--- the main data, in as few bytes as hold so many bits: a
--- draw for each byte, the unused low bits of the last one 0
+-- the main data, in as few bytes as hold these bits: a draw for each byte, the unused low bits of
+-- the last one 0
 unfoldable pub drawn_payload : ℕ → ℕ → List ℕ
 drawn_payload bit_count state = first_bits bit_count (drawn_bytes ((bit_count + 7) / 8) state)
 
@@ -91,7 +90,7 @@ drawn_frame begin state = record {
   payload = drawn_payload (drawn_bits begin state) (state_after 8 state);
 }
 
--- how many draws it takes
+-- how many draws a frame takes
 abbrev pub draws_of : ℕ → ℕ → ℕ
 draws_of begin state = 8 + (drawn_bits begin state + 7) / 8
 
@@ -107,15 +106,16 @@ pub record DrillState : Type 0 where
 abbrev pub area_start : ℕ → ℕ
 area_start i = 381 * i
 
--- where its main data begin: after those before it, but no more than 511 bytes before its own area
+-- where the main data of frame i begin: after those before them, but at most 511 bytes before its
+-- own area
 abbrev pub data_start : ℕ → DrillState → ℕ
 data_start i b = max b.ended (area_start i - 511)
 
--- its main_data_begin
+-- the main_data_begin of frame i
 abbrev pub data_begin : ℕ → DrillState → ℕ
 data_begin i b = area_start i - data_start i b
 
--- frame i, by what is known before it
+-- frame i, given what is known before it
 abbrev pub next_drill_frame : ℕ → DrillState → Frame
 next_drill_frame i b = drawn_frame (data_begin i b) b.state
 
@@ -135,11 +135,11 @@ drill_state_at seed (suc i) = next_drill_state i (drill_state_at seed i)
 abbrev pub drill_frame_at : ℕ → ℕ → Frame
 drill_frame_at seed i = next_drill_frame i (drill_state_at seed i)
 
--- the first frames that a number gives, so many
+-- the first `count` frames that a number gives
 unfoldable pub drill_frames : ℕ → ℕ → List Frame
 drill_frames seed count = map (drill_frame_at seed) (range_with_len 0 count)
 
--- their bytes: the main data of each where its main_data_begin
--- says, and zeros in the areas everywhere else
+-- their bytes: the main data of each where its main_data_begin says, and zeros everywhere else in
+-- the areas
 unfoldable pub drill_stream : ℕ → ℕ → List ℕ
 drill_stream seed count = bytes_of_frames (drill_frames seed count)

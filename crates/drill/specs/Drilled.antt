@@ -1,5 +1,5 @@
--- The drill command: a stream is made from a seed and packed, and a line
--- says how long both are. No file of any folder is read or written.
+-- The drill command: a stream is made from a seed and packed, and a line says how long both are. No
+-- file of any folder is read or written.
 use Rattle.std.specs.Prelude.{Err, false, filter, length, List, Ok, Result, Some, ℕ, [], ◌∷◌}
 use Rattle.commands.specs.{Command.Command, SingleOutput.made_file}
 use Rattle.commands.specs.declared.fault.EditFault.{EditFault}
@@ -11,12 +11,12 @@ use Rattle.frame_header.specs.Tables.{window_of}
 use Rattle.laying.specs.NeedsFit.{any_choice}
 use Rattle.slot_plan.specs.{LeastPlan.least_plan, declared.needs.Placed.Placed}
 
--- what the packing with the least slots makes of the stream
+-- what packing with the least slots makes of the stream
 abbrev pub packing_of : ℕ → ℕ → Result (List ℕ) EditFault
 packing_of seed count =
     made_file (laying_making all_choice (first_planning any_choice)) (drill_stream seed count)
 
--- the file that was made; empty where there is none
+-- the file that was made; empty if there is none
 abbrev pub file_in : Result (List ℕ) EditFault → List ℕ
 file_in (Ok file) = file
 file_in (Err fault) = []
@@ -25,8 +25,7 @@ file_in (Err fault) = []
 unfoldable pub packed_file : ℕ → ℕ → List ℕ
 packed_file seed count = file_in (packing_of seed count)
 
--- the slots of its frames: of all lists the first,
--- in the order of areas, for which there is a layout
+-- the slots of its frames: of all lists the first, in order of areas, for which there is a layout
 abbrev pub packed_plan : ℕ → ℕ → List Placed
 packed_plan seed count =
     least_plan (window_of drill_header.version) any_choice (drill_needs seed count ∷ [])
@@ -48,7 +47,7 @@ drill_summary seed count = record {
 unfoldable pub drill_text : ℕ → ℕ → List ℕ
 drill_text seed count = summary_text (drill_summary seed count)
 
--- the text is that of the seed and the count, whatever the files are
+-- the text for the seed and the count, whatever files there are
 abbrev pub drill_command : ℕ → ℕ → Command
 drill_command seed count = record {
   inputs = [];
@@ -60,7 +59,7 @@ drill_command seed count = record {
   refuses = λ refusal. false;
 }
 
--- nothing is refused: the fault is want of memory, or that a write to standard output failed
+-- nothing is refused: the fault is out of memory, or a failed write to standard output
 abbrev pub IsDrillFault : EditFault → Type 0
 IsDrillFault NotSent = Unit {0}
 IsDrillFault Memory = Unit {0}

@@ -10,11 +10,11 @@ pub record IsPacked (seed count : ℕ) : Type 0 where
   pub made : packing_of seed count ≡ Ok (packed_file seed count)
   pub holds : HoldsStream (packed_file seed count) (map stream_entry (drill_frames seed count))
 
--- so it is of every seed and every count that may be asked for
+-- this holds for every seed and every count that may be asked for
 abbrev pub DrillsArePacked : Type 0
 DrillsArePacked = (seed count : ℕ) → 0 < count → count ≤ 20000 → IsPacked seed count
 
--- so there is no lead-in in it
+-- the packed file has no lead-in
 abbrev pub DrillsHaveNoLeadIn : Type 0
 DrillsHaveNoLeadIn =
     (seed count : ℕ) → 0 < count → count ≤ 20000 → lead_ins_in (packed_plan seed count) ≡ 0

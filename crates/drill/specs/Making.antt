@@ -11,7 +11,7 @@ use Rattle.outside.specs.Files.{Files, with_appended_bytes}
 abbrev pub drill_writing : DrillWriter → Writing
 drill_writing m = writing_of m.writer m.unsent
 
--- the next frame may be given: it is drawn with as great a main_data_begin as it may have
+-- the next frame may be given: it is drawn with the greatest main_data_begin that it may have
 pub record IsNextDrawn (m : DrillWriter) : Type 0 where
   pub class : m.writer.class ≡ class_of drill_header
   pub unsettled : IsNextSettled m.writer → ⊥
@@ -20,7 +20,7 @@ pub record IsNextDrawn (m : DrillWriter) : Type 0 where
 abbrev pub next_frame : DrillWriter → Frame
 next_frame m = drawn_frame (reach_of m.writer) m.draws.state
 
--- frame i of the stream of a number is next
+-- the next frame is frame i of the stream of this number
 pub record IsBeforeFrame (seed i : ℕ) (m : DrillWriter) : Type 0 where
   pub next : IsNextDrawn m
   pub state : m.draws.state ≡ (drill_state_at seed i).state

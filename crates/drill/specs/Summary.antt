@@ -1,4 +1,4 @@
--- What is said of a stream that was made and packed.
+-- The line about a stream that was made and packed.
 use Rattle.std.specs.Prelude.{codes, decimal, List, ℕ, ◌++◌}
 use Rattle.drill.specs.declared.summary.Summary.{Summary}
 

@@ -17,7 +17,7 @@ use sync_survey::{Survey, survey};
 /// Makes the stream of this seed, of `count` frames, in a folder of its own, packs it there, and surveys the packed file.
 ///
 /// # Errors
-/// Where there is no memory.
+/// If memory runs out.
 fn survey_packed(
     alloc: Global,
     seed: u32,
@@ -40,10 +40,10 @@ fn survey_packed(
     }
 }
 
-/// The numbers of the line about the stream and the packed file.
+/// The numbers in the line about the stream and the packed file.
 ///
 /// # Errors
-/// Where there is no memory.
+/// If memory runs out.
 fn summary_of(alloc: Global, seed: u32, count: u32) -> Result<Summary, AllocError>
     requires some { 1 ≤ count }
     requires few { count ≤ 20000 }
@@ -60,18 +60,20 @@ fn summary_of(alloc: Global, seed: u32, count: u32) -> Result<Summary, AllocErro
     })
 }
 
-/// Makes the stream of this seed, of `count` frames, in a folder in memory of its own, packs it there with the least slots,
-/// surveys the packed file, and sends the line `N frames, A bytes in, B bytes out, L lead-ins`: N is the number of frames, A
-/// the length of the stream in bytes, B that of the packed file, and L the number of lead-ins in it, which is always 0. The
-/// seed is one of a linear congruential generator modulo 2^31, and each frame of the stream has 417 bytes.
+/// Makes the stream of this seed, of `count` frames, in a folder in memory of its own, packs it
+/// there with the least slots, surveys the packed file, and sends the line `N frames, A bytes in, B
+/// bytes out, L lead-ins`: N is the number of frames, A the length of the stream in bytes, B the
+/// length of the packed file, and L the number of lead-ins in it, which is always 0. The seed is
+/// for a linear congruential generator modulo 2^31, and each frame of the stream has 417 bytes.
 ///
 /// # Errors
-/// `Memory` where there was none, also where a call of the folder in memory failed; then nothing was sent. `Sent` only
-/// where a write to `out` failed; then it got a prefix of the line. The packing is never refused (`drills_are_packed`).
+/// `Memory` if memory runs out, or a call of the folder in memory failed; then nothing was sent.
+/// `Sent` only if a write to `out` failed; then a prefix of the line was sent. The packing is never
+/// refused (`drills_are_packed`).
 pub fn drill<T: Sink>(alloc: Global, seed: u32, count: u32, out: &mut T) -> Result<(), EditFault>
     requires some { 1 ≤ count }
     requires few { count ≤ 20000 }
-    // Whatever files there are: none is read.
+    // This holds whatever files there are: none is read.
     ensures says { (files : Files) → SaysText (drill_command seed count) files
         (T.heard out.old) (T.heard out.new)
         (answer_fault result) }

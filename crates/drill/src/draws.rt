@@ -20,7 +20,7 @@ impl Draws {
         (self.state / 65_536) as u16
     }
 
-    /// Four numbers, in the order of the draws.
+    /// Four numbers, in order.
     #[tactic(auto, unfolding(crate::specs::Draws::state_after, crate::specs::Draws::draws))]
     pub(crate) fn four(&mut self) -> [u16; 4]
         ensures draws { result ≡ draws 4 self.old.state }

@@ -4,7 +4,7 @@ use thiserror::Error;
 /// Why a stream wasn't written.
 #[derive(Clone, Copy, Debug, PartialEq, Eq, Error)]
 pub enum StreamFault {
-    /// There was no memory left.
+    /// Memory ran out.
     #[error("out of memory")]
     Memory,
     /// The file could not be created or written.

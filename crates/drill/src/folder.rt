@@ -15,12 +15,12 @@ pub const FRAME_LENGTH: u64 = 417;
 /// kbit/s at 8,000 Hz, padded.
 const LONGEST: u64 = 1441;
 
-/// A folder in memory that holds the stream of `count` frames that the number `seed` gives under the one
-/// name, and that has room under the other for as many frames, an Info frame and a lead-in, each as long as
-/// a frame can be.
+/// A folder in memory that holds under the one name the stream of `count` frames that the number
+/// `seed` gives, and has room under the other for as many frames, an Info frame and a lead-in, each
+/// as long as a frame can be.
 ///
 /// # Errors
-/// Where there is no memory.
+/// If memory runs out.
 pub fn stream_folder(
     alloc: Global,
     seed: u32,

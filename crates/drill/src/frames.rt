@@ -12,8 +12,8 @@ use side_info::{Granule, Side};
 /// The length of a frame's area in bytes.
 const AREA: u16 = 381;
 
-/// The greatest length of a frame's main data in bytes: its own area, and as many bytes before it as
-/// main_data_begin can count.
+/// The greatest length of a frame's main data in bytes: its own area, and as many bytes before it
+/// as main_data_begin can count.
 const ROOM: usize = 892;
 
 /// The header of each frame: MPEG-1, 128 kbit/s at 44,100 Hz in two channels, without a check word. The frame has 417
@@ -38,7 +38,8 @@ pub(crate) fn drill_header() -> Header
     }
 }
 
-/// A granule and channel with so many bits of main data and this global_gain; its other fields are 0.
+/// A granule and channel with `bits` bits of main data and this global_gain; its other fields are
+/// 0.
 fn granule(bits: u16, gain: u8) -> Granule
     ensures { result ≡ granule_with bits gain }
 {
@@ -55,9 +56,9 @@ fn granule(bits: u16, gain: u8) -> Granule
     }
 }
 
-/// The granules of a frame whose main data begin `begin` bytes before its own area, by a draw for the
-/// length and one for the gain of each granule and channel. Each has at most twice as many bits as there
-/// are bytes for the main data, so that all four fit, and a gain from 100 to 199.
+/// The granules of a frame whose main data begin `begin` bytes before its own area, with a draw for
+/// the length and one for the gain of each granule and channel. Each has at most twice as many bits
+/// as there are bytes for the main data, so that all four fit, and a gain from 100 to 199.
 fn granules(begin: u16, lengths: &[u16; 4], gains: &[u16; 4]) -> [[Granule; 2]; 2]
     requires few { begin ≤ most_back }
     requires four { (length lengths.now ≡ 4) × (length gains.now ≡ 4) }
@@ -70,8 +71,8 @@ fn granules(begin: u16, lengths: &[u16; 4], gains: &[u16; 4]) -> [[Granule; 2]; 
     [[nth(0), nth(1)], [nth(2), nth(3)]]
 }
 
-/// Draws the side information of a frame whose main data begin `begin` bytes before its own area. The main data fit
-/// into the own area and these bytes.
+/// Draws the side information of a frame whose main data begin `begin` bytes before its own area.
+/// The main data fit into the frame's own area and these bytes.
 pub(crate) fn draw_side(draws: &mut Draws, begin: u16) -> Side
     requires few { begin ≤ most_back }
     ensures side { result ≡ drawn_side begin draws.old.state }
@@ -84,8 +85,8 @@ pub(crate) fn draw_side(draws: &mut Draws, begin: u16) -> Side
     side
 }
 
-/// These bytes as main data of `bits` bits, at most 7,136, for which they are as many as needed; the unused
-/// low bits of the last byte are 0. They are in the window, in place of what it held.
+/// These bytes as main data of `bits` bits, at most 7,136, in as few bytes as hold them; the unused
+/// low bits of the last byte are 0. They are in the window, replacing what it held.
 fn pack<'w>(bytes: &[u8], bits: u32, window: &'w mut Window) -> Payload<'w>
     requires few { bits ≤ 7136 }
     requires size { length bytes.now ≡ (bits + 7) / 8 }

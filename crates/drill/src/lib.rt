@@ -1,6 +1,7 @@
-//! The command that makes a stream from a seed, packs it in memory, and says how long both are: a large input that needs no file. Each
-//! frame's main data are drawn from the seed and use the bit reservoir; the same seed gives the same bytes. A frame is written as soon as
-//! no later main data can reach it, so that memory doesn't grow with the stream.
+//! The command that makes a stream from a seed, packs it in memory, and says how long both are: a
+//! large input that needs no file. Each frame's main data are drawn from the seed and use the bit
+//! reservoir; the same seed gives the same bytes. A frame is written as soon as no later main data
+//! can reach it, so memory doesn't grow with the stream.
 #![tactic(auto)]
 
 mod calls;

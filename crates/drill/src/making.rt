@@ -29,10 +29,11 @@ pub(crate) struct DrillWriter {
 }
 
 impl DrillWriter {
-    /// No frame of the stream of this number was drawn yet. It takes all its memory here.
+    /// A writer for which no frame of this seed's stream was drawn yet. It takes all its memory
+    /// here.
     ///
     /// # Errors
-    /// Where there is no memory.
+    /// If memory runs out.
     pub(crate) fn new(alloc: Global, seed: u32) -> Result<DrillWriter, AllocError>
         ensures state { IfOk result (λ making. making.draws.state ≡ seed) }
         ensures new { IfOk result (λ making. IsNewQueue (class_of drill_header) making.writer) }
@@ -49,7 +50,7 @@ impl DrillWriter {
     /// Draws a frame and gives it to the writer. Its main data begin as early as they may.
     ///
     /// # Errors
-    /// Where a write failed.
+    /// If a write failed.
     fn frame<D: Folder>(&mut self, folder: &mut D, name: &str) -> Result<(), Failed>
         requires there { IsFileThere (D.seen folder.old).files name.now }
         requires next { IsNextDrawn self.old }
@@ -78,7 +79,7 @@ impl DrillWriter {
     /// Draws `count` frames and gives them to the writer.
     ///
     /// # Errors
-    /// Where a write failed. Then a prefix of the stream of these frames was appended.
+    /// If a write failed. Then a prefix of the stream of these frames was appended.
     fn frames<D: Folder>(&mut self, count: u32, folder: &mut D, name: &str) -> Result<(), Failed>
         requires there { IsFileThere (D.seen folder.old).files name.now }
         requires new { IsNewQueue (class_of drill_header) self.old.writer }
@@ -103,7 +104,7 @@ impl DrillWriter {
     /// Appends the stream of `count` frames.
     ///
     /// # Errors
-    /// Where a write failed. Then a prefix of it was appended.
+    /// If a write failed. Then a prefix of the stream was appended.
     pub(crate) fn write<D: Folder>(
         &mut self,
         count: u32,

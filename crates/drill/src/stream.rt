@@ -11,12 +11,12 @@ use crate::making::DrillWriter;
 use outside::Folder;
 use std::alloc::Global;
 
-/// Makes the name hold the stream of `count` frames that the number `seed` gives, 417 bytes for each. All
-/// memory is taken before the file is created, and doesn't grow with the stream.
+/// Makes the name hold the stream of `count` frames that the number `seed` gives, 417 bytes for
+/// each. All memory is taken before the file is created, and doesn't grow with the stream.
 ///
 /// # Errors
-/// `Memory` where there is no memory; then the files stay. `Write` where `create` or a write failed; then they stay, or the
-/// name holds a prefix of the stream.
+/// `Memory` if memory runs out; then the files stay. `Write` if `create` or a write failed; then
+/// they stay, or the name holds a prefix of the stream.
 pub fn write_stream<D: Folder>(
     alloc: Global,
     seed: u32,

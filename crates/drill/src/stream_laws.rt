@@ -7,9 +7,9 @@ pub fn streams_hold()
     ensures { StreamsHold }
 {}
 
-/// Whatever the number, a survey of its stream of 1 to 20,000 frames that allows as many finds no fault. It
-/// finds the frames one after the other from the first byte on, the first with main_data_begin 0, and no
-/// head, no block and no junk.
+/// Whatever the number, a survey of its stream of 1 to 20,000 frames that allows that many finds no
+/// fault. It finds the frames, in order, from the first byte on, the first with main_data_begin 0,
+/// and no head, no block and no junk.
 pub fn streams_are_surveyed()
     ensures surveyed { StreamsAreSurveyed }
     ensures first { FirstBeginsInItsArea }
@@ -20,8 +20,8 @@ pub fn streams_are_long()
     ensures { StreamsAreLong }
 {}
 
-/// No plan of the frames of the stream has a lead-in, if each may have its own slot: they have a layout
-/// without one. So a file into which they are packed has none.
+/// No plan of the frames of the stream has a lead-in, if each may have its own slot: they have a
+/// layout without one. A file into which they are packed has none either.
 pub fn streams_need_no_lead_in()
     ensures { StreamsNeedNoLeadIn }
 {}

@@ -1,4 +1,4 @@
-//! The line that tells of a stream that was made and packed.
+//! The line about a stream that was made and packed.
 ghost use Rattle.std.specs.Prelude.{◌≡◌, ◌+◌, ◌≤◌, [], ◌++◌, length, decimal, OnOk, OnErr};
 ghost use Rattle.outside.specs.Files.{sent_and_more};
 ghost use Rattle.outside.specs.BufferOutput.{SentPrefix};
@@ -21,7 +21,8 @@ pub struct Summary {
     pub bytes_in: u64,
     /// The length of the packed file in bytes.
     pub bytes_out: u64,
-    /// The silent frames of the packed file that are before others to make room for their main data.
+    /// The silent frames of the packed file that come before others to make room for their main
+    /// data.
     pub lead_ins: u64,
 }
 
@@ -51,7 +52,7 @@ fn line_of(summary: &Summary) -> ArrayVec<u8, ROOM>
 /// Sends the line `N frames, A bytes in, B bytes out, L lead-ins`, without taking memory.
 ///
 /// # Errors
-/// Where a write failed. Then a prefix of the line was sent.
+/// If a write failed. Then a prefix of the line was sent.
 pub fn send_summary<T: Sink>(sink: &mut T, summary: &Summary) -> Result<(), Failed>
     ensures sent { OnOk result ((T.heard sink.new).sent ≡
         sent_and_more (T.heard sink.old).sent (summary_text summary.now)) }

@@ -1,4 +1,4 @@
--- What the command leaves, by its steps.
+-- What the command leaves, given its steps.
 use Rattle.std.proofs.Common.{ap, ap₂, arith, Err, IfErr, inl, length, List, None, Ok, Option, refl}
 use Rattle.std.proofs.Common.{Result, slice_get, Some, subst, sym, ℕ, [], ◌∙◌, ◌∷◌, ◌≡◌, ◌≤◌}
 use Rattle.std.{proofs.lemmas.List.length-map, specs.Result.IsErrAnd}
@@ -50,7 +50,7 @@ use Rattle.sync_survey.specs.declared.surveys.Survey.{Survey}
 
 -- ---- a file that may be read
 
--- what is read of the input, where the command isn't refused
+-- what is read of the input, if the command isn't refused
 pub record IsReadAt (o : Option (List ℕ)) : Type 0 where
   pub file : List ℕ
   pub there : o ≡ Some file
@@ -62,7 +62,7 @@ read-by : (file bytes : List ℕ) (r : Result DamagedFields SurveyFault) → dam
 read-by file bytes (Err fault) is e = absurd cc
 read-by file bytes (Ok d) is e = record { file = file; there = refl; left = d; read = is }
 
--- a file of which something is made was read
+-- a file from which something is made was read
 pub read-where : (o : Option (List ℕ)) (bytes : List ℕ) → input_salvaged o ≡ Ok bytes → IsReadAt o
 read-where None bytes e = absurd cc
 read-where (Some file) bytes e = read-by file bytes (damaged_of file) refl e
@@ -116,7 +116,7 @@ module _ (input : List ℕ) where
         × (seen_folder after counts ≡ seen_folder files before)
     rejected fault h = (refuses-bytes files fault h.there h.bytes, ap₂ seen_folder same h.counts)
 
-    -- a fault of reading comes before the output is created
+    -- a fault of reading is one met before the output is created
     pub early-fault : (fault : SurveyFault) → IsDamagedFault input files before counts fault
         → IsEarlyFault (salvage_task input) (seen_folder files before) (seen_folder after counts)
         (input_edit_fault fault)
@@ -141,7 +141,7 @@ module _ (input : List ℕ) where
   early-numbers NoRoom h = tt
   early-numbers _ h = (omega arith, λ e. absurd cc, h, inl refl)
 
-  -- want of memory, once the input was read
+  -- out of memory, once the input was read
   pub early-memory : (old new : Seen) (d : DamagedFields) → IsFileThere old.files input
       → IsDamagedOf input old.files d → new ≡ old → NeedsMemory input old new
   early-memory old new d there read stays = record {
@@ -151,7 +151,7 @@ module _ (input : List ℕ) where
         stays;
   }
 
-  -- a fault of the reading is one of the whole call
+  -- a fault of reading is a fault of the whole call
   pub fault-on : {T U : Type 0} {old new : Seen} {fault : EditFault} (r : Result U EditFault)
       → IsErrAnd r (λ y. y ≡ fault) → ReadsDamaged {T = T} input (Err fault) old new
       → ReadsDamaged input r old new
@@ -164,7 +164,7 @@ module _ (input : List ℕ) where
     counts = reads.counts;
   }
 
-  -- and so is want of memory once it was read
+  -- out of memory once the input was read is a fault of the whole call
   pub memory-on : {T U : Type 0} {x : T} {old new : Seen} (r : Result U EditFault)
       → IsErrAnd r (λ y. y ≡ Memory) → (m : Mended) → IsFileThere old.files input
       → IsMended input old.files m → new ≡ old → ReadsDamaged input (Ok x) old new
@@ -178,15 +178,15 @@ module _ (input : List ℕ) where
         counts = reads.counts;
       })
 
-  -- ---- what was made ready
+  -- ---- what was prepared
 
-  -- what was mended is the survey of the file
+  -- the file can be relaid by the survey of what was read
   mended-has : (files : Files) (m : Mended) (is : IsMended input files m) → (bytes : List ℕ)
       → Holds files input bytes → CanBeRelaid bytes (survey_view m.survey)
   mended-has files m is bytes holds = subst (CanBeRelaid bytes) (sym is.survey)
       (damaged-had bytes is.of (damaged_of-is bytes is.of (is.read bytes holds)).1 is.laid)
 
-  -- the work that was made of what is left is ready for the pass
+  -- the work that was made from what is left is prepared for the pass
   pub ready-of : (files : Files) (m : Mended) (selected : Selected) (work : SalvageWork)
       → IsMended input files m → IsWorkOf m.survey selected work.laid → IsFileThere files input
       → HoldsOctets input files → IsSurveyLaidOut (survey_view m.survey)
@@ -233,7 +233,7 @@ module _ (input : List ℕ) where
               ∙ ap Ok (sym (salvaged-is bytes)),
         )
 
-    -- that file holds what is left
+    -- the output holds what is left
     pub ready-holds : IfTold files (λ f. (bytes : List ℕ) → f input ≡ Some bytes
         → AreSoundFiles f [] × HoldsStream (file_of bytes) (input_left_stream (f input)))
     ready-holds = at files ready.read
@@ -256,7 +256,7 @@ module _ (input : List ℕ) where
     frames-same = ap (λ (s : SurveyFields). length s.frames) ready.survey
         ∙ length-map ready.of.survey.frames emptied_row
 
-    -- the text is that of what was read
+    -- the text is the text of what was read
     pub ready-text : (output all : List ℕ) → IsCommandText (salvage_command input output) files all
         → all ≡ report_text (length (survey_view work.laid.survey).frames) work.report
     ready-text output all is =
@@ -283,7 +283,7 @@ module _ (input : List ℕ) where
 
 -- ---- what is left
 
--- a clash leaves all as it was, with its number
+-- a clash leaves everything as it was, with its number
 pub left-clash : (input output : List ℕ) (place : ℕ) (now : Seen)
     → clash_in (salvage_task input) output ≡ Some place
     → IsCommandFault (salvage_command input output) now now (EqualNames place)
@@ -299,7 +299,7 @@ module _ (input output : List ℕ) (free : clash_in (salvage_task input) output 
   abbrev silent : Command
   silent = one_command (salvage_task input) output
 
-  -- a fault before the output leaves all as it was
+  -- a fault before the output is created leaves everything as it was
   pub left-early : (old new : Seen) (fault : EditFault)
       → IsEarlyFault (salvage_task input) old new fault
       → IsCommandFault (salvage_command input output) old new fault
@@ -325,7 +325,7 @@ module _ (input output : List ℕ) (free : clash_in (salvage_task input) output 
         done : Result (Unit {0}) EditFault
         done = Ok tt
 
-    -- a fault of the pass leaves the output begun
+    -- after a fault of the pass the output is as it was, or begun
     pub left-part : (fault : EditFault) → HasPassNumbers fault
         → IsPassFault made (input ∷ []) output mid new fault
         → IsCommandFault (salvage_command input output) old new fault
@@ -347,10 +347,10 @@ module _ (input output : List ℕ) (free : clash_in (salvage_task input) output 
       done : Result (Unit {0}) EditFault
       done = Ok tt
 
--- ---- what the numbers of a fault say
+-- ---- the numbers of a fault
 
 module _ (input output : List ℕ) where
-  -- a fault before the output has the right numbers
+  -- a fault before the output is created has the right numbers
   pub numbers-early : (fault : EditFault) → HasTaskNumbers (salvage_task input) fault
       → HasNumbers (salvage_command input output) fault
   numbers-early (Input place fault) h = h
@@ -358,7 +358,7 @@ module _ (input output : List ℕ) where
   numbers-early Memory h = tt
   numbers-early _ h = absurd h
 
-  -- so has one of the pass
+  -- a fault of the pass has the right numbers
   pub numbers-pass : (fault : EditFault) → HasPassNumbers fault
       → HasNumbers (salvage_command input output) fault
   numbers-pass (Input place fault) h = (omega (arith, h.0), h.1, h.2, inl h.0)

@@ -1,5 +1,5 @@
--- What is left of a damaged file, with its emptied frames as frames
--- without main data, is laid in the file as its survey says.
+-- What is left of a damaged file, where emptied frames have no main data, is in the file as its
+-- survey says.
 use Rattle.std.proofs.Common.{arith, Bool, cond, drop, false, length, List, ltb, map, None, Ok}
 use Rattle.std.proofs.Common.{Option, refl, Some, subst, suc, sym, true, zero, ℕ, [], ◌++◌, ◌+◌}
 use Rattle.std.{proofs.{Common.{◌∷◌, ◌≡◌, ◌≤◌}, lemmas.List.map-append}, specs.List.cons_option}
@@ -138,7 +138,7 @@ module _ (file : List ℕ) where
       (ends-blocks Front file 0 front.items front.stop (run-ends Front file 0))
       (things-blocks (class_of first.header) _))
 
-  -- ---- all of it
+  -- ---- the whole file
 
   begun-had : (front_end : ℕ) (first : PlacedFrame) → IsWholeFrameAt file first.offset first.header
       → IsDamagedLaidOut (damaged_from file front_end first)

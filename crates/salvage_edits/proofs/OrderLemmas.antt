@@ -1,5 +1,5 @@
--- Gaps and emptied frames are each in order of their offsets,
--- and the text of the report is that of what was read.
+-- Gaps and emptied frames are each in order of offset, and the text of the report is the text of
+-- what was read.
 use Rattle.std.proofs.Common.{ap₂, arith, Bool, cond, false, length, List, map, None, refl, Some}
 use Rattle.std.proofs.Common.{subst, sym, true, ℕ, [], ◌+◌, ◌∙◌, ◌∷◌, ◌≡◌, ◌≤◌}
 use Rattle.std.specs.List.{cons_option}
@@ -24,7 +24,7 @@ gaps-rise from to (g ∷ gaps) laid = (
       (gaps-rise (g.offset + g.length) to gaps laid.2),
 )
 
--- frames that become empty ones, with those that don't between them
+-- the frames that become empty ones are in order, also with others between them
 emptied-more : (from : ℕ) (r : Row) (number : ℕ) (ls : List Emptied) (lost : Bool) → r.lost ≡ lost
     → from ≤ r.offset → RisesBy line_offset r.offset (map Second ls) → RisesBy line_offset from (map
     Second (cons_option (cond lost (Some (record { number = number; offset = r.offset })) None) ls))
@@ -52,19 +52,19 @@ reports-order d r laid reports = record {
       (omega arith) (emptied-rise d.survey.first d.survey.length 0 d.survey.frames laid.frames));
 }
 
--- its text is that of what was read
+-- the text of the report is the text of what was read
 pub report-text-same : (d : DamagedFields) (r : Report) → IsReportOf d r
     → report_text (length d.survey.frames) r ≡ salvage_text d
 report-text-same d r reports =
     ap₂ (damage_text (length d.survey.frames)) reports.gaps reports.emptied
 
--- all of them
+-- the lines of the report are its two lists, merged
 lines-all : (r : Report) → IsReportInOrder r → damage_lines r.gaps.items r.emptied.items
     ≡ merged_list line_offset (map First r.gaps.items) (map Second r.emptied.items)
 lines-all r order = ordered_both line_offset (map First r.gaps.items)
     (map Second r.emptied.items) 0 0 order.gaps order.emptied
 
--- a walk over them has all of them left
+-- a walk over the report begins with all its entries left
 pub all-left : (m : Merge Gap Emptied) (r : Report) → IsReportInOrder r
     → firsts_left m ≡ r.gaps.items → seconds_left m ≡ r.emptied.items
     → entries_left (λ g. g.offset) (λ e. e.offset) m ≡ damage_lines r.gaps.items r.emptied.items

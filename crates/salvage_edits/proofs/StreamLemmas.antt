@@ -1,4 +1,4 @@
--- The stream of the file that is written of a damaged one: what is left, run by run.
+-- The stream of the file that is written for a damaged one: what is left, run by run.
 use Rattle.std.proofs.Common.{ap, ap₂, arith, Bool, cond, false, length, List, map, Ok, Option}
 use Rattle.std.proofs.Common.{refl, subst, sym, true, ℕ, [], ◌++◌, ◌+◌, ◌∙◌, ◌∷◌, ◌≡◌}
 use Rattle.std.specs.{List.enumerate_from, Prelude.{flat_map, slice_range}}
@@ -20,9 +20,9 @@ use Rattle.sync_survey.specs.MainData.{payload_at, place, row_side, split_bits, 
 use Rattle.sync_survey.specs.{MainData.{stream_frame, stream_frames, StreamFrame}, Row.Row}
 use Rattle.sync_survey.specs.declared.places.Head.{Head}
 
--- ---- a frame that becomes an empty one is already one in the stream of what is left
+-- ---- a frame that becomes an empty one is empty already in the stream of what is left
 
--- a frame of the stream, by the place of its own area
+-- a frame of the stream, given the place of its own area
 abbrev frame_at : List ℕ → ℕ → Row → StreamFrame
 frame_at main at r = record {
   header = record r.header { slot = no_slot };

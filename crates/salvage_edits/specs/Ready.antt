@@ -1,4 +1,4 @@
--- What was read of the input, and what is made ready before the output is created.
+-- What was read of the input, and what is prepared before the output is created.
 use Rattle.std.specs.Prelude.{IfErr, List, OnOk, Result, ℕ, [], ◌≡◌}
 use Rattle.commands.specs.SingleOutput.{HasTaskNumbers, IsEarlyFault}
 use Rattle.commands.specs.declared.fault.EditFault.{EditFault}
@@ -11,8 +11,8 @@ use Rattle.salvage_edits.specs.{Salvaged.{all_chosen, salvage_task}, declared.re
 use Rattle.salvage_edits.specs.declared.work.SalvageWork.{SalvageWork}
 use Rattle.sync_survey.specs.{Faults.survey_view, HeadApart.emptied_survey, Survey.HoldsOctets}
 
--- What a call leaves that reads the input before the output is created: the files stay, and only
--- reads are counted, and nothing where it succeeds; a fault is one of the input, or want of memory.
+-- What a call that reads the input before the output is created leaves: the files stay, and only
+-- reads are counted, none if it succeeds; a fault is one of the input, or out of memory.
 pub record ReadsDamaged {T : Type 0} (input : List ℕ) (result : Result T EditFault)
     (old new : Seen) : Type 0 where
   pub refused : IfErr result (IsEarlyFault (salvage_task input) old new)
@@ -26,7 +26,7 @@ pub record IsReportOf (d : DamagedFields) (r : Report) : Type 0 where
   pub gaps : r.gaps.items ≡ d.gaps
   pub emptied : r.emptied.items ≡ emptied_from 0 d.survey.frames
 
--- this was read of the name's file, and has its emptied frames as frames without main data
+-- this was read from the name's file, where emptied frames have no main data
 pub record IsMended (name : List ℕ) (files : Files) (m : Mended) : Type 0 where
   pub of : DamagedFields
   pub read : IsDamagedOf name files of
@@ -35,8 +35,8 @@ pub record IsMended (name : List ℕ) (files : Files) (m : Mended) : Type 0 wher
   pub emptied : m.emptied.items ≡ emptied_from 0 of.survey.frames
   pub gaps : m.gaps.items ≡ of.gaps
 
--- The input was read, and all is ready for the pass; all frames are
--- chosen and have their plan, and the report is that of what was read.
+-- The input was read, and all is prepared for the pass; all frames are chosen and have their plan,
+-- and the report is about what was read.
 pub record IsSalvageReady (input : List ℕ) (files : Files) (work : SalvageWork) : Type 0 where
   pub octets : HoldsOctets input files
   pub of : DamagedFields

@@ -1,5 +1,5 @@
--- The salvage command: what is left of a damaged file,
--- laid anew, and a text that says what is missing.
+-- The salvage command: what is left of a damaged file, repacked, and a text that says what is
+-- missing.
 use Rattle.std.specs.Prelude.{Bool, Err, false, length, List, None, Ok, Option, replicate, Result}
 use Rattle.std.specs.Prelude.{Some, ℕ, [], ◌∷◌}
 use Rattle.commands.specs.{Command.Command, SingleOutput.{one_command, Task}}
@@ -18,7 +18,7 @@ use Rattle.sync_survey.specs.declared.survey_fault.SurveyFault.{SurveyFault, The
 abbrev pub all_chosen : SurveyFields → Chosen
 all_chosen s = record { from = 0; to = length s.frames; quality = None; extension = replicate 36 0 }
 
--- What is left, laid as a cut lays it: the ID3v2 blocks before the first frame, an Info frame, all
+-- What is left, laid out as a cut: the ID3v2 blocks before the first frame, an Info frame, all
 -- frames, and all other blocks that were read. A frame whose main data can't be used has none.
 unfoldable pub salvaged_file : List ℕ → DamagedFields → List ℕ
 salvaged_file file d =
@@ -32,37 +32,37 @@ left_stream file d =
 
 -- ---- the command
 
--- what is made of what was read, or why nothing was
+-- what is made of what was read, or why nothing is
 abbrev pub salvaged_or_fault : List ℕ → Result DamagedFields SurveyFault → Result (List ℕ) EditFault
 salvaged_or_fault file (Err fault) = Err (Input 0 fault)
 salvaged_or_fault file (Ok d) = Ok (salvaged_file file d)
 
--- the same of the file, if it is there
+-- what is made of the file, if it is there
 abbrev pub input_salvaged : Option (List ℕ) → Result (List ℕ) EditFault
 input_salvaged None = Err (Input 0 Absent)
 input_salvaged (Some file) = salvaged_or_fault file (damaged_of file)
 
--- the stream of what was read; empty where nothing was
+-- the stream of what was read; empty if nothing was
 abbrev pub left_stream_or_none : List ℕ → Result DamagedFields SurveyFault → List StreamFrame
 left_stream_or_none file (Err fault) = []
 left_stream_or_none file (Ok d) = left_stream file d
 
--- the same of the file; empty where it isn't there
+-- the stream of what was read of the file; empty if it isn't there
 abbrev pub input_left_stream : Option (List ℕ) → List StreamFrame
 input_left_stream None = []
 input_left_stream (Some file) = left_stream_or_none file (damaged_of file)
 
--- the text of what was read; empty where nothing was
+-- the text of what was read; empty if nothing was
 abbrev pub salvage_text_or_none : Result DamagedFields SurveyFault → List ℕ
 salvage_text_or_none (Err fault) = []
 salvage_text_or_none (Ok d) = salvage_text d
 
--- the same of the file; empty where it isn't there
+-- the text of what was read of the file; empty if it isn't there
 abbrev pub input_salvage_text : Option (List ℕ) → List ℕ
 input_salvage_text None = []
 input_salvage_text (Some file) = salvage_text_or_none (damaged_of file)
 
--- nothing is refused of a file that has a frame
+-- a file that has a frame isn't refused
 abbrev pub salvage_refuses : Refusal → Bool
 salvage_refuses refusal = false
 

@@ -1,4 +1,4 @@
-//! What is left of a damaged file, laid anew, and a text that says what is missing.
+//! What is left of a damaged file, repacked, and a text that says what is missing.
 #![tactic(auto)]
 
 mod lines;

@@ -6,7 +6,7 @@ use list_edits::Line;
 use salvage::{Emptied, Gap};
 use sync_survey::Entry;
 
-/// Makes the text the line of a gap or of a frame that becomes an empty one.
+/// Sets the text to the line of a gap, or of a frame that becomes an empty one.
 pub(crate) fn set_line(line: &mut Line, told: &Entry<Gap, Emptied>)
     ensures { line.new ≡ line_text told.now }
 {
@@ -25,7 +25,7 @@ pub(crate) fn set_line(line: &mut Line, told: &Entry<Gap, Emptied>)
     }
 }
 
-/// Makes the text the last line, with the numbers of frames, gaps and empty frames.
+/// Sets the text to the last line, with the numbers of frames, gaps and empty frames.
 pub(crate) fn set_counts(line: &mut Line, frames: u64, gaps: u64, empty: u64)
     ensures { line.new ≡ count_text frames gaps empty }
 {

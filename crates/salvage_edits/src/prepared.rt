@@ -18,7 +18,7 @@ use salvage::{Mended, read_damaged};
 use std::alloc::{AllocError, Global};
 use sync_survey::Survey;
 
-/// What can be read of the input, with each frame whose main data can't be used as one without main data.
+/// What can be read of the input, where each frame whose main data can't be used has none.
 ///
 /// # Errors
 /// `Input` with the fault of the reading; `Memory`. The files stay.
@@ -53,10 +53,10 @@ fn all_frames(survey: &Survey) -> Chosen
     }
 }
 
-/// The plan of all frames of what was read, and all memory of the pass.
+/// The plan of all frames that were read, and all memory of the pass.
 ///
 /// # Errors
-/// Where there is no memory.
+/// If memory runs out.
 fn make_ready(alloc: Global, mended: Mended) -> Result<SalvageWork, AllocError>
     requires laid { IsSurveyLaidOut (survey_view mended.survey) }
     requires few { length (survey_view mended.survey).frames ≤ most_frames }

@@ -11,18 +11,18 @@ use outside::{Failed, SendBuffer, Sink};
 use salvage::{Emptied, Gap};
 use sync_survey::Merge;
 
-/// What is missing: the gaps, and the frames that become empty ones, both by their offsets.
+/// What is missing: the gaps, and the frames that become empty ones, each in order of offset.
 #[derive(Drop)]
 pub(crate) struct Report {
     pub gaps: Vec<Gap>,
     pub emptied: Vec<Emptied>,
 }
 
-/// Sends a line for each gap and each frame that becomes an empty one, in order of their offsets, and a last one with the
-/// numbers of frames, gaps and empty frames. It takes no memory.
+/// Sends a line for each gap and each frame that becomes an empty one, in order of offset, and a
+/// last one with the numbers of frames, gaps and empty frames. It takes no memory.
 ///
 /// # Errors
-/// Where a write failed. Then a prefix of the text was sent.
+/// If a write failed. Then a prefix of the text was sent.
 pub(crate) fn send_report<T: Sink>(
     report: &Report,
     frames: u64,

@@ -15,10 +15,11 @@ use commands::{EditFault, Inputs, write_output};
 use outside::{Failed, Folder, Sink};
 use std::alloc::Global;
 
-/// Writes the output, and then sends to `out` what is missing. No name of the command clashes, and all is ready.
+/// Writes the output, and then sends to `out` what is missing. The command's names don't clash, and
+/// all is prepared.
 ///
 /// # Errors
-/// Those of `salvage` from the first byte on that is written.
+/// Those of `salvage` from the first byte written on.
 fn write_and_tell<D: Folder, T: Sink>(
     folder: &mut D,
     input: &str,
@@ -43,26 +44,28 @@ fn write_and_tell<D: Folder, T: Sink>(
     }
 }
 
-/// Reads what can be read of a damaged file (`salvage::read_damaged`), writes what is left to the output, and then sends to
-/// `out` what is missing. The output is laid as a cut lays it: the ID3v2 blocks before the first frame, an Info frame whose
-/// extension is all 0, a lead-in where the first frames need one, all frames with their own bit rates and padding, and all
-/// other blocks that were read. A frame whose main data are missing, overlap others or don't fit becomes an empty one, and all
-/// others are as they were.
+/// Reads what can be read of a damaged file (`salvage::read_damaged`), writes what is left to the
+/// output, and then sends to `out` what is missing. The output is laid out as a cut's: the ID3v2
+/// blocks before the first frame, an Info frame whose extension is all 0, a lead-in if the first
+/// frames need one, all frames with their own bit rates and padding, and all other blocks that were
+/// read. A frame whose main data are missing, overlap others or don't fit becomes an empty one, and
+/// all others stay as they were.
 ///
-/// | line | what it is about |
+/// | line | what it says |
 /// |---|---|
 /// | `gap at O: L bytes` | L bytes from offset O on that were not read |
 /// | `empty frame I at O` | frame I, counted from 0 without the head, at offset O, that became an empty one |
 /// | `N frames, G gaps, E empty` | how many there are; the last line |
 ///
-/// The others are in order of their offsets.
+/// The lines before the last are in order of offset.
 ///
 /// # Errors
-/// In this order: `EqualNames(0)` where the output has the input's name, byte for byte; `Input(0, ..)` with the
-/// fault of the reading; `Memory`. After these nothing was created and nothing sent. `Input(0, ..)` with `Read` or `Shrunk`,
-/// and `Write(0)`, where a call failed, or the input became shorter, while the output was written; then it is as it was or
-/// holds a prefix of its bytes, with `Write(0)` not all of them, and nothing was sent. `Sent` where a write to `out` failed;
-/// then the output is whole, and `out` got a prefix of the text.
+/// In this order: `EqualNames(0)` if the output has the input's name, byte for byte; `Input(0, ..)`
+/// with the fault of the reading; `Memory`. After these nothing was created and nothing sent.
+/// `Input(0, ..)` with `Read` or `Shrunk`, and `Write(0)`, if a call failed, or the input became
+/// shorter, while the output was written; then the output is as it was or holds a prefix of its
+/// bytes, with `Write(0)` not all of them, and nothing was sent. `Sent` if a write to `out` failed;
+/// then the output is whole, and a prefix of the text was sent.
 pub fn salvage<D: Folder, T: Sink>(
     alloc: Global,
     folder: &mut D,
@@ -76,11 +79,11 @@ pub fn salvage<D: Folder, T: Sink>(
     ensures left { IfErr result (IsCommandFault (salvage_command input.now output.now)
         (D.seen folder.old)
         (D.seen folder.new)) }
-    // The text, of which a prefix was sent where a write failed.
+    // The text; a prefix of it was sent if a write failed.
     ensures says { SaysText (salvage_command input.now output.now) (D.seen folder.old).files
         (T.heard out.old) (T.heard out.new)
         (answer_fault result) }
-    // Over a folder that tells nothing too.
+    // Also over a folder whose contents aren't known.
     ensures numbers { IfErr result (HasNumbers (salvage_command input.now output.now)) }
     ensures names { (place : ℕ) → IsErrOf result (EditFault.EqualNames place)
         ↔ (clash_of (salvage_command input.now output.now) ≡ Some place) }

@@ -1,4 +1,4 @@
--- What a survey tells of the packed file, and the length of the stream.
+-- What a survey finds in the packed file, and the length of the stream.
 use Rattle.std.proofs.Common.{ap, arith, length, ◌*◌, ◌-◌, ◌<◌, ◌∙◌, ◌≡◌}
 use Rattle.drill.proofs.PackedLemmas.{no-lead_ins, packed-frames, packed-length}
 use Rattle.drill.specs.{Drill.drill_stream, Drilled.{lead_ins_in, packed_file, packed_plan}}

@@ -1,4 +1,4 @@
--- What is packed out of the whole window.
+-- What is packed from the whole window.
 use Rattle.std.proofs.Common.{arith, length, [], ◌-◌}
 use Rattle.drill.proofs.DrawsLemmas.{packed-first}
 use Rattle.drill.proofs.frames.pack.Goals as goal

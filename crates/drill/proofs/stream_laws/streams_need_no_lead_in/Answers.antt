@@ -1,4 +1,4 @@
--- The frames have a layout without one.
+-- The frames have a layout without a lead-in.
 use Rattle.drill.proofs.NoLeadInLemmas.{streams-need_no_lead_in}
 use Rattle.drill.proofs.stream_laws.streams_need_no_lead_in.Goals as goal
 

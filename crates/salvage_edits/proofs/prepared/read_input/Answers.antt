@@ -1,4 +1,4 @@
--- A fault of the reading is one of the only input; what was read is mended.
+-- A fault of reading is one of the only input; what was read is mended.
 use Rattle.std.proofs.{Common.{ap, ap₂, arith, length, subst, sym}, lemmas.List.length-map}
 use Rattle.commands.specs.SingleOutput.{HasTaskNumbers, IsEarlyFault}
 use Rattle.outside.specs.Seen.{seen_folder}
@@ -36,7 +36,7 @@ returns-in-Err-mend-clause-reads g c = record {
   counts = c.read_damaged.ensures.counts;
 }
 
--- a mended frame for each that was read
+-- there is a mended frame for each that was read
 pub returns-in-Ok-mend-clause-few : goal.returns-in-Ok-mend-clause-few
 returns-in-Ok-mend-clause-few g c =
     let frames = (damaged_view c.in-Ok.damaged).survey.frames in

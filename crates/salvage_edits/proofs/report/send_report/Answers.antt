@@ -1,4 +1,4 @@
--- One line after another, then the counts, then what waits.
+-- Line by line, then the counts, then what waits.
 use Rattle.std.proofs.Common.{ap, arith, length, None, refl, Some, subst, ◌++◌, ◌∙◌}
 use Rattle.list_edits.proofs.ListingLemmas.{last_failed, last_more, prefix_behind, said_failed}
 use Rattle.list_edits.proofs.ListingLemmas.{said_more, said_none, sent_behind}

@@ -6,7 +6,7 @@ use Rattle.salvage.specs.declared.mended.Emptied.{Emptied}
 use Rattle.sync_survey.specs.{Merge.entries_left, declared.merge.Merge.Merge}
 use Rattle.salvage_edits.proofs.report.send_report.Given as goal
 
--- what isn't told yet
+-- the lines that are left
 abbrev pub told-left : Merge Gap Emptied → List DamageLine
 told-left = entries_left (λ g. g.offset) (λ e. e.offset)
 

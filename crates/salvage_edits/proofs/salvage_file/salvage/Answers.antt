@@ -1,4 +1,4 @@
--- A clash of names, what was met before the output is created, and what follows.
+-- A clash of names, faults met before the output is created, and what comes after.
 use Rattle.std.proofs.Common.{subst, sym, ◌∙◌}
 use Rattle.commands.proofs.{MakeLemmas.run-before, RefusingLemmas.err_with}
 use Rattle.commands.specs.SentText.{answer_fault, SaysText}
@@ -29,7 +29,7 @@ write_and_tell-requires-clause-ready g c =
     subst (λ f. IsSalvageReady c.args.input.now f c.in_ok-work.work)
     (sym c.prepare.ensures.reads.files) c.in_ok-work.ensures.ready
 
--- it ran from the moment before
+-- the whole call runs from the moment before the reading
 pub returns : goal.returns
 returns g c =
     let old = g.D.Folder.seen c.args.folder.now in

@@ -54,7 +54,7 @@ returns-in-Ok-clause-run g c =
     (left-streams c.args.input.now c.args.output.now c.requires.free old.files c.args.work.now
     c.requires.ready) c.write_output.ensures.counts
 
--- the text of the command is that of the report
+-- the text of the command is the text of the report
 told : (g : given.Over) (c : After-send_report g) (all : List ℕ)
     → IsCommandText (salvage_command c.args.input.now c.args.output.now)
     (g.D.Folder.seen c.args.folder.now).files all

@@ -1,4 +1,4 @@
--- One byte more.
+-- One more byte.
 use Rattle.std.proofs.Common.{ap, arith, length, set, suc, sym, ◌%◌, ◌+◌, ◌<◌, ◌∙◌, ◌≡◌}
 use Rattle.drill.proofs.DrawsLemmas.{behind-more, behind-none, byte-more, no-byte}
 use Rattle.drill.specs.Draws.{drawn_number, next_state, state_after}

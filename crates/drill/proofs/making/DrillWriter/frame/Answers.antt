@@ -1,4 +1,4 @@
--- The main data fit into the room for them.
+-- There is room for the main data.
 use Rattle.std.proofs.Common.{ap, arith, length, subst, sym, ◌+◌, ◌/◌, ◌∙◌, ◌≡◌, ◌≤◌}
 use Rattle.drill.proofs.DrawnSideLemmas.{drawn_side-begin, drawn_side-fits, drawn_side-room}
 use Rattle.drill.proofs.{DrawsLemmas.behind-sum, MakingLemmas.{area-is, reach-most}}
@@ -32,7 +32,7 @@ new-front-requires g c =
     rw (c.drill_header.ensures, c.draw_side-side.ensures.side) (drawn_side-fits begin
     m.draws.state (omega (arith, c.reach.ensures, reach-most m.writer c.requires.next.class)))
 
--- the frame that the writer gets
+-- the frame that is given to the writer
 frame_is : (g : given.Over) (c : After-new-frame g) → c.new-frame.result
     ≡ frame_with_data c.drill_header.result c.draw_side-side.result c.draw_payload-payload.result
 frame_is g c = c.new-frame.ensures ∙ ap {A = FrameFields} {B =

@@ -1,4 +1,4 @@
--- One frame after another.
+-- Frame by frame.
 use Rattle.std.proofs.Common.{arith, refl, subst, suc, sym, ◌+◌, ◌∙◌, ◌≡◌}
 use Rattle.drill.proofs.MakingLemmas.{before-first, before-more, made-more, made-none, made-part}
 use Rattle.drill.specs.{Drill.drill_frames, Making.{drill_writing, HasMade, IsBeforeFrame}}

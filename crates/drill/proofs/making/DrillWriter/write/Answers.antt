@@ -1,4 +1,4 @@
--- All frames, and then what waits of them.
+-- All frames, and then what waits.
 use Rattle.std.proofs.lemmas.Result.{on_err_weaker, on_ok_weaker}
 use Rattle.drill.{proofs.MakingLemmas.made-passed, specs.Making.drill_writing}
 use Rattle.outside.proofs.BufferOutputLemmas.{on_err, passed_then, passed_then_all}
