@@ -166,8 +166,8 @@ chosen_range quality extension from to frames =
       extension = extension;
     })
 
--- the frames from one position to another; the Info frame has no quality, and its extension is all
--- 0
+-- the frames from one position to another, with no quality and an extension of zeros for the Info
+-- frame
 unfoldable pub cut_choice : Place → Place → Choosing
 cut_choice from to file s =
     chosen_range None (replicate 36 0)

@@ -29,7 +29,7 @@ changed_or_fault file s (Ok change) = Ok (file_with_change change file s)
 abbrev pub change_making : Changing → Making
 change_making of file s = changed_or_fault file s (of file s)
 
--- what a file becomes by such a command, or why it is refused
+-- what a file becomes with such a command, or why it is refused
 abbrev pub change_result : Changing → List ℕ → Result (List ℕ) EditFault
 change_result of file = made_file (change_making of) file
 

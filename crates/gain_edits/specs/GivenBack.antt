@@ -1,5 +1,4 @@
--- What undo makes of a file after several changes of gains, and what the opposite change makes of a
--- changed file.
+-- What undo makes of a file after several changes of gains, and what the opposite change makes.
 use Rattle.std.specs.Prelude.{false, length, List, neg_ℤ, None, Ok, Result, true, ℕ, [], ◌<◌, ◌∷◌}
 use Rattle.std.specs.Prelude.{◌≡◌, ◌⊎◌}
 use Rattle.bit_fields.specs.Bits.{AreBytes}
@@ -21,7 +20,7 @@ gains_result [] file = Ok file
 gains_result (shift ∷ shifts) file =
     then_made (change_result (gain_change shift true) file) (gains_result shifts)
 
--- the file without the junk before its first frame, and without its tag where the tag has no item
+-- the file without the junk before its first frame, and without its tag if the tag has no item
 unfoldable pub tidied_file : TagFields → SurveyFields → List ℕ → List ℕ
 tidied_file tag s file =
     file_with_tag (bytes_unless_empty tag) (edited_survey (constant_steps (undo_steps no_undo)) s)

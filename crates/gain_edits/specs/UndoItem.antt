@@ -1,5 +1,5 @@
--- How a change of gains is noted in the undo item of the tag, which is mp3gain's, and what the item
--- says about it.
+-- The undo item of the tag, which is mp3gain's: how a change of gains is noted there, and what the
+-- item says about it.
 use Rattle.std.specs.Prelude.{Err, false, if◌then◌else◌, length, List, nat_lt, None, Ok, Option}
 use Rattle.std.specs.Prelude.{pos, Result, Some, unsigned_abs, ℕ, ℤ, ◌-ℤ◌, [], ◌+◌, ◌-◌, ◌==◌, ◌||◌}
 use Rattle.commands.specs.{Refusing.or_else, declared.fault.EditFault.EditFault}

@@ -376,7 +376,7 @@ other-err P g h (Ok a) e = tt
 other-err P g h (Err f) e = e
 
 module _ (names : List (List ℕ)) where
-  -- out of memory after the survey is an early fault, since the first input is there
+  -- running out of memory after the survey is an early fault, since the first input is there
   pub memory-early : (old new : Seen) (ss : List SurveyFields) → 1 ≤ length names
       → AreJoinInputs None most_frames old.files names ss → new ≡ old
       → NeedsMemory (first_input names) old new

@@ -1,4 +1,4 @@
--- The inputs as sources of frames, and what is written of them.
+-- The inputs as sources of frames, and what is written from them.
 use Rattle.std.proofs.Common.{ap, append-nil, append_assoc, ap₂, arith, inl, inr, is_some, length}
 use Rattle.std.proofs.Common.{List, map, None, Ok, Option, refl, Result, Some, subst, sym, true, ℕ}
 use Rattle.std.proofs.Common.{[], ◌++◌, ◌+◌, ◌-◌, ◌<◌, ◌∙◌, ◌∷◌, ◌≡◌, ◌≢◌, ◌≤◌}

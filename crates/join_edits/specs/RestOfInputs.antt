@@ -54,7 +54,7 @@ abbrev pub first_front_bytes : List ℕ → List SurveyFields → List ℕ
 first_front_bytes file [] = []
 first_front_bytes file (s ∷ ss) = concat (front_blocks file s)
 
--- the blocks, the Info frame, and these frames in the slots of the plan that was made ready
+-- the blocks, the Info frame, and these frames in the slots of the prepared plan
 abbrev pub join_bytes : Files → List (List ℕ) → List SurveyFields → List ℕ → JoinWork → List ℕ
     → List ℕ
 join_bytes files names ss froms work file =

@@ -1,4 +1,4 @@
--- What is made ready for a run before the output is created.
+-- What is prepared for a run before the output is created.
 use Rattle.std.specs.Prelude.{IfSome, length, List, map, slice_get, Some, ℕ, [], ◌-◌, ◌∷◌, ◌≡◌}
 use Rattle.frame_writer.specs.Frames.{Frame}
 use Rattle.info_header.specs.InfoFrame.{info_frame}

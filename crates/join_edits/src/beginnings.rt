@@ -69,7 +69,7 @@ fn begins_blank(rows: &[Row]) -> bool
 /// The fields of the head of the input with the number `place`, if it has one. The files stay.
 ///
 /// # Errors
-/// `Read` and `Shrunk` where the frame of the head could not be read.
+/// `Read` and `Shrunk` if the frame of the head could not be read.
 fn head_of<D: Folder>(
     folder: &mut D,
     name: &str,

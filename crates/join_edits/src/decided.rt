@@ -32,7 +32,7 @@ use slot_plan::Need;
 use std::alloc::{AllocError, Global};
 use sync_survey::Survey;
 
-/// What the frames of an input need, as the one part of a plan.
+/// The needs of an input's frames, as the one part of a plan.
 fn needs_of(alloc: Global, survey: &Survey) -> Result<Parts, AllocError>
     ensures { IfOk result (λ parts. parts.needs ≡ input_needs (survey_view survey.now)) }
 {
@@ -144,7 +144,7 @@ struct Deciding {
 }
 
 impl Deciding {
-    /// The first input begins the run with all its frames.
+    /// Begins the run with all frames of the first input.
     ///
     /// # Errors
     /// If memory runs out.

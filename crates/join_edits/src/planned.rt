@@ -1,4 +1,5 @@
-//! What a join makes ready before its output is created: the plan of all frames, the Info frame, and all memory.
+//! What a join prepares before its output is created: the plan of all frames, the Info frame, and
+//! all memory.
 ghost use Rattle.std.specs.Prelude.{◌≡◌, ◌<◌, ◌≤◌, ℕ, List, [], ◌∷◌, length, map, slice_get, Some, IfOk};
 ghost use Rattle.frame_header.specs.Fields.{ClassFields};
 ghost use Rattle.frame_header.specs.Limits.{most_output_frames};

@@ -21,7 +21,7 @@ use Rattle.sync_survey.specs.Faults.{SurveyFields}
 abbrev pub class_line : ClassFields → List ℕ
 class_line class = class_text class ++ codes "\n"
 
--- how many there are, how many of them are lost, and how long they sound
+-- how many frames there are, how many of them are lost, and how long they sound
 abbrev pub frames_line : ClassFields → ℕ → ℕ → List ℕ
 frames_line class count lost =
     decimal count ++ (codes " frames, " ++ (decimal lost ++ (codes " lost, "

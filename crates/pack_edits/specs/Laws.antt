@@ -1,5 +1,5 @@
--- What holds of packing with the slots of some bit rates, and in the fewest bytes, whatever the
--- code.
+-- What holds of packing, whatever the code: with the slots of some bit rates, and in the fewest
+-- bytes.
 use Rattle.std.specs.Prelude.{Err, length, List, Ok, Some, ℕ, ◌≡◌, ◌≤◌}
 use Rattle.commands.specs.SingleOutput.{made_file, task_result}
 use Rattle.commands.specs.declared.fault.{EditFault.TheVariants.Refused, Refusal.TheVariants.Unfit}

@@ -1,5 +1,4 @@
--- The slots of some bit rates (ISO/IEC 11172-3 and 13818-3, 2.4.2.3), and the plan with these
--- alone.
+-- The slots of some bit rates (ISO/IEC 11172-3 and 13818-3, 2.4.2.3), and the plan with only these.
 use Rattle.std.specs.Prelude.{Bool, Err, filter, if◌then◌else◌, leb, length, List, nat_lt, None, Ok}
 use Rattle.std.specs.Prelude.{Option, Result, Some, true, ℕ, ◌==◌}
 use Rattle.commands.specs.{Refusing.{refusal_or, then_made}, declared.fault.EditFault.EditFault}

@@ -141,7 +141,7 @@ module _ (input : List ℕ) where
   early-numbers NoRoom h = tt
   early-numbers _ h = (omega arith, λ e. absurd cc, h, inl refl)
 
-  -- out of memory, once the input was read
+  -- running out of memory, once the input was read
   pub early-memory : (old new : Seen) (d : DamagedFields) → IsFileThere old.files input
       → IsDamagedOf input old.files d → new ≡ old → NeedsMemory input old new
   early-memory old new d there read stays = record {
@@ -164,7 +164,7 @@ module _ (input : List ℕ) where
     counts = reads.counts;
   }
 
-  -- out of memory once the input was read is a fault of the whole call
+  -- running out of memory once the input was read is a fault of the whole call
   pub memory-on : {T U : Type 0} {x : T} {old new : Seen} (r : Result U EditFault)
       → IsErrAnd r (λ y. y ≡ Memory) → (m : Mended) → IsFileThere old.files input
       → IsMended input old.files m → new ≡ old → ReadsDamaged input (Ok x) old new

@@ -506,7 +506,7 @@ module _ {X : Type 0} (cut : Cutting X) (proper : IsProperCutting cut) (input pr
             → IsCommandFault command old new fault
         places-left fault h = places-left-here new fault (rw stays at h)
 
-        -- out of memory leaves everything as it was
+        -- if memory runs out, everything stays as it was
         pub memory-left : new ≡ mid → IsCommandFault command old new Memory
         memory-left same = record { names = apart; takes = behind-takes; stays = same ∙ stays }
 

@@ -50,7 +50,7 @@ returns-in_err-chosen-clause-refused g c =
     (ap₂ seen_folder c.survey_at.ensures.reads.files c.in_ok-survey.ensures.reads.done)
     (c.in_err-chosen.ensures.refused (plan_in edit))))
 
--- out of memory, once the frames were chosen
+-- running out of memory, once the frames were chosen
 forgot : (g : given.Over) (c : In_ok-chosen g) → IsEarlyFault
     (task_of_choice c.args.self.now.choice c.args.self.now.least c.args.self.now.input.now)
     (g.D.Folder.seen c.args.folder.now) (g.D.Folder.seen c.find.new.folder) Memory

@@ -76,7 +76,7 @@ returns-in_err-span-clause-refused g c =
     (ap₂ seen_folder (c.read_head.ensures.reads.files ∙ c.survey_at.ensures.reads.files)
     (c.in_ok-head.ensures.reads.done ∙ c.in_ok-survey.ensures.reads.done))))
 
--- out of memory, once the span was found
+-- running out of memory, once the span was found
 forgot : (g : given.Over) (c : In_ok-span g) → IsEarlyFault
     (exact_task c.args.self.now.from.now c.args.self.now.to.now c.args.self.now.input.now)
     (g.D.Folder.seen c.args.folder.now) (g.D.Folder.seen c.read_head.new.folder) Memory
