@@ -102,40 +102,38 @@ module _ (head : Option Info) (whole : IfSome head AreInfoFields)
   unfolding span_piece
   piece-head = says (slice_get s.frames span.first) refl
 
--- sealing changes no slot
-sealed_placed : (head : Option Info) (span : Span) (file : List ℕ) (s : SurveyFields)
-    (o : Option Row)
-    → (row_sealed_part o (span_part head span s) file s).placed ≡ (span_part head span s).placed
-sealed_placed head span file s None = refl
-sealed_placed head span file s (Some first) = refl
+-- ---- sealing changes neither the slots nor which frames are laid
 
-piece_placed : (head : Option Info) (span : Span) (file : List ℕ) (s : SurveyFields)
-    → (span_piece head span file s).placed ≡ (span_part head span s).placed
-unfolding span_piece
-piece_placed head span file s = sealed_placed head span file s (slice_get s.frames span.first)
+module _ (head : Option Info) (span : Span) (file : List ℕ) (s : SurveyFields) where
+  -- the part of the span once sealed, if this is the row of its first frame
+  abbrev sealed : Option Row → LaidPart
+  sealed o = row_sealed_part o (span_part head span s) file s
 
--- sealing doesn't change which frames are laid
-sealed_from_same : (head : Option Info) (span : Span) (file : List ℕ) (s : SurveyFields)
-    (o : Option Row) → (row_sealed_part o (span_part head span s) file s).from ≡ span.first
-sealed_from_same head span file s None = refl
-sealed_from_same head span file s (Some first) = refl
+  sealed_placed : (o : Option Row) → (sealed o).placed ≡ (span_part head span s).placed
+  sealed_placed None = refl
+  sealed_placed (Some first) = refl
 
-sealed_to_same : (head : Option Info) (span : Span) (file : List ℕ) (s : SurveyFields)
-    (o : Option Row) → (row_sealed_part o (span_part head span s) file s).to ≡ span.last
-sealed_to_same head span file s None = refl
-sealed_to_same head span file s (Some first) = refl
+  piece_placed : (span_piece head span file s).placed ≡ (span_part head span s).placed
+  unfolding span_piece
+  piece_placed = sealed_placed (slice_get s.frames span.first)
 
--- the first frame of a piece is the first of its span
-pub piece-from : (head : Option Info) (span : Span) (file : List ℕ) (s : SurveyFields)
-    → (span_piece head span file s).from ≡ span.first
-unfolding span_piece
-piece-from head span file s = sealed_from_same head span file s (slice_get s.frames span.first)
+  sealed_from_same : (o : Option Row) → (sealed o).from ≡ span.first
+  sealed_from_same None = refl
+  sealed_from_same (Some first) = refl
 
--- the last frame of a piece is the last of its span
-pub piece-to : (head : Option Info) (span : Span) (file : List ℕ) (s : SurveyFields)
-    → (span_piece head span file s).to ≡ span.last
-unfolding span_piece
-piece-to head span file s = sealed_to_same head span file s (slice_get s.frames span.first)
+  sealed_to_same : (o : Option Row) → (sealed o).to ≡ span.last
+  sealed_to_same None = refl
+  sealed_to_same (Some first) = refl
+
+  -- the first frame of a piece is the first of its span
+  pub piece-from : (span_piece head span file s).from ≡ span.first
+  unfolding span_piece
+  piece-from = sealed_from_same (slice_get s.frames span.first)
+
+  -- the last frame of a piece is the last of its span
+  pub piece-to : (span_piece head span file s).to ≡ span.last
+  unfolding span_piece
+  piece-to = sealed_to_same (slice_get s.frames span.first)
 
 -- of a piece exactly the samples of its span are played
 pub pieces-play : PiecesPlayTheirSamples

@@ -176,34 +176,30 @@ payload-bare s = sums-bare s.granules
 abbrev LengthsAre : ClassFields → Side → Type 0
 LengthsAre c s = SideFits c s → sum (map length_of (granules_in c s)) ≡ payload_bits s
 
-lengths-one-mono : (f m p a b : ℕ) (g h k l : Granule)
-    → LengthsAre (class_with One f 1) (side_with m p a b g h k l)
-unfolding payload_bits granules_in
-lengths-one-mono f m p a b g h k l fits =
-    omega (arith, ap length_of (fits.granules 0 1), ap length_of (fits.granules 1 1))
+module _ (f m p a b : ℕ) (g h k l : Granule) where
+  lengths-one-mono : LengthsAre (class_with One f 1) (side_with m p a b g h k l)
+  unfolding payload_bits granules_in
+  lengths-one-mono fits =
+      omega (arith, ap length_of (fits.granules 0 1), ap length_of (fits.granules 1 1))
 
-lengths-one-stereo : (f m p a b : ℕ) (g h k l : Granule)
-    → LengthsAre (class_with One f 2) (side_with m p a b g h k l)
-unfolding payload_bits granules_in
-lengths-one-stereo f m p a b g h k l fits = omega arith
+  lengths-one-stereo : LengthsAre (class_with One f 2) (side_with m p a b g h k l)
+  unfolding payload_bits granules_in
+  lengths-one-stereo fits = omega arith
 
-lengths-two-mono : (f m p a b : ℕ) (g h k l : Granule)
-    → LengthsAre (class_with Two f 1) (side_with m p a b g h k l)
-unfolding payload_bits granules_in
-lengths-two-mono f m p a b g h k l fits =
-    omega (
-      arith,
-      ap length_of (fits.granules 0 1),
-      ap length_of (fits.granules 1 0),
-      ap length_of
-          (fits.granules 1 1),
-    )
+  lengths-two-mono : LengthsAre (class_with Two f 1) (side_with m p a b g h k l)
+  unfolding payload_bits granules_in
+  lengths-two-mono fits =
+      omega (
+        arith,
+        ap length_of (fits.granules 0 1),
+        ap length_of (fits.granules 1 0),
+        ap length_of (fits.granules 1 1),
+      )
 
-lengths-two-stereo : (f m p a b : ℕ) (g h k l : Granule)
-    → LengthsAre (class_with Two f 2) (side_with m p a b g h k l)
-unfolding payload_bits granules_in
-lengths-two-stereo f m p a b g h k l fits =
-    omega (arith, ap length_of (fits.granules 1 0), ap length_of (fits.granules 1 1))
+  lengths-two-stereo : LengthsAre (class_with Two f 2) (side_with m p a b g h k l)
+  unfolding payload_bits granules_in
+  lengths-two-stereo fits =
+      omega (arith, ap length_of (fits.granules 1 0), ap length_of (fits.granules 1 1))
 
 lengths-as-two : (f channels : ℕ) (s : Side) → LengthsAre (class_with Two f channels) s
     → LengthsAre (class_with TwoFive f channels) s

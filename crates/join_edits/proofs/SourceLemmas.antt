@@ -100,30 +100,30 @@ source-beside output (Untold before) (Untold after) name s only source = (
 )
 source-beside output _ _ name s only source = absurd only
 
--- all sources stay sources if only the output changes
-pub sources-beside : (class : ClassFields) (output : List ℕ) (old new : Files)
-    (names : List (List ℕ)) (ss : List SurveyFields) → OnlyTouches (output ∷ []) old new
-    → AreSources class output old names ss → AreSources class output new names ss
-sources-beside class output old new [] [] only are = tt
-sources-beside class output old new (name ∷ names) (s ∷ ss) only are = (
-  ((source-beside output old new name s only are.0.0).0, are.0.1),
-  sources-beside class output old new names ss only are.1,
-)
-sources-beside class output old new _ _ only are = absurd are
+module _ (class : ClassFields) (output : List ℕ) (old new : Files) where
+  -- all sources stay sources if only the output changes
+  pub sources-beside : (names : List (List ℕ)) (ss : List SurveyFields)
+      → OnlyTouches (output ∷ []) old new
+      → AreSources class output old names ss → AreSources class output new names ss
+  sources-beside [] [] only are = tt
+  sources-beside (name ∷ names) (s ∷ ss) only are = (
+    ((source-beside output old new name s only are.0.0).0, are.0.1),
+    sources-beside names ss only are.1,
+  )
+  sources-beside _ _ only are = absurd are
 
--- the frames of sources stay the same if only the output changes
-pub told-beside : (class : ClassFields) (output : List ℕ) (old new : Files)
-    (names : List (List ℕ)) (ss : List SurveyFields) (froms : List ℕ)
-    → OnlyTouches (output ∷ []) old new → AreSources class output old names ss
-    → told_rest_parts new names ss froms ≡ told_rest_parts old names ss froms
-unfolding rest_parts
-told-beside class output old new [] [] froms only are = refl
-told-beside class output old new (name ∷ names) (s ∷ ss) [] only are = refl
-told-beside class output old new (name ∷ names) (s ∷ ss) (from ∷ froms) only are =
-    ap₂ (λ (o : Option (List ℕ)) (ps : List FilePart). rest_part from (unwrap_or o []) s ∷ ps)
-    (source-beside output old new name s only are.0.0).1
-    (told-beside class output old new names ss froms only are.1)
-told-beside class output old new _ _ _ only are = absurd are
+  -- the frames of sources stay the same if only the output changes
+  pub told-beside : (names : List (List ℕ)) (ss : List SurveyFields) (froms : List ℕ)
+      → OnlyTouches (output ∷ []) old new → AreSources class output old names ss
+      → told_rest_parts new names ss froms ≡ told_rest_parts old names ss froms
+  unfolding rest_parts
+  told-beside [] [] froms only are = refl
+  told-beside (name ∷ names) (s ∷ ss) [] only are = refl
+  told-beside (name ∷ names) (s ∷ ss) (from ∷ froms) only are =
+      ap₂ (λ (o : Option (List ℕ)) (ps : List FilePart). rest_part from (unwrap_or o []) s ∷ ps)
+      (source-beside output old new name s only are.0.0).1
+      (told-beside names ss froms only are.1)
+  told-beside _ _ _ only are = absurd are
 
 -- where the contents of the files are known, a source holds its bytes
 pub source-holds : {output : List ℕ} (files : Files) (key told name : List ℕ) (s : SurveyFields)
@@ -135,33 +135,33 @@ source-holds (Told f) key told name s holds source = let held = there_holds f na
 
 -- ---- the inputs as parts
 
-sources-parts : (class : ClassFields) (output : List ℕ) (f : Contents) (names : List (List ℕ))
-    (ss : List SurveyFields) → AreInputsOfClass class ss → AreSources class output (Told f) names ss
-    → AreParts class (parts_in f names ss)
-unfolding parts_in
-sources-parts class output f [] [] alike are = tt
-sources-parts class output f (name ∷ names) (s ∷ ss) alike are =
-    let bytes = unwrap_or (f name) [] in
-    let held = there_holds f name are.0.0.there in (
-      record {
-        has = are.0.0.exact bytes (source-holds (Told f) name held.0 name s held.1 are.0.0);
-        class = are.0.1;
-        some = alike.0;
-        within = omega arith;
-      },
-      sources-parts class output f names ss alike.3 are.1,
-    )
-sources-parts class output f _ _ alike are = absurd are
+module _ (class : ClassFields) (output : List ℕ) (f : Contents) where
+  sources-parts : (names : List (List ℕ)) (ss : List SurveyFields) → AreInputsOfClass class ss
+      → AreSources class output (Told f) names ss → AreParts class (parts_in f names ss)
+  unfolding parts_in
+  sources-parts [] [] alike are = tt
+  sources-parts (name ∷ names) (s ∷ ss) alike are =
+      let bytes = unwrap_or (f name) [] in
+      let held = there_holds f name are.0.0.there in (
+        record {
+          has = are.0.0.exact bytes (source-holds (Told f) name held.0 name s held.1 are.0.0);
+          class = are.0.1;
+          some = alike.0;
+          within = omega arith;
+        },
+        sources-parts names ss alike.3 are.1,
+      )
+  sources-parts _ _ alike are = absurd are
 
-parts-rows : (class : ClassFields) (output : List ℕ) (f : Contents) (names : List (List ℕ))
-    (ss : List SurveyFields) → AreSources class output (Told f) names ss
-    → map part_needs (parts_in f names ss) ≡ map (map need_of) (survey_rows ss)
-unfolding parts_in
-parts-rows class output f [] [] are = refl
-parts-rows class output f (name ∷ names) (s ∷ ss) are =
-    ap₂ (λ (l : List Row) (ps : List (List Need)). map need_of l ∷ ps) (range-whole s.frames)
-    (parts-rows class output f names ss are.1)
-parts-rows class output f _ _ are = absurd are
+  parts-rows : (names : List (List ℕ)) (ss : List SurveyFields)
+      → AreSources class output (Told f) names ss
+      → map part_needs (parts_in f names ss) ≡ map (map need_of) (survey_rows ss)
+  unfolding parts_in
+  parts-rows [] [] are = refl
+  parts-rows (name ∷ names) (s ∷ ss) are =
+      ap₂ (λ (l : List Row) (ps : List (List Need)). map need_of l ∷ ps) (range-whole s.frames)
+      (parts-rows names ss are.1)
+  parts-rows _ _ are = absurd are
 
 -- ---- the file
 
