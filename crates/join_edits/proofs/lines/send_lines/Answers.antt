@@ -1,12 +1,15 @@
 -- Line by line, then what waits.
-use Rattle.std.proofs.Common.{arith, drop, map, refl, string_bytes, subst, sym, zip, ◌++◌, ◌+◌, ◌∙◌}
-use Rattle.join_edits.proofs.LineLemmas.{left-from, left-next, left-none, line_of}
+use Rattle.std.proofs.Common.{arith, drop, List, map, refl, string_bytes, subst, sym, zip, ℕ, ◌++◌}
+use Rattle.std.{proofs.Common.{◌+◌, ◌∙◌, ◌∷◌, ◌≡◌}, specs.Prelude.flat_map}
+use Rattle.join_edits.proofs.LineLemmas.{left-from, left-next, left-none, line_of, Told}
+use Rattle.join_edits.proofs.lines.send_lines.Goals.{After-finish, After-push_line}
 use Rattle.join_edits.specs.Seamless.{seam_line}
 use Rattle.laying.proofs.RelayLemmas.{item-next}
 use Rattle.list_edits.proofs.ListingLemmas.{all_lines, line_failed, prefix_behind, said_more}
 use Rattle.list_edits.proofs.ListingLemmas.{said_none, sent_behind}
 use Rattle.outside.{proofs.BufferOutputLemmas.on_err, specs.BufferOutput.{SendsWaiting, SentPrefix}}
 use Rattle.seam_plan.specs.declared.run.Joint.{Joint}
+use Rattle.join_edits.proofs.lines.send_lines.Given as given
 use Rattle.join_edits.proofs.lines.send_lines.Goals as goal
 
 pub loop-place-init : goal.loop-place-init
@@ -21,23 +24,36 @@ loop-place-init g c =
           (g.T.Sink.heard c.args.out.now).sent refl);
     }
 
+-- the name and the joint of a line, and those whose lines are left before it
+module _ (g : given.Over) (c : After-push_line g) where
+  abbrev inputs : List (List ℕ)
+  inputs = map string_bytes c.args.inputs.now
+
+  abbrev joints : List Joint
+  joints = c.args.joints.now
+
+  abbrev told : Told
+  told = (c.name_at-name.result.now, c.index-joints-place.result)
+
+  next : left-from inputs joints c.loop-place.place
+      ≡ told ∷ left-from inputs joints (c.loop-place.place + 1)
+  next =
+      left-next inputs joints c.loop-place.place told.0 told.1 c.name_at-name.ensures
+      (item-next joints c.loop-place.place told.1 (omega (arith, c.loop-place-test.true))
+      c.index-joints-place.is)
+
 pub loop-place-preserved : goal.loop-place-preserved
 loop-place-preserved g c =
-    let inputs = map string_bytes c.args.inputs.now in
-    let joints = c.args.joints.now in
+    let at = (goal.at.loop-place-preserved g c).After-push_line in
     let i = c.loop-place.place in
-    let name = c.name_at-name.result.now in
-    let joint = c.index-joints-place.result in
-    let next = item-next joints i joint (omega (arith, c.loop-place-test.true))
-    c.index-joints-place.is in
     record {
       within = omega (arith, c.loop-place-test.true);
       done = c.in_ok-push_line.ensures.cause.done ∙ c.loop-place.invariant.done;
-      said = said_more line_of (zip (drop 1 inputs) joints) (left-from inputs joints i)
-          (left-from inputs joints (i + 1)) (name, joint)
-          c.loop-place.buffer c.push_line.new.buffer _ _ _ c.loop-place.invariant.said
-          (left-next inputs joints i name joint c.name_at-name.ensures next) (subst
-          (λ (j : Joint). SendsWaiting (c.loop-place.buffer ++ seam_line name j.seam)
+      said = said_more line_of (zip (drop 1 (inputs g at)) (joints g at))
+          (left-from (inputs g at) (joints g at) i) (left-from (inputs g at) (joints g at) (i + 1))
+          (told g at) c.loop-place.buffer c.push_line.new.buffer _ _ _ c.loop-place.invariant.said
+          (next g at) (subst
+          (λ (j : Joint). SendsWaiting (c.loop-place.buffer ++ seam_line (told g at).0 j.seam)
           c.push_line.new.buffer
           (g.T.Sink.heard c.loop-place.out).sent (g.T.Sink.heard c.push_line.new.out).sent)
           (sym c.index-joints-place.is) c.in_ok-push_line.ensures.passed);
@@ -45,42 +61,36 @@ loop-place-preserved g c =
 
 pub returns-in_err-push_line-clause-prefix : goal.returns-in_err-push_line-clause-prefix
 returns-in_err-push_line-clause-prefix g c =
-    let inputs = map string_bytes c.args.inputs.now in
-    let joints = c.args.joints.now in
+    let at = (goal.at.returns-in_err-push_line-clause-prefix g c).After-push_line in
     let i = c.loop-place.place in
-    let name = c.name_at-name.result.now in
-    let joint = c.index-joints-place.result in
-    let next = item-next joints i joint (omega (arith, c.loop-place-test.true))
-    c.index-joints-place.is in
     on_err c.from_residual.result
-    (line_failed line_of (zip (drop 1 inputs) joints) (left-from inputs joints i)
-    (left-from inputs joints (i + 1)) (name, joint)
-    c.loop-place.buffer _ _ _ c.loop-place.invariant.said
-    (left-next inputs joints i name joint c.name_at-name.ensures next)
+    (line_failed line_of (zip (drop 1 (inputs g at)) (joints g at))
+    (left-from (inputs g at) (joints g at) i) (left-from (inputs g at) (joints g at) (i + 1))
+    (told g at) c.loop-place.buffer _ _ _ c.loop-place.invariant.said (next g at)
     (subst
-    (λ (j : Joint). SentPrefix (c.loop-place.buffer ++ seam_line name j.seam)
+    (λ (j : Joint). SentPrefix (c.loop-place.buffer ++ seam_line (told g at).0 j.seam)
     (g.T.Sink.heard c.loop-place.out).sent
     (g.T.Sink.heard c.push_line.new.out).sent)
     (sym c.index-joints-place.is) c.in_err-push_line.ensures.prefix))
 
-pub returns-clause-sent : goal.returns-clause-sent
-returns-clause-sent g c =
+-- behind the loop all lines were sent or wait
+all-said : (g : given.Over) (c : After-finish g) → SendsWaiting
+    (flat_map line_of (zip (drop 1 (map string_bytes c.args.inputs.now)) c.args.joints.now))
+    c.loop-place.buffer (g.T.Sink.heard c.args.out.now).sent (g.T.Sink.heard c.loop-place.out).sent
+all-said g c =
     let inputs = map string_bytes c.args.inputs.now in
     let joints = c.args.joints.now in
     let i = c.loop-place.place in
-    sent_behind c.finish.result _
-    (all_lines line_of (zip (drop 1 inputs) joints) (left-from inputs joints i) c.loop-place.buffer
+    all_lines line_of (zip (drop 1 inputs) joints) (left-from inputs joints i) c.loop-place.buffer
     _ _ c.loop-place.invariant.said
-    (left-none inputs joints i (omega (arith, c.loop-place-test.false))))
+    (left-none inputs joints i (omega (arith, c.loop-place-test.false)))
+
+pub returns-clause-sent : goal.returns-clause-sent
+returns-clause-sent g c =
+    sent_behind c.finish.result _ (all-said g (goal.at.returns-clause-sent g c).After-finish)
     c.finish.ensures.sent
 
 pub returns-clause-prefix : goal.returns-clause-prefix
 returns-clause-prefix g c =
-    let inputs = map string_bytes c.args.inputs.now in
-    let joints = c.args.joints.now in
-    let i = c.loop-place.place in
-    prefix_behind c.finish.result _
-    (all_lines line_of (zip (drop 1 inputs) joints) (left-from inputs joints i) c.loop-place.buffer
-    _ _ c.loop-place.invariant.said
-    (left-none inputs joints i (omega (arith, c.loop-place-test.false))))
+    prefix_behind c.finish.result _ (all-said g (goal.at.returns-clause-prefix g c).After-finish)
     c.finish.ensures.prefix

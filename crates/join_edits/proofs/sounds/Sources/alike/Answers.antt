@@ -5,7 +5,7 @@ use Rattle.std.proofs.{Common.{◌+◌, ◌-◌, ◌<◌, ◌∙◌, ◌∷◌, 
 use Rattle.std.proofs.lemmas.List.{drop_all, length-drop, length-map, Elements.All-drop}
 use Rattle.std.specs.Prelude.{nat_le}
 use Rattle.join_edits.proofs.AlikeLemmas.{ends-here, none-alike, tested-alike}
-use Rattle.join_edits.proofs.DecideLemmas.{sounds_from}
+use Rattle.join_edits.proofs.{DecideLemmas.sounds_from, sounds.Sources.alike.Goals.In-loop-place}
 use Rattle.join_edits.specs.Sounds.{all_run_frames, AreFramePlaces, IsFramePlace, same_sounds}
 use Rattle.laying.specs.Needs.{need_of}
 use Rattle.outside.specs.Files.{Contents, Files, IfTold, Told, Untold}
@@ -49,34 +49,38 @@ returns-in_default-last-clause-alike g c =
     c.in-Some.overlap c.in-Some.ensures.overlap c.in-Some.ensures.can
     (g.D.Folder.seen c.args.folder.now).files None c.in_default-last.ensures refl
 
+-- the places of the frames that are compared, and how many they are
+module _ (g : given.Over) (c : In-loop-place g) where
+  abbrev shared : ℕ
+  shared = c.in-Some.overlap.frames - c.in-Some.overlap.first_alike
+
+  last : (shared ≤ length c.requires.next.places) × (c.in-Some-last.places.now
+      ≡ drop (length c.requires.next.places - shared) c.requires.next.places)
+  last =
+      let next = c.requires.next in
+      last-places next.places c.in-Some-last.places.now shared
+      (c.in-Some-last.ensures next.class next.frames next.places next.before next.is_run
+      (omega (arith, c.in-Some.ensures.can.few)))
+
+  many : length c.in-Some-last.places.now ≡ shared
+  many =
+      let places = c.requires.next.places in
+      omega (arith, ap length last.1, length-drop (length places - shared) places, last.0)
+
 pub sound_alike-requires-clause-first : goal.sound_alike-requires-clause-first
 sound_alike-requires-clause-first g c =
     let next = c.requires.next in
     let ss = map survey_view c.args.self.now.surveys.now in
-    let o = c.in-Some.overlap in
-    let last = last-places next.places c.in-Some-last.places.now (o.frames - o.first_alike)
-    (c.in-Some-last.ensures next.class next.frames next.places next.before next.is_run
-    (omega (arith, c.in-Some.ensures.can.few))) in
+    let compared = (goal.at.sound_alike-requires-clause-first g c).In-loop-place in
     let at : AreFramePlaces ss c.in-Some-last.places.now =
-    subst (AreFramePlaces ss) (sym last.1)
+    subst (AreFramePlaces ss) (sym (last g compared).1)
     (All-drop (IsFramePlace ss)
-    (length next.places - (o.frames - o.first_alike)) next.places next.at) in
+    (length next.places - shared g compared) next.places next.at) in
     at c.loop-place.place-index _ (omega (arith, c.loop-place-test.true))
 
 pub sound_alike-requires-clause-second : goal.sound_alike-requires-clause-second
 sound_alike-requires-clause-second g c =
     let next = c.requires.next in
-    let o = c.in-Some.overlap in
-    let last = last-places next.places c.in-Some-last.places.now (o.frames - o.first_alike)
-    (c.in-Some-last.ensures next.class next.frames next.places next.before next.is_run
-    (omega (arith, c.in-Some.ensures.can.few))) in
-    let many : length c.in-Some-last.places.now ≡ o.frames - o.first_alike =
-    omega (
-      arith,
-      ap length last.1,
-      length-drop (length next.places - (o.frames - o.first_alike)) next.places,
-      last.0,
-    ) in
     let needs : length c.args.input.now.needs.now ≡ length next.survey.frames =
     ap length next.needs ∙ length-map next.survey.frames need_of in
     record {
@@ -86,7 +90,7 @@ sound_alike-requires-clause-second g c =
         arith,
         c.loop-place.invariant.frame,
         c.loop-place-test.true,
-        many,
+        many g (goal.at.sound_alike-requires-clause-second g c).In-loop-place,
         c.in-Some.ensures.can.within,
         needs,
       );
@@ -115,25 +119,13 @@ returns-then-not-branch-clause-alike g c =
 
 pub overflow_add-frame : goal.overflow_add-frame
 overflow_add-frame g c =
-    let next = c.requires.next in
-    let o = c.in-Some.overlap in
-    let last = last-places next.places c.in-Some-last.places.now (o.frames - o.first_alike)
-    (c.in-Some-last.ensures next.class next.frames next.places next.before next.is_run
-    (omega (arith, c.in-Some.ensures.can.few))) in
-    let many : length c.in-Some-last.places.now ≡ o.frames - o.first_alike =
-    omega (
-      arith,
-      ap length last.1,
-      length-drop (length next.places - (o.frames - o.first_alike)) next.places,
-      last.0,
-    ) in
     omega (
       arith,
       c.loop-place.invariant.frame,
       c.loop-place-test.true,
-      many,
+      many g (goal.at.overflow_add-frame g c).In-loop-place,
       c.in-Some.ensures.can.within,
-      next.can.few,
+      c.requires.next.can.few,
     )
 
 pub returns-clause-alike : goal.returns-clause-alike
