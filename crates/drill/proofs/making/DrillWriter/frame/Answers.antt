@@ -1,36 +1,44 @@
 -- There is room for the main data.
-use Rattle.std.proofs.Common.{ap, arith, length, subst, sym, ◌+◌, ◌/◌, ◌∙◌, ◌≡◌, ◌≤◌}
+use Rattle.std.proofs.Common.{ap, arith, length, subst, sym, ◌*◌, ◌+◌, ◌/◌, ◌∙◌, ◌≡◌, ◌≤◌}
 use Rattle.drill.proofs.DrawnSideLemmas.{drawn_side-begin, drawn_side-fits, drawn_side-room}
 use Rattle.drill.proofs.{DrawsLemmas.behind-sum, MakingLemmas.{area-is, reach-most}}
-use Rattle.drill.{proofs.making.DrillWriter.frame.Goals.After-new-frame, specs.Draws.state_after}
-use Rattle.drill.specs.Drill.{drawn_side}
+use Rattle.drill.proofs.making.DrillWriter.frame.Goals.{After-bits, After-new-frame, After-reach}
+use Rattle.drill.specs.{Draws.state_after, Drill.{drawn_side, drill_room}}
 use Rattle.frame_header.specs.{Fields.HeaderFields, Tables.{area_of, class_of}}
 use Rattle.frame_writer.specs.Frames.{EndsInArea, Frame, frame_with_data}
 use Rattle.side_info.specs.{FrameFields.FrameFields, Side.payload_bits, declared.side.Side.Side}
 use Rattle.drill.proofs.making.DrillWriter.frame.Given as given
 use Rattle.drill.proofs.making.DrillWriter.frame.Goals as goal
 
-pub draw_payload-payload-requires : goal.draw_payload-payload-requires
-draw_payload-payload-requires g c =
-    let m = c.args.self.now in
-    let begin = c.reach.result in
-    record {
-      few = omega (
+-- the main data begin in the window
+most : (g : given.Over) (c : After-reach g) → c.reach.result ≤ 511
+most g c = omega (arith, c.reach.ensures, reach-most c.args.self.now.writer c.requires.next.class)
+
+module _ (g : given.Over) (c : After-bits g) where
+  -- there is room for the main data
+  room : c.bits.result ≤ 8 * drill_room c.reach.result
+  room =
+      omega (
         arith,
         c.bits.ensures,
         ap payload_bits c.draw_side-side.ensures.side,
-        drawn_side-room begin m.draws.state,
-        c.reach.ensures,
-        reach-most m.writer c.requires.next.class,
-      );
-    }
+        drawn_side-room c.reach.result c.args.self.now.draws.state,
+      )
+
+  begins : c.draw_side-side.result.main_data_begin ≡ c.reach.result
+  begins = ap (λ (s : Side). s.main_data_begin) c.draw_side-side.ensures.side
+      ∙ drawn_side-begin c.reach.result c.args.self.now.draws.state
+
+pub draw_payload-payload-requires : goal.draw_payload-payload-requires
+draw_payload-payload-requires g c =
+    let at = goal.at.draw_payload-payload-requires g c in
+    record { few = omega (arith, room g at.After-bits, most g at.After-reach) }
 
 pub new-front-requires : goal.new-front-requires
 new-front-requires g c =
-    let m = c.args.self.now in
-    let begin = c.reach.result in
-    rw (c.drill_header.ensures, c.draw_side-side.ensures.side) (drawn_side-fits begin
-    m.draws.state (omega (arith, c.reach.ensures, reach-most m.writer c.requires.next.class)))
+    rw (c.drill_header.ensures, c.draw_side-side.ensures.side)
+    (drawn_side-fits c.reach.result c.args.self.now.draws.state
+    (most g (goal.at.new-front-requires g c).After-reach))
 
 -- the frame that is given to the writer
 frame_is : (g : given.Over) (c : After-new-frame g) → c.new-frame.result
@@ -40,19 +48,17 @@ frame_is g c = c.new-frame.ensures ∙ ap {A = FrameFields} {B =
 
 pub frame-requires-clause-start : goal.frame-requires-clause-start
 frame-requires-clause-start g c =
-    let is = frame_is g (goal.at.frame-requires-clause-start g c).After-new-frame in
+    let at = goal.at.frame-requires-clause-start g c in
     omega (
       arith,
-      ap (λ (f : Frame). f.kept.side.main_data_begin) is,
-      ap (λ (s : Side). s.main_data_begin) c.draw_side-side.ensures.side,
-      drawn_side-begin c.reach.result c.args.self.now.draws.state,
+      ap (λ (f : Frame). f.kept.side.main_data_begin) (frame_is g at.After-new-frame),
+      begins g at.After-bits,
       c.reach.ensures,
     )
 
 pub frame-requires-clause-within : goal.frame-requires-clause-within
 frame-requires-clause-within g c =
-    let m = c.args.self.now in
-    let begin = c.reach.result in
+    let at = goal.at.frame-requires-clause-within g c in
     let area : area_of (class_of c.drill_header.result)
     c.drill_header.result.slot c.drill_header.result.protected ≡ 381 =
     ap (λ (h : HeaderFields). area_of (class_of h) h.slot h.protected) c.drill_header.ensures
@@ -64,29 +70,20 @@ frame-requires-clause-within g c =
       arith,
       area,
       c.draw_payload-payload.ensures.size,
-      c.bits.ensures,
-      ap payload_bits c.draw_side-side.ensures.side,
-      drawn_side-room begin m.draws.state,
-      ap (λ (s : Side). s.main_data_begin) c.draw_side-side.ensures.side,
-      drawn_side-begin begin m.draws.state,
+      room g at.After-bits,
+      begins g at.After-bits,
     ) in
-    subst EndsInArea
-    (sym (frame_is g (goal.at.frame-requires-clause-within g c).After-new-frame)) size
+    subst EndsInArea (sym (frame_is g at.After-new-frame)) size
 
 pub frame-requires-clause-few : goal.frame-requires-clause-few
 frame-requires-clause-few g c =
-    let m = c.args.self.now in
-    let begin = c.reach.result in
-    let is = frame_is g (goal.at.frame-requires-clause-few g c).After-new-frame in
+    let at = goal.at.frame-requires-clause-few g c in
     omega (
       arith,
-      ap (λ (f : Frame). length f.payload) is,
+      ap (λ (f : Frame). length f.payload) (frame_is g at.After-new-frame),
       c.draw_payload-payload.ensures.size,
-      c.bits.ensures,
-      ap payload_bits c.draw_side-side.ensures.side,
-      drawn_side-room begin m.draws.state,
-      c.reach.ensures,
-      reach-most m.writer c.requires.next.class,
+      room g at.After-bits,
+      most g at.After-reach,
     )
 
 pub returns-clause-state : goal.returns-clause-state
