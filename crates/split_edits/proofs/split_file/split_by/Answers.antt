@@ -11,7 +11,8 @@ use Rattle.split_edits.proofs.CommandLemmas.{input-left, memory-left, pieces-num
 use Rattle.split_edits.proofs.CommandLemmas.{places-numbers, range-left, range-numbers, split-done}
 use Rattle.split_edits.proofs.CommandLemmas.{split-left, split-streams, survey-numbers}
 use Rattle.split_edits.proofs.PiecesLemmas.{can-be-written, fault-of-all}
-use Rattle.split_edits.proofs.split_file.split_by.Goals.{After-as_slice, In_ok-pieces}
+use Rattle.split_edits.proofs.split_file.split_by.Goals.{After-as_slice, After-survey_at}
+use Rattle.split_edits.proofs.split_file.split_by.Goals.{In_ok-pieces}
 use Rattle.split_edits.specs.Cutting.{piece_parts, split_command}
 use Rattle.split_edits.specs.Steps.{ArePieces, IsSplitSource, piece_part, SaysPlaces}
 use Rattle.sync_survey.specs.Faults.{survey_view, SurveyFields}
@@ -33,13 +34,18 @@ returns-in-Some g c =
       counts = search rules;
     }
 
+-- no name of a piece is the name of the input or of a sheet
+free : (g : given.Over) (c : After-survey_at g) → clash_of
+    (split_command (g.C.Cut.cutting c.args.cut.now) c.args.input.now c.args.prefix.now) ≡ None
+free g c = clash-found (g.C.Cut.cutting c.args.cut.now) c.args.input.now c.args.prefix.now _ _ None
+    c.sheet.ensures c.clash.ensures c.in_default.is
+
 pub returns-in_err-survey : goal.returns-in_err-survey
 returns-in_err-survey g c =
     let cut = g.C.Cut.cutting c.args.cut.now in
     let input = c.args.input.now in
     let prefix = c.args.prefix.now in
-    let none =
-    clash-found cut input prefix _ _ None c.sheet.ensures c.clash.ensures c.in_default.is in
+    let none = free g (goal.at.returns-in_err-survey g c).After-survey_at in
     refused_run _ _ _ _ _ none c.from_residual.ensures.1
     (input-left cut c.requires.proper input prefix none _ _ _ c.in_err-survey.ensures.refused)
     (survey-numbers cut input prefix _ c.in_err-survey.ensures.numbers)
@@ -50,8 +56,7 @@ returns-in_err-source g c =
     let cut = g.C.Cut.cutting c.args.cut.now in
     let input = c.args.input.now in
     let prefix = c.args.prefix.now in
-    let none =
-    clash-found cut input prefix _ _ None c.sheet.ensures c.clash.ensures c.in_default.is in
+    let none = free g (goal.at.returns-in_err-source g c).After-survey_at in
     refused_run _ _ _ _ _ none c.from_residual-in_err-source.ensures.1
     (head-left cut c.requires.proper input prefix none (g.D.Folder.seen c.args.folder.now)
     (g.D.Folder.seen c.survey_at.new.folder) _ (ap₂ seen_folder c.survey_at.ensures.reads.files
@@ -65,8 +70,7 @@ returns-in_err-places g c =
     let cut = g.C.Cut.cutting c.args.cut.now in
     let input = c.args.input.now in
     let prefix = c.args.prefix.now in
-    let none =
-    clash-found cut input prefix _ _ None c.sheet.ensures c.clash.ensures c.in_default.is in
+    let none = free g (goal.at.returns-in_err-places g c).After-survey_at in
     let old = g.D.Folder.seen c.args.folder.now in
     let mid = g.D.Folder.seen c.read.new.folder in
     refused_run _ _ _ _ _ none c.from_residual-in_err-places.ensures.1
@@ -86,11 +90,6 @@ module _ (g : given.Over) (c : After-as_slice g) where
 
   abbrev mid : Seen
   mid = g.D.Folder.seen c.places.new.folder
-
-  free : clash_of
-      (split_command (g.C.Cut.cutting c.args.cut.now) c.args.input.now c.args.prefix.now) ≡ None
-  free = clash-found (g.C.Cut.cutting c.args.cut.now) c.args.input.now c.args.prefix.now _ _ None
-      c.sheet.ensures c.clash.ensures c.in_default.is
 
   said : SaysPlaces (g.C.Cut.cutting c.args.cut.now) old.files (Ok c.as_slice.result.now)
   said = subst (λ (files : Files). SaysPlaces (g.C.Cut.cutting c.args.cut.now) files
@@ -115,9 +114,10 @@ module _ (g : given.Over) (c : After-as_slice g) where
 pub returns-in_err-pieces : goal.returns-in_err-pieces
 returns-in_err-pieces g c =
     let at = (goal.at.returns-in_err-pieces g c).After-as_slice in
-    refused_run _ _ _ _ _ (free g at) c.from_residual-in_err-pieces.ensures.1
+    let none = free g (goal.at.returns-in_err-pieces g c).After-survey_at in
+    refused_run _ _ _ _ _ none c.from_residual-in_err-pieces.ensures.1
     (range-left (g.C.Cut.cutting c.args.cut.now)
-    c.requires.proper c.args.input.now c.args.prefix.now (free g at)
+    c.requires.proper c.args.input.now c.args.prefix.now none
     (survey_view c.in_ok-survey.survey)
     (old g at) c.in_ok-survey.ensures.there c.in_ok-survey.ensures.surveyed _ _
     (stays g at) c.as_slice.result.now (said g at) _ refl
@@ -129,9 +129,10 @@ returns-in_err-pieces g c =
 pub returns-in_err-buffers : goal.returns-in_err-buffers
 returns-in_err-buffers g c =
     let at = (goal.at.returns-in_err-buffers g c).After-as_slice in
-    refused_run _ _ _ _ _ (free g at) c.from_residual-in_err-buffers.ensures.1
+    let none = free g (goal.at.returns-in_err-buffers g c).After-survey_at in
+    refused_run _ _ _ _ _ none c.from_residual-in_err-buffers.ensures.1
     (memory-left (g.C.Cut.cutting c.args.cut.now)
-    c.requires.proper c.args.input.now c.args.prefix.now (free g at)
+    c.requires.proper c.args.input.now c.args.prefix.now none
     (survey_view c.in_ok-survey.survey)
     (old g at) c.in_ok-survey.ensures.there c.in_ok-survey.ensures.surveyed _ _ (stays g at) refl)
     tt (fell g at)
@@ -161,13 +162,14 @@ write_pieces-requires-clause-split g c =
       ready = rw c.as_slice-2.ensures.value
           (can-be-written c.args.prefix.now c.args.input.now
           (survey_view c.in_ok-source.source.survey) 1
-          _ (no_clash _ 0 _ (free g at.After-as_slice)).0 (omega arith)
+          _ (no_clash _ 0 _ (free g at.After-survey_at)).0 (omega arith)
           (omega (arith, some)) c.in_ok-pieces.ensures.pieces);
     }
 
 pub returns : goal.returns
 returns g c =
     let at = (goal.at.returns g c).After-as_slice in
+    let none = free g (goal.at.returns g c).After-survey_at in
     let most = few g (goal.at.returns g c).In_ok-pieces in
     let items = c.as_slice-2.ensures.value in
     let input = c.args.input.now in
@@ -188,21 +190,21 @@ returns g c =
     record {
       done = ok-both c.write_pieces.result
           (λ written done.
-          split-done (g.C.Cut.cutting c.args.cut.now) c.requires.proper input prefix (free g at) s
+          split-done (g.C.Cut.cutting c.args.cut.now) c.requires.proper input prefix none s
           (old g at) survey.there survey.surveyed (mid g at) _ (stays g at)
           c.as_slice.result.now (said g at) pieces named laid most written touches done)
           (rw (items, by) at c.write_pieces.ensures.written) c.write_pieces.ensures.done;
       left = IfErr-weaker c.write_pieces.result _ _
-          (split-left (g.C.Cut.cutting c.args.cut.now) c.requires.proper input prefix (free g at) s
+          (split-left (g.C.Cut.cutting c.args.cut.now) c.requires.proper input prefix none s
           (old g at) survey.there survey.surveyed (mid g at) _
           (stays g at) c.as_slice.result.now (said g at) pieces named laid most touches)
           (rw (items, by) at c.write_pieces.ensures.left);
       numbers = numbers;
       names = names_free (split_command (g.C.Cut.cutting c.args.cut.now) input prefix)
-          c.write_pieces.result (free g at) numbers;
+          c.write_pieces.result none numbers;
       streams = on_ok_weaker c.write_pieces.result
           (λ done. split-streams (g.C.Cut.cutting c.args.cut.now) c.requires.proper input prefix
-          (free g at) s (old g at) survey.there survey.surveyed c.as_slice.result.now (said g at)
+          none s (old g at) survey.there survey.surveyed c.as_slice.result.now (said g at)
           survey.octets) c.write_pieces.ensures.done;
       counts = none_fell_then _ _ _ (fell g at) c.write_pieces.ensures.counts;
     }
