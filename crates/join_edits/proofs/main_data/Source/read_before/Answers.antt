@@ -2,23 +2,29 @@
 use Rattle.std.proofs.Common.{ap, arith, slice_get, Some, subst, ◌∙◌, ◌≡◌}
 use Rattle.frame_header.specs.Tables.{class_of, length_of}
 use Rattle.join_edits.proofs.ReadingLemmas.{area-next}
+use Rattle.join_edits.proofs.main_data.Source.read_before.Goals.{After-index-rows-at}
 use Rattle.laying.proofs.{ReadLemmas.{laid-within, last-whole}, RelayLemmas.read-at}
 use Rattle.laying.specs.Passing.{IsWindowOverLast}
 use Rattle.sync_survey.specs.Faults.{survey_view}
+use Rattle.join_edits.proofs.main_data.Source.read_before.Given as given
 use Rattle.join_edits.proofs.main_data.Source.read_before.Goals as goal
+
+-- the frame at the place
+found : (g : given.Over) (c : After-index-rows-at g)
+    → slice_get (survey_view c.args.self.now.survey.now).frames c.loop-at.at
+    ≡ Some c.index-rows-at.result
+found g c = read-at c.frames-rows.result.now (survey_view c.args.self.now.survey.now).frames
+    c.loop-at.at c.index-rows-at.result (omega (arith, c.loop-at-test.true, c.requires.within))
+    c.frames-rows.ensures c.index-rows-at.is
 
 pub push_area-requires-clause-within : goal.push_area-requires-clause-within
 push_area-requires-clause-within g c =
     let s = survey_view c.args.self.now.survey.now in
-    let row = c.index-rows-at.result in
-    let found : slice_get s.frames c.loop-at.at ≡ Some row =
-    read-at c.frames-rows.result.now s.frames c.loop-at.at row
-    (omega (arith, c.loop-at-test.true, c.requires.within)) c.frames-rows.ensures
-    c.index-rows-at.is in
+    let at = (goal.at.push_area-requires-clause-within g c).After-index-rows-at in
     omega (
       arith,
-      laid-within s.first s.length s.frames c.loop-at.at row c.requires.held.laid.frames
-          found,
+      laid-within s.first s.length s.frames c.loop-at.at c.index-rows-at.result
+          c.requires.held.laid.frames (found g at),
       c.from.ensures,
       c.offset.ensures,
       ap (λ h. length_of (class_of h) h.slot)
@@ -32,16 +38,13 @@ loop-at-preserved g c =
     let seen = g.D.Folder.seen in
     let at = c.loop-at.at in
     let row = c.index-rows-at.result in
-    let found : slice_get s.frames at ≡ Some row =
-    read-at c.frames-rows.result.now s.frames at row
-    (omega (arith, c.loop-at-test.true, c.requires.within)) c.frames-rows.ensures
-    c.index-rows-at.is in
     record {
       early = omega (arith, c.loop-at-test.true);
       over = area-next c.loop-at.window c.push_area.new.window self.name.now
           (seen c.args.folder.now).files (seen c.loop-at.folder).files s c.first_held-first.result
           at row _ _
-          found c.loop-at.invariant.files (c.from.ensures ∙ c.offset.ensures) c.header.ensures
+          (found g (goal.at.loop-at-preserved g c).After-index-rows-at)
+          c.loop-at.invariant.files (c.from.ensures ∙ c.offset.ensures) c.header.ensures
           c.loop-at.invariant.over c.in_ok-push_area.ensures.area;
       files = c.push_area.ensures.reads.files ∙ c.loop-at.invariant.files;
       counts = c.in_ok-push_area.ensures.reads.done ∙ c.loop-at.invariant.counts;
