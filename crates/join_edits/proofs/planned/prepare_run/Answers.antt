@@ -2,9 +2,10 @@
 use Rattle.std.proofs.Common.{ap, append-nil, ap₂, arith, drop, length, List, map, Option, Some}
 use Rattle.std.proofs.Common.{subst, sym, ℕ, [], ◌+◌, ◌-◌, ◌∙◌, ◌∷◌, ◌≡◌, ◌≤◌}
 use Rattle.std.{proofs.lemmas.List.length-drop, specs.Prelude.{IfSome, slice_get}}
-use Rattle.frame_header.specs.{Fields.ClassFields, Tables.window_of}
+use Rattle.frame_header.specs.{Fields.ClassFields, Limits.most_output_frames, Tables.window_of}
 use Rattle.info_header.specs.InfoFrame.{info_frame}
 use Rattle.join_edits.proofs.{KnownLemmas.get-at, RunPlanLemmas.fits-moved}
+use Rattle.join_edits.proofs.planned.prepare_run.Goals.{After-placed-placed}
 use Rattle.join_edits.specs.{Deciding.{left_out_of, run_needs}, Inputs.class_of_first}
 use Rattle.join_edits.specs.{Laying.window_for, Numbers.{info_kept, run_kept}}
 use Rattle.join_edits.specs.RestOfInputs.{FitsWork, rest_rows}
@@ -34,20 +35,27 @@ first-class (t ∷ ss) {s} {rest} e =
     let same : t ≡ s = cc in
     ap (λ (u : SurveyFields). Some u.class) same
 
-pub overflow_cast-moved : goal.overflow_cast-moved
-overflow_cast-moved c =
+-- the plan has at most one frame more than the run, which is few
+few : (c : After-placed-placed) → length c.placed-placed.result.now ≤ most_output_frames
+few c =
     let run = c.requires.run in
-    let needs = run_needs c.args.decided.now in
     let plan = c.placed-placed.ensures ∙ c.in_ok-plan.ensures.plan run.class
     (subst (AreNeedsOfClass run.class) (sym c.run-needs.ensures) run.same) in
     omega (
       arith,
-      c.saturating_sub.ensures,
       ap length plan,
       run-length (window_of run.class.version) c.run-needs.result.now,
       ap length c.run-needs.ensures,
       length-drop c.args.decided.now.front c.args.decided.now.needs.items,
       run.few,
+    )
+
+pub overflow_cast-moved : goal.overflow_cast-moved
+overflow_cast-moved c =
+    omega (
+      arith,
+      c.saturating_sub.ensures,
+      few (goal.at.overflow_cast-moved c).After-placed-placed,
     )
 
 pub info_of-info-requires-clause-within : goal.info_of-info-requires-clause-within
@@ -56,17 +64,7 @@ info_of-info-requires-clause-within c =
 
 pub info_of-info-requires-clause-few : goal.info_of-info-requires-clause-few
 info_of-info-requires-clause-few c =
-    let run = c.requires.run in
-    let plan = c.placed-placed.ensures ∙ c.in_ok-plan.ensures.plan run.class
-    (subst (AreNeedsOfClass run.class) (sym c.run-needs.ensures) run.same) in
-    omega (
-      arith,
-      ap length plan,
-      run-length (window_of run.class.version) c.run-needs.result.now,
-      ap length c.run-needs.ensures,
-      length-drop c.args.decided.now.front c.args.decided.now.needs.items,
-      run.few,
-    )
+    few (goal.at.info_of-info-requires-clause-few c).After-placed-placed
 
 pub returns : goal.returns
 returns c =
