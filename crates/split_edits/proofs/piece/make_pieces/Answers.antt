@@ -7,9 +7,19 @@ use Rattle.laying.specs.Laid.{IsWritableSelection, LaidPart, selected_part}
 use Rattle.laying.specs.declared.selected.Selected.{Selected}
 use Rattle.split_edits.proofs.PiecesLemmas.{fault-of-all, laid-is, laid_before, match_err}
 use Rattle.split_edits.proofs.PiecesLemmas.{pieces-push, place-laid, place-refused, places-laid}
+use Rattle.split_edits.proofs.piece.make_pieces.Goals.{After-to-item}
 use Rattle.split_edits.specs.{Cutting.piece_parts_from, Steps.{ArePieces, piece_part}}
 use Rattle.sync_survey.specs.Faults.{survey_view}
+use Rattle.split_edits.proofs.piece.make_pieces.Given as given
 use Rattle.split_edits.proofs.piece.make_pieces.Goals as goal
+
+-- the place at which a piece ends is sound
+sound : (g : given.Over) (c : After-to-item g) → g.C.Cut.IsSound c.to-item.result
+sound g c =
+    subst g.C.Cut.IsSound (sym c.to-item.is)
+    (All-take g.C.Cut.IsSound (length c.args.places.now - 1) (drop 1 c.args.places.now)
+    (All-drop g.C.Cut.IsSound 1 c.args.places.now c.requires.places.0)
+    c.loop-to.to-index c.to-item.result (omega (arith, c.loop-to-test.true)))
 
 pub loop-to-preserved : goal.loop-to-preserved
 loop-to-preserved g c =
@@ -33,10 +43,7 @@ loop-to-preserved g c =
       many = omega
           (arith, at.invariant.many, ap length items, length-append at.pieces.items (piece ∷ []));
       number = omega (arith, at.invariant.number);
-      sound = subst g.C.Cut.IsSound (sym c.to-item.is)
-          (All-take g.C.Cut.IsSound (length c.args.places.now - 1) (drop 1 c.args.places.now)
-          (All-drop g.C.Cut.IsSound 1 c.args.places.now c.requires.places.0) at.to-index to
-          (omega (arith, c.loop-to-test.true)));
+      sound = sound g (goal.at.loop-to-preserved g c).After-to-item;
       laid = λ file s is.
           subst (λ (done : List LaidPart).
           laid_before done (piece_parts_from cut file s to (drop (at.to-index + 1) rest))
@@ -48,11 +55,7 @@ loop-to-preserved g c =
     }
 
 pub select-requires-clause-to : goal.select-requires-clause-to
-select-requires-clause-to g c =
-    subst g.C.Cut.IsSound (sym c.to-item.is)
-    (All-take g.C.Cut.IsSound (length c.args.places.now - 1) (drop 1 c.args.places.now)
-    (All-drop g.C.Cut.IsSound 1 c.args.places.now c.requires.places.0)
-    c.loop-to.to-index c.to-item.result (omega (arith, c.loop-to-test.true)))
+select-requires-clause-to g c = sound g (goal.at.select-requires-clause-to g c).After-to-item
 
 pub returns-in_err-selected-clause-laid : goal.returns-in_err-selected-clause-laid
 returns-in_err-selected-clause-laid g c =
