@@ -130,37 +130,35 @@ module _ (head : Option Info) (long : IfSome head (λ (i : Info). length i.exten
   piece_fits : IsFittingPlan (window_of s.class.version) (needs_laid plain s) plain.placed
   piece_fits = with-fitting (span_chosen head span) s is.placed there.some there.within span.led
 
-  sealed_holds : (o : Option Row) → slice_get s.frames span.first ≡ o
-      → HoldsStream (file_laid (row_sealed_part o plain file s) file s)
-      (stream_laid (row_sealed_part o plain file s) file s)
-  sealed_holds None found = let some =
-      (first-there s.frames span.first (omega (arith, there.some, there.within))).1 in absurd cc
-  sealed_holds (Some first) found =
-      laid-holds (row_sealed_part (Some first) plain file s) file s is
-      there.some there.within piece_fits
+  sealed_long : (first : Row) → length (row_sealed_part (Some first) plain file s).extension ≡ 36
+  sealed_long first =
       (sealed-whole first.header (info_laid plain file s) (for-whole s.class
       (frames_laid plain file s) plain.quality plain.extension plain-long)).extension
+
+  -- the span has a first frame, so what holds of every part that is sealed holds of the piece
+  piece_all : (P : LaidPart → Type 0)
+      → ((first : Row) → P (row_sealed_part (Some first) plain file s))
+      → P (span_piece head span file s)
+  unfolding span_piece
+  piece_all P sealed = at (slice_get s.frames span.first) refl
+    where
+      at : (o : Option Row) → slice_get s.frames span.first ≡ o → P (row_sealed_part o plain file s)
+      at None found = let some =
+          (first-there s.frames span.first (omega (arith, there.some, there.within))).1 in absurd cc
+      at (Some first) found = sealed first
 
   -- the file of the piece holds its stream
   pub piece-holds : HoldsStream (file_laid (span_piece head span file s) file s)
       (stream_laid (span_piece head span file s) file s)
-  unfolding span_piece
-  piece-holds = sealed_holds (slice_get s.frames span.first) refl
-
-  sealed_loses_none : (o : Option Row) → slice_get s.frames span.first ≡ o
-      → LosesNoFrame (file_laid (row_sealed_part o plain file s) file s)
-  sealed_loses_none None found = let some =
-      (first-there s.frames span.first (omega (arith, there.some, there.within))).1 in absurd cc
-  sealed_loses_none (Some first) found =
-      laid-loses-none (row_sealed_part (Some first) plain file s) file s is
-      there.some there.within piece_fits
-      (sealed-whole first.header (info_laid plain file s) (for-whole s.class
-      (frames_laid plain file s) plain.quality plain.extension plain-long)).extension
+  piece-holds = piece_all (λ l. HoldsStream (file_laid l file s) (stream_laid l file s))
+      (λ first. laid-holds (row_sealed_part (Some first) plain file s) file s is
+      there.some there.within piece_fits (sealed_long first))
 
   -- the file of the piece loses no frame
   pub piece-loses-none : LosesNoFrame (file_laid (span_piece head span file s) file s)
-  unfolding span_piece
-  piece-loses-none = sealed_loses_none (slice_get s.frames span.first) refl
+  piece-loses-none = piece_all (λ l. LosesNoFrame (file_laid l file s))
+      (λ first. laid-loses-none (row_sealed_part (Some first) plain file s) file s is
+      there.some there.within piece_fits (sealed_long first))
 
 -- ---- the command
 

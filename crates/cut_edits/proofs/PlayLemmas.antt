@@ -105,35 +105,29 @@ module _ (head : Option Info) (whole : IfSome head AreInfoFields)
 -- ---- sealing changes neither the slots nor which frames are laid
 
 module _ (head : Option Info) (span : Span) (file : List ℕ) (s : SurveyFields) where
-  -- the part of the span once sealed, if this is the row of its first frame
-  abbrev sealed : Option Row → LaidPart
-  sealed o = row_sealed_part o (span_part head span s) file s
+  abbrev unsealed : LaidPart
+  unsealed = span_part head span s
 
-  sealed_placed : (o : Option Row) → (sealed o).placed ≡ (span_part head span s).placed
-  sealed_placed None = refl
-  sealed_placed (Some first) = refl
-
-  piece_placed : (span_piece head span file s).placed ≡ (span_part head span s).placed
+  piece_same : {X : Type 0} (of : LaidPart → X)
+      → ((first : Row) → of (row_sealed_part (Some first) unsealed file s) ≡ of unsealed)
+      → of (span_piece head span file s) ≡ of unsealed
   unfolding span_piece
-  piece_placed = sealed_placed (slice_get s.frames span.first)
+  piece_same of same = at (slice_get s.frames span.first)
+    where
+      at : (o : Option Row) → of (row_sealed_part o unsealed file s) ≡ of unsealed
+      at None = refl
+      at (Some first) = same first
 
-  sealed_from_same : (o : Option Row) → (sealed o).from ≡ span.first
-  sealed_from_same None = refl
-  sealed_from_same (Some first) = refl
-
-  sealed_to_same : (o : Option Row) → (sealed o).to ≡ span.last
-  sealed_to_same None = refl
-  sealed_to_same (Some first) = refl
+  piece_placed : (span_piece head span file s).placed ≡ unsealed.placed
+  piece_placed = piece_same (λ l. l.placed) (λ first. refl)
 
   -- the first frame of a piece is the first of its span
   pub piece-from : (span_piece head span file s).from ≡ span.first
-  unfolding span_piece
-  piece-from = sealed_from_same (slice_get s.frames span.first)
+  piece-from = piece_same (λ l. l.from) (λ first. refl)
 
   -- the last frame of a piece is the last of its span
   pub piece-to : (span_piece head span file s).to ≡ span.last
-  unfolding span_piece
-  piece-to = sealed_to_same (slice_get s.frames span.first)
+  piece-to = piece_same (λ l. l.to) (λ first. refl)
 
 -- of a piece exactly the samples of its span are played
 pub pieces-play : PiecesPlayTheirSamples
