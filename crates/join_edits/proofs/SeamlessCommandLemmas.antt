@@ -1,8 +1,9 @@
 -- What a seamless join leaves, given its steps.
 use Rattle.std.proofs.Common.{ap, append-nil, ap₂, arith, drop, Err, inl, inr, length, List, map}
-use Rattle.std.proofs.Common.{None, Ok, Option, refl, Result, Some, subst, suc, sym, unwrap_or, ℕ}
-use Rattle.std.proofs.{Common.{[], ◌++◌, ◌+◌, ◌-◌, ◌<◌, ◌∙◌, ◌∷◌, ◌≡◌, ◌≤◌}, lemmas.List.length-map}
-use Rattle.std.specs.{List.concat, Prelude.{flat_map, IfErr, IfSome, true}}
+use Rattle.std.proofs.Common.{None, Ok, Option, refl, Result, Some, subst, sym, unwrap_or, ℕ, []}
+use Rattle.std.proofs.{Common.{◌++◌, ◌+◌, ◌-◌, ◌<◌, ◌∙◌, ◌∷◌, ◌≡◌, ◌≤◌}, lemmas.List.length-map}
+use Rattle.std.{proofs.lemmas.Slice.Zip.AllZip-long, specs.List.{AllZip, concat}}
+use Rattle.std.specs.Prelude.{flat_map, IfErr, IfSome, true}
 use Rattle.commands.proofs.MakeLemmas.{all_left, clash_left, early_left, one_done, one_streams}
 use Rattle.commands.proofs.TellingLemmas.{telling-done, telling-left, telling-streams, telling-text}
 use Rattle.commands.specs.AfterCall.{HasNumbers, IsCommandDone, IsCommandFault, IsLateFault}
@@ -27,9 +28,8 @@ use Rattle.join_edits.specs.Deciding.{broughts_in, CanBeDecided, FitAlone, FitsA
 use Rattle.join_edits.specs.Deciding.{left_out_of}
 use Rattle.join_edits.specs.Inputs.{AreInputsOfClass, AreJoinInputs, CanInputsBeJoined}
 use Rattle.join_edits.specs.Inputs.{class_of_first, frames_together, HasJoinNumbers, parts_in}
-use Rattle.join_edits.specs.Join.{join_parts, join_refuses, joined_file}
-use Rattle.join_edits.specs.{Laying.{AreSources, IsSource}, Lines.joint_lines}
-use Rattle.join_edits.specs.Reading.{AreHeld, IsInputReadFault}
+use Rattle.join_edits.specs.{Join.{join_parts, join_refuses, joined_file}, Laying.IsSource}
+use Rattle.join_edits.specs.{Lines.joint_lines, Reading.{AreHeld, IsHeld, IsInputReadFault}}
 use Rattle.join_edits.specs.RestOfInputs.{CanJoinBeWritten, FitsWork, join_bytes, rest_parts}
 use Rattle.join_edits.specs.Seamless.{seamless_command, seamless_file, seamless_stream_or_none}
 use Rattle.join_edits.specs.Seamless.{seamless_task, seamless_text, seamless_text_or_none}
@@ -45,30 +45,42 @@ use Rattle.outside.specs.Seen.{Seen}
 use Rattle.slot_plan.specs.Plans.{entries}
 use Rattle.sync_survey.proofs.{ApartLemmas.placed-apart, EmptiedLemmas.{apart-laid, placed-emptied}}
 use Rattle.sync_survey.specs.Faults.{HoldsStream, longest_file, survey_view, SurveyFields}
-use Rattle.sync_survey.specs.{HeadApart.rows_set_apart, Survey.{IsSurveyLaidOut, survey_of}}
+use Rattle.sync_survey.specs.{HeadApart.rows_set_apart, Survey.IsSurveyLaidOut}
 
 -- ---- surveys whose heads are set apart
 
-apart-held : (allowed : ℕ) (files : Files) (name : List ℕ) (s : SurveyFields) → IsSurveyLaidOut s
-    → ((file : List ℕ) → Holds files name file → survey_of file allowed ≡ Ok s) → (file : List ℕ)
-    → Holds files name file → CanBeRelaid file (survey_without_head s)
-apart-held allowed files name s laid exact file holds =
-    apart-had file s (survey-had file allowed s (exact file holds)) (apart-placed s laid.placed)
+-- if it stays true of one input when its head is set apart, it stays true of all
+all-apart : (P : List ℕ → SurveyFields → Type 0)
+    → ((name : List ℕ) (s : SurveyFields) → P name s → P name (survey_without_head s))
+    → (names : List (List ℕ)) (ss : List SurveyFields) → AllZip P names ss
+    → AllZip P names (map survey_without_head ss)
+all-apart P stays [] [] are = tt
+all-apart P stays (name ∷ names) (s ∷ ss) are =
+    (stays name s are.0, all-apart P stays names ss are.1)
+all-apart P stays _ _ are = absurd are
 
-apart-known : (first : Option ClassFields) (allowed : ℕ) (files : Files) (names : List (List ℕ))
-    (ss : List SurveyFields) → AreJoinInputs first allowed files names ss
-    → AreHeld files names (map survey_without_head ss)
-apart-known first allowed files [] [] are = tt
-apart-known first allowed files (name ∷ names) (s ∷ ss) are = (
-  record {
-    there = are.0.there;
-    exact = apart-held allowed files name s are.0.laid are.0.exact;
-    laid =
-        apart-laid s are.0.laid;
-  },
-  apart-known (Some (unwrap_or first s.class)) (allowed - length s.frames) files names ss are.2,
-)
-apart-known first allowed files _ _ are = absurd are
+apart-exact : (files : Files) (name : List ℕ) (s : SurveyFields) → IsSurveyLaidOut s
+    → ((file : List ℕ) → Holds files name file → CanBeRelaid file s) → (file : List ℕ)
+    → Holds files name file → CanBeRelaid file (survey_without_head s)
+apart-exact files name s laid exact file holds =
+    apart-had file s (exact file holds) (apart-placed s laid.placed)
+
+apart-held : (files : Files) (name : List ℕ) (s : SurveyFields) → IsHeld files name s
+    → IsHeld files name (survey_without_head s)
+apart-held files name s is = record {
+  there = is.there;
+  exact = apart-exact files name s is.laid is.exact;
+  laid = apart-laid s is.laid;
+}
+
+apart-source : (output : List ℕ) (files : Files) (name : List ℕ) (s : SurveyFields)
+    → IsSource output files name s → IsSource output files name (survey_without_head s)
+apart-source output files name s is = record {
+  apart = is.apart;
+  there = is.there;
+  exact = apart-exact files name s is.laid is.exact;
+  laid = apart-laid s is.laid;
+}
 
 -- the inputs are there, with their surveys as they were found
 pub inputs-known : (first : Option ClassFields) (allowed : ℕ) (files : Files)
@@ -130,7 +142,8 @@ pub apart-decided : (files : Files) (names : List (List ℕ)) (ss : List SurveyF
     → AreBeginnings files names ss bs → CanBeDecided files names (map survey_without_head ss) bs
 apart-decided files names ss bs are can begun = record {
   joined = apart-join ss can;
-  known = apart-known None most_frames files names ss are;
+  known = all-apart (IsHeld files) (apart-held files) names ss
+      (inputs-known None most_frames files names ss are);
   fit = all-alone can.class ss can.alike;
   begun = begun-long files names ss bs begun ∙ sym (length-map ss survey_without_head);
 }
@@ -168,55 +181,24 @@ made-written output files names ss bs made free are can is =
     record {
       class = class;
       first = first;
-      sources = apart-sources class output 0 None most_frames files names ss free can.alike are;
+      sources = all-apart (λ name s. IsSource output files name s × (s.class ≡ class))
+          (λ name s is. (apart-source output files name s is.0, is.1)) names ss
+          (sources-inputs class output 0 None most_frames files names ss free can.alike are);
       fits = subst (λ (o : Option ClassFields). IfSome o
           (λ c. FitsWork c (map survey_without_head ss) (left_out_of made.decided) made.work)) first
           is.run.fits;
     }
-  where
-    held-apart : (allowed : ℕ) (files : Files) (output name : List ℕ) (s : SurveyFields)
-        → IsSource output files name s
-        → ((file : List ℕ) → Holds files name file → survey_of file allowed ≡ Ok s)
-        → IsSource output files name (survey_without_head s)
-    held-apart allowed files output name s source exact = record {
-      apart = source.apart;
-      there = source.there;
-      exact = apart-held allowed files name s source.laid exact;
-      laid = apart-laid s source.laid;
-    }
-
-    pairs : (class : ClassFields) (output : List ℕ) (first : Option ClassFields) (allowed : ℕ)
-        (files : Files) (names : List (List ℕ)) (ss : List SurveyFields)
-        → AreSources class output files names ss → AreJoinInputs first allowed files names ss
-        → AreSources class output files names (map survey_without_head ss)
-    pairs class output first allowed files [] [] sources are = tt
-    pairs class output first allowed files (name ∷ names) (s ∷ ss) sources are = (
-      (held-apart allowed files output name s sources.0.0 are.0.exact, sources.0.1),
-      pairs class output (Some (unwrap_or first s.class))
-          (allowed - length s.frames) files names ss sources.1 are.2,
-    )
-    pairs class output first allowed files _ _ sources are = absurd are
-
-    apart-sources : (class : ClassFields) (output : List ℕ) (place : ℕ) (first : Option ClassFields)
-        (allowed : ℕ) (files : Files) (names : List (List ℕ)) (ss : List SurveyFields)
-        → clash_from (output ∷ []) place names ≡ None → AreInputsOfClass class ss
-        → AreJoinInputs first allowed files names ss
-        → AreSources class output files names (map survey_without_head ss)
-    apart-sources class output place first allowed files names ss free alike are =
-        pairs class output first allowed files names ss
-        (sources-inputs class output place first allowed files names ss free alike are) are
 
 -- all inputs are of one class
 all-of : (class : ClassFields) (ss : List SurveyFields) → AreInputsOfClass class ss → AllOf class ss
 all-of class [] are = tt
 all-of class (s ∷ ss) are = (are.2, all-of class ss are.3)
 
-names-many : (first : Option ClassFields) (allowed : ℕ) (files : Files) (names : List (List ℕ))
-    (ss : List SurveyFields) → AreJoinInputs first allowed files names ss → length ss ≡ length names
-names-many first allowed files [] [] are = refl
-names-many first allowed files (name ∷ names) (s ∷ ss) are = ap suc
-    (names-many (Some (unwrap_or first s.class)) (allowed - length s.frames) files names ss are.2)
-names-many first allowed files _ _ are = absurd are
+-- there are as many surveys as inputs
+names-many : (files : Files) (names : List (List ℕ)) (ss : List SurveyFields)
+    → AreJoinInputs None most_frames files names ss → length ss ≡ length names
+names-many files names ss are =
+    AllZip-long (IsHeld files) names ss (inputs-known None most_frames files names ss are)
 
 module _ (f : Contents) (name : List ℕ) (names : List (List ℕ)) (s : SurveyFields)
     (ss : List SurveyFields) (b : Beginning) (bs : List Beginning) (made : MadeRun)
@@ -247,7 +229,7 @@ module _ (f : Contents) (name : List ℕ) (names : List (List ℕ)) (s : SurveyF
       let file : unwrap_or (f name) [] ≡ bytes =
       ap (λ (o : Option (List ℕ)). unwrap_or o []) held in
       let many : length ss ≤ length names =
-      omega (arith, names-many None most_frames (Told f) (name ∷ names) (s ∷ ss) are) in
+      omega (arith, names-many (Told f) (name ∷ names) (s ∷ ss) are) in
       let within : made.decided.front < length s.frames =
       omega (arith, is.decided.run.behind (survey_without_head s) refl, apart-length s) in
       ap (λ (l : List ℕ). (concat (front_blocks l s) ++ made.work.info.items)
@@ -269,7 +251,7 @@ module _ (f : Contents) (name : List ℕ) (names : List (List ℕ)) (s : SurveyF
 pub joints-many : (names : List (List ℕ)) (files : Files) (ready : Ready)
     → IsSeamlessReady names files ready → length ready.made.decided.joints.items + 1 ≡ length names
 joints-many names files ready is = is.made.decided.run.many ∙ length-map is.ss survey_without_head
-    ∙ names-many None most_frames files names is.ss is.inputs
+    ∙ names-many files names is.ss is.inputs
 
 -- what was prepared can be written
 pub ready-writable : (output : List ℕ) (names : List (List ℕ)) (files : Files) (ready : Ready)
