@@ -1,8 +1,8 @@
 -- Frames of inputs by place: what they sound like, and their main data.
-use Rattle.std.proofs.Common.{ap, ap₂, arith, bytes_eq, drop, false, get_or, length, List, map}
-use Rattle.std.proofs.Common.{Option, option_and_then, refl, slice_get, slice_range, Some, subst}
-use Rattle.std.proofs.Common.{suc, sym, take, true, zero, zip, ℕ, [], ◌&&◌, ◌+◌, ◌-◌, ◌<◌, ◌∙◌, ◌∷◌}
-use Rattle.std.{proofs.{Common.◌≡◌, lemmas.List.length-map}, specs.List.enumerate_from}
+use Rattle.std.proofs.Common.{ap, ap₂, arith, bytes_eq, false, get_or, length, List, map, Option}
+use Rattle.std.proofs.Common.{option_and_then, refl, slice_get, slice_range, Some, subst, suc, sym}
+use Rattle.std.proofs.Common.{take, true, zero, zip, ℕ, [], ◌&&◌, ◌+◌, ◌-◌, ◌<◌, ◌∙◌, ◌∷◌, ◌≡◌}
+use Rattle.std.{proofs.lemmas.List.length-map, specs.List.enumerate_from}
 use Rattle.std.specs.Prelude.{All, slice_index_or, unwrap_or}
 use Rattle.frame_header.specs.{Fields.{ClassFields, HeaderFields}, HeaderBits.header_bits}
 use Rattle.frame_header.specs.Tables.{class_of}
@@ -77,14 +77,6 @@ get-one xs i x y first second = one (sym first ∙ second)
   where
     one : Some x ≡ Some y → x ≡ y
     one e = cc
-
--- the first of the items from a place on is the one there
-pub drop-get : {X : Type 0} (xs rest : List X) (i : ℕ) (x : X) → drop i xs ≡ x ∷ rest
-    → slice_get xs i ≡ Some x
-drop-get [] rest zero x is = absurd cc
-drop-get [] rest (suc i) x is = absurd cc
-drop-get (y ∷ xs) rest zero x is = let same : y ≡ x = cc in ap Some same
-drop-get (y ∷ xs) rest (suc i) x is = drop-get xs rest i x is
 
 -- the item at a place, or a given one if there is none
 pub get-index : {X : Type 0} (xs : List X) (i : ℕ) (x other : X) → slice_get xs i ≡ Some x

@@ -7,6 +7,7 @@ use Rattle.std.specs.List.{list_all}
 use Rattle.bit_fields.proofs.BitsLemmas.{bits-append, bits-cons, bits-one, number-bits_of-below}
 use Rattle.bit_fields.specs.Bits.{bits, bits_of, number}
 use Rattle.cut_edits.specs.Exact.{survey_without_head}
+use Rattle.join_edits.proofs.FramePlaceLemmas.{get-index, held-at}
 use Rattle.join_edits.specs.{Beginnings.{AreBeginnings, IsBeginning}, Reading.{AreHeld, IsHeld}}
 use Rattle.join_edits.specs.declared.beginnings.Beginning.{Beginning}
 use Rattle.outside.specs.{Files.Files, Pass.IsReadPassFault, declared.pass.PassFault.PassFault}
@@ -15,33 +16,6 @@ use Rattle.sync_survey.specs.Faults.{SurveyFields}
 
 -- ---- one input
 
--- the input at a place
-pub known-here : (files : Files) (names : List (List ℕ)) (ss : List SurveyFields) (place : ℕ)
-    {name : List ℕ} {rest : List (List ℕ)} {s : SurveyFields} {behind : List SurveyFields}
-    → AreHeld files names ss → drop place names ≡ name ∷ rest → drop place ss ≡ s ∷ behind
-    → IsHeld files name s
-known-here files [] ss place known named found = absurd (no-more place named)
-  where
-    no-more : {X : Type 0} {x : X} {l : List X} (n : ℕ) → drop n [] ≡ x ∷ l → ⊥
-    no-more zero e = cc
-    no-more (suc n) e = cc
-known-here files (n ∷ names) [] place known named found = absurd known
-known-here files (n ∷ names) (t ∷ ss) zero {name} {rest} {s} {behind} known named found =
-    let names-same : n ≡ name = cc in
-    let surveys-same : t ≡ s = cc in
-    subst (λ (m : List ℕ). IsHeld files m s) names-same
-    (subst (λ (u : SurveyFields). IsHeld files n u) surveys-same known.0)
-known-here files (n ∷ names) (t ∷ ss) (suc place) known named found =
-    known-here files names ss place known.1 named found
-
--- the name of an input, by its place
-pub named-at : (names : List (List ℕ)) (place : ℕ) {name : List ℕ} {rest : List (List ℕ)}
-    → drop place names ≡ name ∷ rest → name ≡ slice_index_or names place []
-named-at [] zero e = absurd cc
-named-at [] (suc place) e = absurd cc
-named-at (n ∷ names) zero e = cc
-named-at (n ∷ names) (suc place) e = named-at names place e
-
 -- the first of the items from a place on is the one there
 pub get-at : {X : Type 0} (xs : List X) (place : ℕ) {x : X} {rest : List X}
     → drop place xs ≡ x ∷ rest → slice_get xs place ≡ Some x
@@ -49,6 +23,19 @@ get-at [] zero e = absurd cc
 get-at [] (suc place) e = absurd cc
 get-at (y ∷ xs) zero e = cc
 get-at (y ∷ xs) (suc place) e = get-at xs place e
+
+-- the input at a place
+pub known-here : (files : Files) (names : List (List ℕ)) (ss : List SurveyFields) (place : ℕ)
+    {name : List ℕ} {rest : List (List ℕ)} {s : SurveyFields} {behind : List SurveyFields}
+    → AreHeld files names ss → drop place names ≡ name ∷ rest → drop place ss ≡ s ∷ behind
+    → IsHeld files name s
+known-here files names ss place {name} {rest} {s} {behind} known named found =
+    held-at files names ss place name s known (get-at names place named) (get-at ss place found)
+
+-- the name of an input, by its place
+pub named-at : (names : List (List ℕ)) (place : ℕ) {name : List ℕ} {rest : List (List ℕ)}
+    → drop place names ≡ name ∷ rest → name ≡ slice_index_or names place []
+named-at names place {name} {rest} e = get-index names place name [] (get-at names place e)
 
 -- the beginning of one more input
 pub begun-more : (files : Files) (names : List (List ℕ)) (ss : List SurveyFields)
