@@ -244,23 +244,15 @@ module _ {X : Type 0} (cut : Cutting X) (proper : IsProperCutting cut) (input pr
     module _ (old mid new : Seen) (stays : mid ≡ old) (fault : EditFault) where
       -- a head that could not be read leaves everything as it was
       pub head-left : IsHeadFault input mid new fault → IsCommandFault command old new fault
-      head-left h = each_why (why_of fault) (rw stays at h) (record {
+      head-left h = input-left old new fault (each_why (why_of fault) (rw stays at h) (record {
         rejected = λ r. absurd r;
         missing = λ m. absurd m;
-        unread = λ u. record {
-          names = apart;
-          before = before_first old.files command.makes fault u.is;
-          rose = unread_name command.inputs 0 refl u;
-          files = inl u.files;
-        };
-        shorter = λ l. record {
-          ended = lost_name command.inputs 0 refl l;
-          touches = stays-touched old.files new.files l.files;
-        };
+        unread = λ u. u;
+        shorter = λ l. l;
         unwritten = λ k w. absurd w;
         unsent = λ w. absurd w;
         no_memory = λ n. absurd n;
-      })
+      }))
 
     module _ (s : SurveyFields) (old : Seen) (there : IsFileThere old.files input) (survey_is :
         (bytes : List ℕ) → Holds old.files input bytes → survey_of bytes most_frames ≡ Ok s) where
