@@ -1,7 +1,8 @@
 -- The lines of a text, line by line, and what is sent of them: the lines of entries, and a last
 -- one.
 use Rattle.std.proofs.Common.{ap, append-nil, append_assoc, List, subst, sym, ℕ, [], ◌++◌, ◌∙◌, ◌∷◌}
-use Rattle.std.{proofs.Common.◌≡◌, specs.Prelude.{Err, flat_map, Ok, OnErr, OnOk, Result}}
+use Rattle.std.proofs.{Common.◌≡◌, lemmas.Result.{on_err_weaker, on_ok_weaker}}
+use Rattle.std.specs.Prelude.{flat_map, OnErr, OnOk, Result}
 use Rattle.outside.proofs.SentLemmas.{sent_more_on, sent_more_prefix, sent_none, sent_prefix_of}
 use Rattle.outside.proofs.SentLemmas.{sent_then_all, sent_then_prefix}
 use Rattle.outside.specs.{BufferOutput.{SendsWaiting, SentPrefix}, Files.{Sent, sent_and_more}}
@@ -91,16 +92,12 @@ module _ {A : Type 0} (line : A → List ℕ) (all : List A) where
         let said = all_said left waits old now h is in
         subst (λ text. SendsWaiting text after old new) (sym said.1) (sent_more_on last said.2 more)
 
--- all that waited was sent
-pub sent_behind : {T E : Type 0} (r : Result T E) {text waits : List ℕ} {old now : Sent}
-    (new : Sent) → SendsWaiting text waits old now → OnOk r (new ≡ sent_and_more now waits)
-    → OnOk r (new ≡ sent_and_more old text)
-sent_behind (Ok x) new so_far all = sent_then_all so_far all
-sent_behind (Err e) new so_far all = tt
+module _ {T E : Type 0} (r : Result T E) {text waits : List ℕ} {old now : Sent} (new : Sent)
+    (so_far : SendsWaiting text waits old now) where
+  -- all that waited was sent
+  pub sent_behind : OnOk r (new ≡ sent_and_more now waits) → OnOk r (new ≡ sent_and_more old text)
+  sent_behind = on_ok_weaker r (sent_then_all so_far)
 
--- after what was sent a prefix of what waits is a prefix of the text
-pub prefix_behind : {T E : Type 0} (r : Result T E) {text waits : List ℕ} {old now : Sent}
-    (new : Sent) → SendsWaiting text waits old now → OnErr r (SentPrefix waits now new)
-    → OnErr r (SentPrefix text old new)
-prefix_behind (Ok x) new so_far part = tt
-prefix_behind (Err e) new so_far part = sent_then_prefix so_far part
+  -- after what was sent a prefix of what waits is a prefix of the text
+  pub prefix_behind : OnErr r (SentPrefix waits now new) → OnErr r (SentPrefix text old new)
+  prefix_behind = on_err_weaker r (sent_then_prefix so_far)
