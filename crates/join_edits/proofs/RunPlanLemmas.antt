@@ -5,15 +5,15 @@ use Rattle.std.proofs.lemmas.List.Elements.{All-cons, All-nil}
 use Rattle.frame_header.specs.Fields.{ClassFields, HeaderFields, IsClass}
 use Rattle.frame_header.specs.Tables.{area_of, class_of, window_of}
 use Rattle.join_edits.specs.{Deciding.AreMovedNeeds, RunReady.plan_of_run_needs}
-use Rattle.laying.proofs.{FitLemmas.parts-fit, PlacesLemmas.range-whole}
+use Rattle.laying.proofs.{FitLemmas.parts-fit, PartsLemmas.one_class, PlacesLemmas.range-whole}
 use Rattle.laying.specs.Fits.{FitsFromReach, placed_area, placed_bytes, reach_behind}
 use Rattle.laying.specs.{NeedsFit.own_choice, Relaid.rest_behind}
 use Rattle.slot_plan.specs.FreeBytes.{FitBehindWindow, FitsBehind}
 use Rattle.slot_plan.specs.Laws.{ChoosesInOrder, IsPlanAnswer, PartsChooseInOrder}
 use Rattle.slot_plan.specs.LeastPlan.{least_plan}
-use Rattle.slot_plan.specs.Parts.{AreNeedsOfClass, AreNeedsOfOneClass, ArePartsFeasible}
-use Rattle.slot_plan.specs.{Parts.{CanBePlanned, needs_in_parts, window_in}, Plans.IsPlan}
-use Rattle.slot_plan.specs.declared.needs.{Need.Need, Placed.Placed}
+use Rattle.slot_plan.specs.Parts.{AreNeedsOfClass, ArePartsFeasible, CanBePlanned, needs_in_parts}
+use Rattle.slot_plan.specs.{Parts.window_in, Plans.IsPlan, declared.needs.Need.Need}
+use Rattle.slot_plan.specs.declared.needs.Placed.{Placed}
 
 -- ---- one part
 
@@ -21,13 +21,6 @@ class-at-first : (class : ClassFields) (n : Need) (needs : List Need)
     → AreNeedsOfClass class (n ∷ needs) → class_of n.header ≡ class
 unfolding AreNeedsOfClass
 class-at-first class n needs same = same.0
-
-one-class : (class : ClassFields) (needs : List Need) → AreNeedsOfClass class needs
-    → AreNeedsOfOneClass needs
-unfolding AreNeedsOfClass
-one-class class [] same = tt
-one-class class (n ∷ needs) same =
-    subst (λ (c : ClassFields). AreNeedsOfClass c needs) (sym same.0) same.1
 
 window-is : (class : ClassFields) (needs : List Need) → 0 < length needs
     → AreNeedsOfClass class needs → window_in needs ≡ window_of class.version
@@ -75,7 +68,7 @@ module _ (class : ClassFields) (needs : List Need) (known : IsClass class)
   -- a run that fits can be planned as one part
   pub can-plan : CanBePlanned needs (0 ∷ [])
   can-plan = record {
-    class = one-class class needs same;
+    class = one_class class needs same;
     some = omega arith;
     first = refl;
     ascending = λ i j d before lt. absurd (omega (arith, before, lt));

@@ -5,7 +5,6 @@ use Rattle.std.proofs.Common.{map, min, None, Option, option_and_then, option_ma
 use Rattle.std.proofs.Common.{slice_get, slice_range, Some, subst, suc, sym, take, true, unwrap_or}
 use Rattle.std.proofs.Common.{zero, ℕ, [], ◌&&◌, ◌*◌, ◌++◌, ◌+◌, ◌-◌, ◌<◌, ◌∙◌, ◌∷◌, ◌≡◌, ◌≤◌}
 use Rattle.std.proofs.lemmas.List.{drop-map, length-drop, length-map, length-take}
-use Rattle.std.proofs.lemmas.List.FromFn.{length-enumerate_from}
 use Rattle.std.specs.List.{AllZip, concat, enumerate_from, list_all}
 use Rattle.cut_edits.{proofs.HeadLemmas.apart-length, specs.Exact.{quality_of, survey_without_head}}
 use Rattle.exact_span.specs.Extensions.{counts_of, extension_of}
@@ -31,6 +30,7 @@ use Rattle.join_edits.specs.Seamless.{seam_lines, seamless_file, seamless_frames
 use Rattle.join_edits.specs.Seamless.{seamless_padding, seamless_row_file, seamless_text}
 use Rattle.join_edits.specs.declared.{beginnings.Beginning.Beginning, decided.Decided.Decided}
 use Rattle.join_edits.specs.declared.numbers.{Ends.Ends, Moved.Moved}
+use Rattle.laying.proofs.{HoldLemmas.all-length, LaidLemmas.first-there}
 use Rattle.laying.specs.{Fits.{FitsFromReach, reach_behind}, KeptFields.fields_of_head}
 use Rattle.laying.specs.{LaidFiles.laid_file, Needs.{need_of, needs_of_parts}, NeedsFit.own_choice}
 use Rattle.laying.specs.Relaid.{all_frames, FilePart, frame_with_place, lead_in_with_place}
@@ -139,10 +139,6 @@ relaid-slots window reach (n ∷ needs) (f ∷ fs) (p ∷ placed) same fits =
     (behind-length p.lead_in f n fs needs (omega (arith, same))) fits.2)
 
 -- there are as many frames as the plan was made for
-frames-long : (file : List ℕ) (s : SurveyFields) → length (all_frames file s) ≡ length s.frames
-unfolding all_frames
-frames-long file s = length-map (enumerate_from 0 s.frames) _ ∙ length-enumerate_from 0 s.frames
-
 range-long : {X Y : Type 0} (xs : List X) (ys : List Y) (from to : ℕ) → length xs ≡ length ys
     → length (slice_range xs from to) ≡ length (slice_range ys from to)
 range-long xs ys from to same =
@@ -165,7 +161,7 @@ behind-long f (name ∷ names) (s ∷ ss) (from ∷ froms) many =
     let rows = slice_range s.frames from (length s.frames) in
     length-append own (flat_map part_frames (rest_parts f names ss froms))
     ∙ ap₂ (λ m n. m + n) (range-long (all_frames file s) s.frames from (length s.frames)
-    (frames-long file s) ∙ sym (length-map rows need_of))
+    (all-length file s) ∙ sym (length-map rows need_of))
     (behind-long f names ss froms (omega (arith, many)))
     ∙ sym (length-append (map need_of rows) (needs_of_parts (rest_rows ss froms)))
 
@@ -368,7 +364,7 @@ module _ (f : Contents) (name : List ℕ) (names : List (List ℕ)) (s : SurveyF
   unfolding seamless_file parts_in laid_file
   seamless-written info many fits is_info within =
       let frames = seamless_frames first parts in
-      let row = get-there s.frames d.front within in
+      let row = first-there s.frames d.front within in
       let other = apart-header s d.front row.0 row.1 in
       let laid = rest_parts f (name ∷ names) (map survey_without_head (s ∷ ss)) (left_out_of d) in
       let slots : map slot_in frames ≡ map (λ (p : Placed). p.slot) placed =
@@ -390,12 +386,6 @@ module _ (f : Contents) (name : List ℕ) (names : List (List ℕ)) (s : SurveyF
       (ap bytes_of_frames frames-same ∙ sym (append-nil (bytes_of_frames frames)))
       ∙ sym (ap (λ (o : Option Row). seamless_row_file o first parts)
       (ap (slice_get s.frames) (sym is.front) ∙ row.1))
-    where
-      get-there : (rows : List Row) (n : ℕ) → n < length rows
-          → (r : Row) × (slice_get rows n ≡ Some r)
-      get-there [] n lt = absurd (omega (arith, lt))
-      get-there (r ∷ rows) zero lt = (r, refl)
-      get-there (r ∷ rows) (suc n) lt = get-there rows n (omega (arith, lt))
 
   -- ---- the text
 

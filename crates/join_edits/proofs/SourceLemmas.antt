@@ -1,9 +1,8 @@
 -- The inputs as sources of frames, and what is written from them.
 use Rattle.std.proofs.Common.{ap, append-nil, append_assoc, ap₂, arith, inl, inr, is_some, length}
 use Rattle.std.proofs.Common.{List, map, None, Ok, Option, refl, Result, Some, subst, sym, true, ℕ}
-use Rattle.std.proofs.Common.{[], ◌++◌, ◌+◌, ◌-◌, ◌<◌, ◌∙◌, ◌∷◌, ◌≡◌, ◌≢◌, ◌≤◌}
-use Rattle.std.proofs.lemmas.List.{length-map, Elements.{All-cons, All-nil}}
-use Rattle.std.proofs.lemmas.List.FromFn.{length-range_with_len}
+use Rattle.std.proofs.{Common.{[], ◌++◌, ◌+◌, ◌-◌, ◌∙◌, ◌∷◌, ◌≡◌, ◌≢◌, ◌≤◌}, lemmas.List.length-map}
+use Rattle.std.proofs.lemmas.List.{Elements.{All-cons, All-nil}, FromFn.length-range_with_len}
 use Rattle.std.specs.{List.{concat, range_with_len}, Prelude.{flat_map, slice_get, unwrap_or}}
 use Rattle.bit_fields.specs.Bits.{AreBytes}
 use Rattle.commands.{proofs.MakeLemmas.{no_clash, other_name}, specs.AfterCall.HasNumbers}
@@ -25,8 +24,9 @@ use Rattle.join_edits.specs.RestOfInputs.{AreCountsWithin, CanJoinBeWritten, joi
 use Rattle.join_edits.specs.RestOfInputs.{rest_parts, rest_rows, told_rest_parts}
 use Rattle.join_edits.specs.declared.planned.JoinWork.{JoinWork}
 use Rattle.laying.proofs.{FittingFrameLemmas.{files-hold, slots-planned}, HoldLemmas.blocks-kept}
-use Rattle.laying.proofs.{PlacesLemmas.range-whole, SurveyFrameLemmas.survey-had}
-use Rattle.laying.specs.{LaidFiles.{HasInfoSizes, laid_file}, Needs.need_of, NeedsFit.own_choice}
+use Rattle.laying.proofs.{LaidLemmas.first-there, PlacesLemmas.range-whole}
+use Rattle.laying.{proofs.SurveyFrameLemmas.survey-had, specs.LaidFiles.{HasInfoSizes, laid_file}}
+use Rattle.laying.specs.{Needs.need_of, NeedsFit.own_choice}
 use Rattle.laying.specs.Relaid.{AreParts, AreSlots, FilePart, part_frames, part_needs}
 use Rattle.laying.specs.Relaid.{relaid_frames}
 use Rattle.laying.specs.Written.{front_blocks, plain_info, slot_in, table_entry}
@@ -165,10 +165,6 @@ module _ (class : ClassFields) (output : List ℕ) (f : Contents) where
 
 -- ---- the file
 
-first-row : (rows : List Row) → 0 < length rows → (first : Row) × (slice_get rows 0 ≡ Some first)
-first-row [] some = absurd (omega (arith, some))
-first-row (r ∷ rows) some = (r, refl)
-
 own_slots : AreSlots own_choice
 own_slots h slot is has = subst IsSlot (only_one h.slot slot has) is.slot
 
@@ -210,7 +206,7 @@ module _ (output : List ℕ) (f : Contents) (name : List ℕ) (names : List (Lis
   }
 
   found : (first : Row) × (slice_get s.frames 0 ≡ Some first)
-  found = first-row s.frames alike.0
+  found = first-there s.frames 0 alike.0
 
   joined-is : joined_file parts ≡ laid_file (front_blocks file s) found.0.header
       (plain_info s.class (joined_frames s.class parts)) (joined_frames s.class parts) []
