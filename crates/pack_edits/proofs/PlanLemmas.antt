@@ -7,6 +7,7 @@ use Rattle.std.proofs.{Common.{◌≡◌, ◌≤◌}, lemmas.List.{length-map, l
 use Rattle.commands.proofs.RefusingLemmas.{then_late, then_ok, unless_late, unless_ok}
 use Rattle.commands.specs.{AfterCall.IsLateFault, Refusing.{refusal_or, then_made}}
 use Rattle.commands.specs.declared.fault.EditFault.{EditFault}
+use Rattle.cut_edits.proofs.SpanLemmas.{for_length}
 use Rattle.cut_edits.specs.Chosen.{Chosen, chosen_needs, chosen_rows}
 use Rattle.frame_header.proofs.HeaderLemmas.{IsClass-class_of}
 use Rattle.frame_header.specs.Fields.{ClassFields, IsClass, IsSlot, SlotFields}
@@ -62,13 +63,6 @@ from-length true menu [] = omega arith
 from-length true menu (first ∷ needs) =
     omega (arith, length-map needs (need_item (menu_choices menu)))
 
-for-length : (items : List PlanItem) (placed : List Placed) → AreItemSlots items placed
-    → length placed ≡ length items
-unfolding AreItemSlots
-for-length [] [] for_items = refl
-for-length (item ∷ items) (p ∷ placed) for_items = ap suc (for-length items placed for_items.2)
-for-length _ _ for_items = absurd for_items
-
 -- frames can be laid by the plan, with at most one lead-in
 pub record IsFittingFew (window : ℕ) (needs : List Need) (placed : List Placed) : Type 0 where
   pub fitting : IsFittingPlan window needs placed
@@ -94,7 +88,7 @@ items-fitting window lead_in menu needs items same slots placed for_items feasib
         slots = open-in_slots items placed
             (subst AreOpen same (open-from menu slots lead_in needs)) for_items;
       };
-      few = omega (arith, for-length items placed for_items, most);
+      few = omega (arith, for_length items placed for_items, most);
     }
 
 menu-fitting : (window : ℕ) (menu : List SlotFields) (needs : List Need) (placed : List Placed)
