@@ -3,10 +3,10 @@ use Rattle.std.proofs.Common.{ap, ap₂, arith, Bool, bytes_eq, drop, false, len
 use Rattle.std.proofs.Common.{List, map, refl, subst, suc, sum, sym, take, take-append-drop, true}
 use Rattle.std.proofs.Common.{zero, ℕ, [], ◌&&◌, ◌*◌, ◌++◌, ◌+◌, ◌-◌, ◌/◌, ◌∙◌, ◌∷◌, ◌≡◌}
 use Rattle.std.proofs.{Math.Seq.take-add, lemmas.Bool.Decides.same_from_decides}
-use Rattle.std.proofs.lemmas.List.{drop_at, length-map, take_all, take_at}
-use Rattle.std.proofs.lemmas.{List.Sums.{sum_by-cons, sum_by_from}, Slice.Eq.bytes_eq-Decides}
-use Rattle.std.specs.{Bool.Decides, List.concat, Prelude.{MatchBool, slice_index_or, sum_by}}
-use Rattle.bit_fields.proofs.BitsLemmas.{bits-injective, length-bits}
+use Rattle.std.proofs.lemmas.List.{drop_at, length-map, take_all, take_at, Sums.sum_by-cons}
+use Rattle.std.{proofs.lemmas.Slice.Eq.bytes_eq-Decides, specs.{Bool.Decides, List.concat}}
+use Rattle.std.specs.Prelude.{MatchBool, slice_index_or, sum_by}
+use Rattle.bit_fields.proofs.{BitsLemmas.{bits-injective, length-bits}, GroupsLemmas.sum-cons}
 use Rattle.bit_fields.specs.Bits.{AreBytes, bits, bits_of}
 use Rattle.frame_header.proofs.HeaderLemmas.{IsClass-class_of, length-header_bits}
 use Rattle.frame_header.specs.Fields.{ClassFields, HeaderFields, IsClass, SlotFields}
@@ -217,19 +217,13 @@ lengths-are =
     each_side LengthsAre lengths-one-mono lengths-one-stereo lengths-two-mono lengths-two-stereo
     lengths-as-two
 
-sum-next : (n : ℕ) (ns : List ℕ) → sum (n ∷ ns) ≡ n + sum ns
-sum-next n ns =
-    let one : sum (n ∷ ns) ≡ 0 + n + sum_by (λ x. x) ns = sum_by_from (λ x. x) (0 + n) ns in
-    let others : sum ns ≡ 0 + sum_by (λ x. x) ns = sum_by_from (λ x. x) 0 ns in
-    omega (arith, one, others)
-
 -- parts of a list, joined, are the list
 concat-parts : (ns bs : List ℕ) → concat (split_bits ns bs) ≡ take (sum ns) bs
 unfolding split_bits
 concat-parts [] bs = refl
 concat-parts (n ∷ ns) bs =
     ap (λ (l : List ℕ). take n bs ++ l) (concat-parts ns (drop n bs)) ∙ sym (take-add n (sum ns) bs)
-    ∙ ap (λ k. take k bs) (sym (sum-next n ns))
+    ∙ ap (λ k. take k bs) (sym (sum-cons n ns))
 
 -- ---- two frames
 
