@@ -204,28 +204,28 @@ module _ (from to : ExactPlace) where
             ap (λ (l : LaidPart). file_laid l file (survey_without_head s)) same ∙ bytes;
       }
 
+  -- what is made of the span, or why none is found
+  abbrev made_by : List ℕ → SurveyFields → Result Span EditFault → Result (List ℕ) EditFault
+  made_by file s r =
+      let head = fields_of_head file s.head in
+      then_made
+      (then_made r (λ span. Ok (span_piece head span file (survey_without_head s))))
+      (λ laid. Ok (file_laid laid file (survey_without_head s)))
+
   -- the piece of a span that was found is made
   pub exact-is : (file : List ℕ) (s : SurveyFields) (span : Span)
       → file_span from to (fields_of_head file s.head) s ≡ Ok span → exact_making from to file s
       ≡ Ok (file_laid (span_piece (fields_of_head file s.head) span file (survey_without_head s))
       file (survey_without_head s))
   unfolding exact_part
-  exact-is file s span found =
-      let head = fields_of_head file s.head in
-      ap
-      (λ r. then_made (then_made r (λ span. Ok (span_piece head span file (survey_without_head s))))
-      (λ laid. Ok (file_laid laid file (survey_without_head s)))) found
+  exact-is file s span found = ap (made_by file s) found
 
   -- if no piece is made, no span was found
   pub exact-refused : (file : List ℕ) (s : SurveyFields) (fault : EditFault)
       → file_span from to (fields_of_head file s.head) s ≡ Err fault
       → exact_making from to file s ≡ Err fault
   unfolding exact_part
-  exact-refused file s fault found =
-      let head = fields_of_head file s.head in
-      ap
-      (λ r. then_made (then_made r (λ span. Ok (span_piece head span file (survey_without_head s))))
-      (λ laid. Ok (file_laid laid file (survey_without_head s)))) found
+  exact-refused file s fault found = ap (made_by file s) found
 
   made_stream : (file : List ℕ) (s : SurveyFields) (made : List ℕ)
       → survey_of file most_frames ≡ Ok s → IsPieceBy file s made
