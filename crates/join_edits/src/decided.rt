@@ -24,22 +24,13 @@ use arrayvec::ArrayVec;
 use commands::EditFault;
 use exact_span::{Overlap, Played};
 use frame_header::{Class, Slot};
-use laying::Parts;
+use laying::append_needs;
 use outside::Folder;
 use reservoir::Window;
 use seam_plan::{FramePlace, Input, Joint, Run, front_left_out};
 use slot_plan::Need;
 use std::alloc::{AllocError, Global};
 use sync_survey::Survey;
-
-/// The needs of an input's frames, as the one part of a plan.
-fn needs_of(alloc: Global, survey: &Survey) -> Result<Parts, AllocError>
-    ensures { IfOk result (λ parts. parts.needs ≡ input_needs (survey_view survey.now)) }
-{
-    let mut parts = Parts::new(alloc);
-    parts.push(survey.frames())?;
-    Ok(parts)
-}
 
 /// What an input of this class brings whose frames have these needs.
 fn brought<'a>(class: Class, needs: &'a [Need], beginning: &Beginning) -> Input<'a>
@@ -66,22 +57,26 @@ fn put_slot(slot: Slot, needs: &mut [Need])
     }
 }
 
-/// Adds the needs of the frames of an input that are kept, the first of them in the slot in which
-/// it joined.
-///
-/// # Errors
-/// If memory runs out. Then nothing is added.
-fn add_needs(joint: &Joint, needs: &[Need], run: &mut Vec<Need>) -> Result<(), AllocError>
-    requires out { left_out_count joint.now.seam ≤ length needs.now }
-    ensures added { OnOk result (run.new.items ≡ run.old.items
-        ++ joined_needs joint.now.slot (drop (left_out_count joint.now.seam) needs.now)) }
+/// Removes `count` needs, from index `from` on.
+fn remove_needs(from: usize, count: usize, needs: &mut Vec<Need>)
+    requires { from + count ≤ length needs.old.items }
+    ensures { needs.new.items ≡ take from needs.old.items ++ drop (from + count) needs.old.items }
 {
-    let at = run.len();
-    run.extend_from_slice(&needs[joint.seam.left_out() as usize..])?;
+    needs.drain(from..from + count);
+}
+
+/// Removes the needs of the frames that are left out at the front of an input, whose needs begin
+/// at index `from`, and puts the first of its other frames into the slot in which it joins the run.
+fn join_needs(joint: &Joint, from: usize, needs: &mut Vec<Need>)
+    requires out { from + left_out_count joint.now.seam ≤ length needs.old.items }
+    ensures { needs.new.items ≡ take from needs.old.items
+        ++ joined_needs joint.now.slot
+        (drop (left_out_count joint.now.seam) (drop from needs.old.items)) }
+{
+    remove_needs(from, joint.seam.left_out() as usize, needs);
     if let Some(slot) = joint.slot {
-        put_slot(slot, &mut run.as_mut_slice()[at..]);
+        put_slot(slot, &mut needs.as_mut_slice()[from..]);
     }
-    Ok(())
 }
 
 impl<'a> Sources<'a> {
@@ -152,13 +147,13 @@ impl Deciding {
         requires { CanBeginRun (survey_view survey.now) }
         ensures { IfOk result (HasBegunRun (survey_view survey.now) beginning.now) }
     {
-        let parts = needs_of(alloc, survey)?;
-        let needs = parts.needs();
+        let mut needs = Vec::new(alloc);
+        append_needs(survey.frames(), &mut needs)?;
         let class = survey.class();
         Ok(Deciding {
             joints: Vec::new(alloc),
-            run: Run::begin(class, &brought(class, needs, beginning)),
-            needs: Vec::from_slice(alloc, needs)?,
+            run: Run::begin(class, &brought(class, needs.as_slice(), beginning)),
+            needs,
             window: Window::new(alloc)?,
         })
     }
@@ -169,7 +164,6 @@ impl Deciding {
     /// `Input` with `Read` or `Shrunk` if an input can't be read; `Memory`.
     fn add<D: Folder>(
         &mut self,
-        alloc: Global,
         folder: &mut D,
         sources: &Sources<'_>,
         number: u32,
@@ -192,12 +186,13 @@ impl Deciding {
         ensures reads { OnlyRead result (D.seen folder.old) (D.seen folder.new) }
     {
         let survey = known_at(sources.surveys, number as usize);
-        let parts = needs_of(alloc, survey)?;
+        let from = self.needs.len();
+        append_needs(survey.frames(), &mut self.needs)?;
         let beginning = &beginnings[number as usize];
-        let input = brought(survey.class(), parts.needs(), beginning);
+        let input = brought(survey.class(), &self.needs[from..], beginning);
         let alike = sources.alike(folder, &self.run, number, &input, &mut self.window)?;
         let joint = self.run.join(number, &input, alike);
-        add_needs(&joint, input.needs, &mut self.needs)?;
+        join_needs(&joint, from, &mut self.needs);
         self.joints.push(joint)?;
         Ok(())
     }
@@ -281,7 +276,7 @@ pub(crate) fn decide_all<D: Folder>(
     let first = known_at(sources.surveys, 0);
     let mut deciding = Deciding::begin(alloc, first, &beginnings[0])?;
     for number in 1..sources.inputs.len() {
-        deciding.add(alloc, folder, sources, number as u32, beginnings)?;
+        deciding.add(folder, sources, number as u32, beginnings)?;
     }
     let Deciding { joints, needs, .. } = deciding;
     let front = front_of(first, &beginnings[0], needs.as_slice());

@@ -1,6 +1,6 @@
 -- What becomes of one more input.
-use Rattle.std.proofs.Common.{ap, ap₂, arith, false, get_or, IfSome, length, map, None, Some}
-use Rattle.std.proofs.{Common.{string_bytes, subst, [], ◌<◌, ◌∙◌, ◌≡◌}, lemmas.List.length-map}
+use Rattle.std.proofs.Common.{ap, ap₂, arith, drop, false, get_or, IfSome, length, length-append, List, map, None, refl, Some, sym, take, ℕ, ◌++◌, ◌-◌, ◌≤◌}
+use Rattle.std.proofs.{Common.{string_bytes, subst, [], ◌<◌, ◌∙◌, ◌≡◌}, lemmas.List.{drop_at, length-map, take_all, take_at}}
 use Rattle.std.{proofs.lemmas.Slice.Zip.AllZip-long, specs.Prelude.slice_get}
 use Rattle.exact_span.specs.PlayedPositions.{AreCounted, counted_positions}
 use Rattle.frame_header.specs.Fields.{ClassFields}
@@ -10,7 +10,9 @@ use Rattle.join_edits.proofs.decided.Deciding.add.Goals.{After-brought-input}
 use Rattle.join_edits.specs.Deciding.{input_needs, IsNextInput}
 use Rattle.join_edits.specs.declared.beginnings.Beginning.{Beginning}
 use Rattle.laying.specs.Needs.{need_of}
-use Rattle.sync_survey.specs.Faults.{survey_view, SurveyFields}
+use Rattle.seam_plan.specs.{Decisions.joined_needs, Seams.left_out_count}
+use Rattle.slot_plan.specs.declared.needs.Need.{Need}
+use Rattle.sync_survey.specs.{Faults.{survey_view, SurveyFields}, Row.Row}
 use Rattle.join_edits.proofs.decided.Deciding.add.Given as given
 use Rattle.join_edits.proofs.decided.Deciding.add.Goals as goal
 
@@ -24,15 +26,44 @@ known_at-survey-requires g c =
       length-map c.args.sources.now.surveys.now survey_view,
     )
 
+-- the needs up to where those of the input begin
+front-needs : (old all new : List Need) (from : ℕ) → from ≡ length old → all ≡ old ++ new
+    → take from all ≡ old
+front-needs old all new from begins is =
+    ap₂ (λ n (l : List Need). take n l) begins is ∙ take_at old new (length old) refl
+
+-- the needs from where those of the input begin
+back-needs : (old all new : List Need) (from : ℕ) → from ≡ length old → all ≡ old ++ new
+    → drop from all ≡ new
+back-needs old all new from begins is =
+    ap₂ (λ n (l : List Need). drop n l) begins is ∙ drop_at old new (length old) refl
+
+-- what is borrowed of them are the needs of the input
+borrowed-needs : (old all new part : List Need) (from : ℕ) → from ≡ length old → all ≡ old ++ new
+    → part ≡ all → take (length part - from) (drop from part) ≡ new
+borrowed-needs old all new part from begins is here =
+    let last : drop from part ≡ new =
+    ap (drop from) here ∙ back-needs old all new from begins is in
+    let count : length new ≤ length part - from =
+    omega (arith, ap length here, ap length is, length-append old new, begins) in
+    ap (take (length part - from)) last ∙ take_all (length part - from) new count
+
 pub brought-input-requires : goal.brought-input-requires
 brought-input-requires g c =
     let found =
     get-at (map survey_view c.args.sources.now.surveys.now)
     c.args.number c.known_at-survey.ensures in
+    let own : c.append_needs.new.needs.items
+    ≡ c.args.self.now.needs.items ++ input_needs (survey_view c.known_at-survey.result.now) =
+    c.in_ok-append_needs.ensures.added
+    ∙ ap (λ (rows : List Row). c.args.self.now.needs.items ++ map need_of rows) c.frames.ensures in
     omega (
       arith,
       input-few _ _ _ _ c.args.number _ c.requires.can found,
-      ap length (c.needs.ensures ∙ c.in_ok-parts.ensures),
+      ap length (borrowed-needs c.args.self.now.needs.items c.append_needs.new.needs.items
+          (input_needs (survey_view c.known_at-survey.result.now)) c.deref.result.now
+          c.len-from.result (c.len-from.ensures ∙ c.args.self.now.needs.ok.0) own
+          c.deref.ensures.value),
     )
 
 pub alike-requires-clause-one : goal.alike-requires-clause-one
@@ -50,11 +81,40 @@ module _ (g : given.Over) (c : After-brought-input g) where
   found = get-at (map survey_view c.args.sources.now.surveys.now)
       c.args.number c.known_at-survey.ensures
 
-  parts : c.needs.result.now ≡ input_needs s
-  parts = c.needs.ensures ∙ c.in_ok-parts.ensures
+  abbrev old : List Need
+  old = c.args.self.now.needs.items
 
-  long : length c.needs.result.now ≡ length s.frames
-  long = ap length parts ∙ length-map s.frames need_of
+  abbrev all : List Need
+  all = c.append_needs.new.needs.items
+
+  begins : c.len-from.result ≡ length old
+  begins = c.len-from.ensures ∙ c.args.self.now.needs.ok.0
+
+  own : all ≡ old ++ input_needs s
+  own =
+      c.in_ok-append_needs.ensures.added
+      ∙ ap (λ (rows : List Row). old ++ map need_of rows) c.frames.ensures
+
+  abbrev borrowed : List Need
+  borrowed = take (length c.deref.result.now - c.len-from.result)
+      (drop c.len-from.result c.deref.result.now)
+
+  borrowed_is : borrowed ≡ input_needs s
+  borrowed_is =
+      borrowed-needs old all (input_needs s) c.deref.result.now c.len-from.result begins own
+      c.deref.ensures.value
+
+  parts : c.brought-input.result.needs.now ≡ input_needs s
+  parts = c.brought-input.ensures.needs ∙ borrowed_is
+
+  long : length borrowed ≡ length s.frames
+  long = ap length borrowed_is ∙ length-map s.frames need_of
+
+  front : take c.len-from.result all ≡ old
+  front = front-needs old all (input_needs s) c.len-from.result begins own
+
+  back : drop c.len-from.result all ≡ c.brought-input.result.needs.now
+  back = back-needs old all (input_needs s) c.len-from.result begins own ∙ sym parts
 
   begun-within : c.args.number < length c.args.beginnings.now
   begun-within =
@@ -70,7 +130,7 @@ module _ (g : given.Over) (c : After-brought-input g) where
   counted =
       subst (λ n. IfSome c.brought-input.result.played (AreCounted s.class n)) long
       (subst (λ (k : ClassFields). IfSome c.brought-input.result.played (AreCounted k
-      (length c.needs.result.now))) c.class.ensures c.brought-input.ensures.counted)
+      (length borrowed))) c.class.ensures c.brought-input.ensures.counted)
 
   next-of : IsNextInput (map survey_view c.args.sources.now.surveys.now)
       c.args.number c.args.self.now.run c.brought-input.result
@@ -79,7 +139,7 @@ module _ (g : given.Over) (c : After-brought-input g) where
       (map survey_view c.args.sources.now.surveys.now)
       c.args.beginnings.now c.args.number c.args.self.now c.requires.can c.requires.before s found _
       (get-here c.args.beginnings.now c.args.number _ begun-within)
-      c.brought-input.result (c.brought-input.ensures.needs ∙ parts) c.brought-input.ensures.blank
+      c.brought-input.result parts c.brought-input.ensures.blank
       (c.brought-input.ensures.played ∙ ap₂ (λ (k : ClassFields) n. counted_positions (get_or
       c.args.beginnings.now c.args.number no-beginning).head k n) c.class.ensures long) counted
 
@@ -90,7 +150,7 @@ module _ (g : given.Over) (c : After-brought-input g) where
       (map survey_view c.args.sources.now.surveys.now)
       c.args.beginnings.now c.args.number c.args.self.now c.requires.can c.requires.before s found _
       (get-here c.args.beginnings.now c.args.number _ begun-within)
-      c.brought-input.result (c.brought-input.ensures.needs ∙ parts) c.brought-input.ensures.blank
+      c.brought-input.result parts c.brought-input.ensures.blank
       (c.brought-input.ensures.played ∙ ap₂ (λ (k : ClassFields) n. counted_positions (get_or
       c.args.beginnings.now c.args.number no-beginning).head k n) c.class.ensures long) counted
 
@@ -108,14 +168,18 @@ returns-clause-decided g c =
     let ss = map survey_view c.args.sources.now.surveys.now in
     let input = c.brought-input.result in
     let joint = c.join-joint.result in
+    let here = (goal.at.returns-clause-decided g c).After-brought-input in
     let within : c.args.number < length names =
     omega (arith, c.requires.within, length-map c.args.sources.now.inputs.now string_bytes) in
     decided-step (g.D.Folder.seen c.args.folder.now).files names ss c.args.beginnings.now
     c.args.number input c.in_ok-alike.alike joint c.args.self.now _ c.requires.before
-    (of g (goal.at.returns-clause-decided g c).After-brought-input)
+    (of g here)
     (record {
       joints = c.in_ok-push.ensures.items;
-      needs = c.in_ok-add_needs.ensures.added;
+      needs =
+          c.join_needs.ensures
+          ∙ ap₂ (λ (a b : List Need). a ++ joined_needs joint.slot (drop (left_out_count joint.seam) b))
+          (front g here) (back g here);
       out = c.join-joint.ensures.fits.out;
       sound = c.join-joint.ensures.sound;
       goes = c.join-joint.ensures.goes_on;
