@@ -85,23 +85,24 @@ unfolding extremes
 extremes-None [] e = refl
 extremes-None (x ∷ xs) e = absurd cc
 
-min_there : (a x : ℕ) (xs : List ℕ) (n k : ℕ) → k < length (min a x ∷ xs)
-    → slice_index_or (min a x ∷ xs) k n ≡ n → Contains (a ∷ x ∷ xs) n
-min_there a x xs n zero lt is =
-    elim (cases_lt a x) as (λ _. Contains (a ∷ x ∷ xs) n) [
-      | inl less ↦ (0, omega arith, omega (arith, less, is))
-      | inr more ↦ (1, omega arith, omega (arith, more, is))
-    ]
-min_there a x xs n (suc k) lt is = (suc (suc k), omega (arith, lt), is)
+module _ (a x : ℕ) (xs : List ℕ) (n : ℕ) where
+  min_there : (k : ℕ) → k < length (min a x ∷ xs) → slice_index_or (min a x ∷ xs) k n ≡ n
+      → Contains (a ∷ x ∷ xs) n
+  min_there zero lt is =
+      elim (cases_lt a x) as (λ _. Contains (a ∷ x ∷ xs) n) [
+        | inl less ↦ (0, omega arith, omega (arith, less, is))
+        | inr more ↦ (1, omega arith, omega (arith, more, is))
+      ]
+  min_there (suc k) lt is = (suc (suc k), omega (arith, lt), is)
 
-max_there : (a x : ℕ) (xs : List ℕ) (n k : ℕ) → k < length (max a x ∷ xs)
-    → slice_index_or (max a x ∷ xs) k n ≡ n → Contains (a ∷ x ∷ xs) n
-max_there a x xs n zero lt is =
-    elim (cases_lt a x) as (λ _. Contains (a ∷ x ∷ xs) n) [
-      | inl less ↦ (1, omega arith, omega (arith, less, is))
-      | inr more ↦ (0, omega arith, omega (arith, more, is))
-    ]
-max_there a x xs n (suc k) lt is = (suc (suc k), omega (arith, lt), is)
+  max_there : (k : ℕ) → k < length (max a x ∷ xs) → slice_index_or (max a x ∷ xs) k n ≡ n
+      → Contains (a ∷ x ∷ xs) n
+  max_there zero lt is =
+      elim (cases_lt a x) as (λ _. Contains (a ∷ x ∷ xs) n) [
+        | inl less ↦ (1, omega arith, omega (arith, less, is))
+        | inr more ↦ (0, omega arith, omega (arith, more, is))
+      ]
+  max_there (suc k) lt is = (suc (suc k), omega (arith, lt), is)
 
 least_there : (a : ℕ) (xs : List ℕ) → Contains (a ∷ xs) (fold min a xs)
 least_there a [] = (0, omega arith, refl)
@@ -181,11 +182,15 @@ extremes-from channel rows i row lt is =
     (drop_more rows i row lt ∙ ap (λ (r : Row). r ∷ drop (i + 1) rows) (sym is))
     ∙ extremes-cons channel row (drop (i + 1) rows)
 
--- after the last frame there are no extreme gains
-pub extremes-behind : (channel : ℕ) (rows : List Row) (i : ℕ) → length rows ≤ i
-    → extremes_of channel (drop i rows) ≡ None
-extremes-behind channel rows i end =
-    ap (extremes_of channel) (drop_all i rows end) ∙ ap extremes (moving-nil channel) ∙ extremes-nil
+-- after the last frame what was found is all
+pub extremes-all : (channel : ℕ) (rows : List Row) (i : ℕ) (found : Option Gains) → length rows ≤ i
+    → extremes_of channel rows ≡ joined_extremes found (extremes_of channel (drop i rows))
+    → extremes_of channel rows ≡ found
+extremes-all channel rows i found end is =
+    is
+    ∙ ap (λ (rs : List Row). joined_extremes found (extremes_of channel rs)) (drop_all i rows end)
+    ∙ ap (joined_extremes found) (ap extremes (moving-nil channel) ∙ extremes-nil)
+    ∙ joined-None found
 
 -- ---- the channels of frames
 

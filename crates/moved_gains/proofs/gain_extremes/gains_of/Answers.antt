@@ -2,9 +2,9 @@
 use Rattle.std.proofs.Common.{ap, arith, drop, length, refl, sym, ◌+◌, ◌∙◌}
 use Rattle.std.{proofs.lemmas.Option.slice_get_read, specs.Option.option_copied}
 use Rattle.frame_header.specs.Tables.{class_of}
-use Rattle.moved_gains.proofs.ExtremesLemmas.{extremes-behind, extremes-empty, extremes-from}
-use Rattle.moved_gains.proofs.ExtremesLemmas.{joined-assoc, joined-None, moving-nil, no_extremes}
-use Rattle.moved_gains.proofs.ExtremesLemmas.{no_first, some_extremes}
+use Rattle.moved_gains.proofs.ExtremesLemmas.{extremes-all, extremes-empty, extremes-from}
+use Rattle.moved_gains.proofs.ExtremesLemmas.{joined-assoc, moving-nil, no_extremes, no_first}
+use Rattle.moved_gains.proofs.ExtremesLemmas.{some_extremes}
 use Rattle.moved_gains.specs.GainExtremes.{extremes, extremes_of, joined_extremes, moving_gains}
 use Rattle.moved_gains.specs.GainExtremes.{row_gains}
 use Rattle.side_info.specs.FrameFields.{FrameFields}
@@ -46,23 +46,17 @@ loop-row-preserved c =
 
 pub returns-clause-value : goal.returns-clause-value
 returns-clause-value c =
-    sym (c.loop-row.invariant
-    ∙ ap (joined_extremes c.loop-row.gains) (extremes-behind c.args.channel c.args.rows.now
-    c.loop-row.row-index (omega (arith, c.loop-row-test.false)))
-    ∙ joined-None c.loop-row.gains)
+    sym (extremes-all c.args.channel c.args.rows.now c.loop-row.row-index c.loop-row.gains
+    (omega (arith, c.loop-row-test.false)) c.loop-row.invariant)
 
 pub returns-clause-some : goal.returns-clause-some
 returns-clause-some c =
     some_extremes (moving_gains c.args.channel c.args.rows.now) c.loop-row.gains
-    (sym (c.loop-row.invariant
-    ∙ ap (joined_extremes c.loop-row.gains) (extremes-behind c.args.channel c.args.rows.now
-    c.loop-row.row-index (omega (arith, c.loop-row-test.false)))
-    ∙ joined-None c.loop-row.gains))
+    (sym (extremes-all c.args.channel c.args.rows.now c.loop-row.row-index c.loop-row.gains
+    (omega (arith, c.loop-row-test.false)) c.loop-row.invariant))
 
 pub returns-clause-none : goal.returns-clause-none
 returns-clause-none c =
     no_extremes (moving_gains c.args.channel c.args.rows.now) c.loop-row.gains
-    (sym (c.loop-row.invariant
-    ∙ ap (joined_extremes c.loop-row.gains) (extremes-behind c.args.channel c.args.rows.now
-    c.loop-row.row-index (omega (arith, c.loop-row-test.false)))
-    ∙ joined-None c.loop-row.gains))
+    (sym (extremes-all c.args.channel c.args.rows.now c.loop-row.row-index c.loop-row.gains
+    (omega (arith, c.loop-row-test.false)) c.loop-row.invariant))
