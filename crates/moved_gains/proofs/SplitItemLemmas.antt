@@ -31,6 +31,20 @@ pub record IsSplit (file : List ℕ) (ps : List PlacedItem) (from cut next to : 
   pub blocks : blocks_of ps ≡ blocks_of front ++ (old ++ blocks_of rest)
   pub none : find is_tag (blocks_of front) ≡ None
 
+-- with nothing before the offset
+split_here : (file : List ℕ) (ps rest : List PlacedItem) (cut next to : ℕ) (old : List Piece)
+    → AreEndToEnd Stream file next rest to → frames_of ps ≡ frames_of rest
+    → blocks_of ps ≡ old ++ blocks_of rest → IsSplit file ps cut cut next to old
+split_here file ps rest cut next to old ends frames blocks = record {
+  front = [];
+  rest = rest;
+  before = refl;
+  behind = ends;
+  frames = frames;
+  blocks = blocks;
+  none = refl;
+}
+
 none_more : (o : Option Piece) (xs : List Piece) → ((x : Piece) → o ≡ Some x → is_tag x ≡ false)
     → find is_tag xs ≡ None → find is_tag (cons_option o xs) ≡ None
 none_more None xs other none = none
@@ -70,16 +84,8 @@ tag_more file at (Block x) ps to b is ends later e =
     found_case here b (blocks_of ps)
     (IsSplitAt file at (record { offset = at; item = Block x } ∷ ps) to b) e
     (λ tag same. subst (IsSplitAt file at (record { offset = at; item = Block x } ∷ ps) to) same
-    (record {
-      front = [];
-      rest = ps;
-      before = refl;
-      behind = ends;
-      frames = refl;
-      blocks = refl;
-      none =
-          refl;
-    }))
+    (split_here file (record { offset = at; item = Block x } ∷ ps) ps at (at + x.length) to
+    (here ∷ []) ends refl refl))
     (λ none rest. push file at (Block x) ps b.offset (b.offset + b.block.length) to (b ∷ []) is
     (λ y same. let one : here ≡ y = cc in subst (λ (z : Piece). is_tag z ≡ false) one none)
     (later rest))
@@ -132,16 +138,8 @@ module _ (file : List ℕ) (to : ℕ) where
       let cut : at + size_of item ≡ stop_of (final p rest) =
       omega (arith, size, place) ∙ ap (λ (l : List PlacedFrame). stop_of (final p l)) same in
       subst (IsSplitBehind file at (record { offset = at; item = item } ∷ ps) to) cut
-      (push file at item ps (at + size_of item) (at + size_of item) to [] is other (record {
-        front = [];
-        rest = ps;
-        before = refl;
-        behind = ends;
-        frames = refl;
-        blocks = refl;
-        none =
-            refl;
-      }))
+      (push file at item ps (at + size_of item) (at + size_of item) to [] is other
+      (split_here file ps ps (at + size_of item) (at + size_of item) to [] ends refl refl))
   last_frame at item ps p rest (q ∷ qs) is ends other size place none block frame are same later =
       let cut : stop_of (final q qs) ≡ stop_of (final p rest) =
       ap (λ (l : List PlacedFrame). stop_of (final p l)) same in
