@@ -4,7 +4,7 @@ use Rattle.std.proofs.Common.{None, Ok, Option, refl, Some, subst, suc, sym, tak
 use Rattle.std.proofs.{Common.{◌-◌, ◌∙◌, ◌∷◌, ◌≡◌, ◌≤◌}, lemmas.Bool.false≢true}
 use Rattle.std.proofs.lemmas.List.{append-nil, length-take-le, Folds.find-append}
 use Rattle.std.specs.{List.{cons_option, find}, Option.option_or}
-use Rattle.moved_gains.specs.TagPlace.{frame_end, is_tag, last_end, tag_block}
+use Rattle.moved_gains.specs.TagPlace.{is_tag, last_end, row_end, tag_block}
 use Rattle.sync_survey.proofs.{ItemBytesLemmas.kept_item, ItemsLemmas.stands}
 use Rattle.sync_survey.proofs.{RunsLemmas.{item_of-is, run-ends}, SurveyPartsLemmas.surveyed-parts}
 use Rattle.sync_survey.specs.Faults.{longest_file, survey_fields, SurveyFields}
@@ -181,14 +181,14 @@ last_more r q rows =
     rw m refl
 
 -- the end of one frame is its own
-pub last_one : (r : Row) → last_end (r ∷ []) ≡ frame_end r
+pub last_one : (r : Row) → last_end (r ∷ []) ≡ row_end r
 last_one r = refl
 
 last_laid : (from : ℕ) (rows : List Row) (to : ℕ) → FramesAreLaid from rows to → last_end rows ≤ to
 last_laid from [] to laid = omega arith
 last_laid from (r ∷ []) to laid = omega (arith, last_one r, laid.2)
 last_laid from (r ∷ q ∷ rows) to laid =
-    omega (arith, last_more r q rows, last_laid (frame_end r) (q ∷ rows) to laid.2)
+    omega (arith, last_more r q rows, last_laid (row_end r) (q ∷ rows) to laid.2)
 
 -- the end of the last frame isn't past the greatest length of a file
 pub last-within : (s : SurveyFields) → IsSurveyLaidOut s → last_end s.frames ≤ longest_file

@@ -24,9 +24,13 @@ is_tag piece = is_ape piece.block.kind
 abbrev pub tag_block : SurveyFields → Option Piece
 tag_block s = find is_tag s.blocks
 
--- where a frame ends
-abbrev pub frame_end : Row → ℕ
-frame_end r = r.offset + length_of (class_of r.header) r.header.slot
+-- the length of a frame in bytes
+abbrev pub row_length : Row → ℕ
+row_length row = length_of (class_of row.header) row.header.slot
+
+-- the offset at which a frame ends
+abbrev pub row_end : Row → ℕ
+row_end row = row.offset + row_length row
 
 -- where the last of these frames ends
 abbrev pub last_end : List Row → ℕ
@@ -34,7 +38,7 @@ last_end rows = end_of (slice_get rows (length rows - 1))
   where
     end_of : Option Row → ℕ
     end_of None = 0
-    end_of (Some r) = frame_end r
+    end_of (Some r) = row_end r
 
 -- the offset of the tag, or the place for one: right after the last frame
 abbrev pub tag_offset : SurveyFields → ℕ
