@@ -1,24 +1,21 @@
 -- A file without fault and without junk: all its bytes are items, which split at its tag.
-use Rattle.std.proofs.Common.{ap, ap₂, arith, length, length-drop, List, None, Option}
-use Rattle.std.proofs.Common.{option_to_list, refl, Some, subst, sym, ℕ, [], ◌++◌, ◌+◌, ◌∙◌, ◌∷◌}
-use Rattle.std.{proofs.{Common.{◌≡◌, ◌≤◌}, lemmas.List.Elements.filter_map-append}, specs.List.find}
+use Rattle.std.proofs.Common.{ap, ap₂, arith, length, List, None, Option, option_to_list, refl}
+use Rattle.std.proofs.Common.{Some, subst, sym, ℕ, [], ◌++◌, ◌+◌, ◌∙◌, ◌∷◌, ◌≡◌}
+use Rattle.std.{proofs.lemmas.List.Elements.filter_map-append, specs.List.find}
 use Rattle.moved_gains.proofs.MovedItemLemmas.{ends-append}
+use Rattle.moved_gains.proofs.ReadFileLemmas.{has_stream, HasStream, later_run}
 use Rattle.moved_gains.proofs.SplitItemLemmas.{final, IsSplit, last-told, split-last, split-tag}
 use Rattle.moved_gains.proofs.{SplitItemLemmas.stop_of, TagReadingLemmas.place-some}
-use Rattle.moved_gains.proofs.WholeFileLemmas.{front_end-is}
 use Rattle.moved_gains.specs.TagPlace.{is_tag, last_end, tag_block, tag_length, tag_offset}
-use Rattle.sync_survey.proofs.ItemListLemmas.{ends-stream, ends-within}
-use Rattle.sync_survey.proofs.RunsLemmas.{frames-append, frames-next, front-frames, run-ends}
-use Rattle.sync_survey.proofs.StartLemmas.{start-first, start-front}
+use Rattle.sync_survey.proofs.ItemListLemmas.{ends-stream}
+use Rattle.sync_survey.proofs.RunsLemmas.{frames-append, front-frames, run-ends}
 use Rattle.sync_survey.proofs.SurveyPartsLemmas.{frames_from, IsRead, told_from}
-use Rattle.sync_survey.proofs.WalkLemmas.{first_item, no_fault, nothing_left}
-use Rattle.sync_survey.specs.{Faults.SurveyFields, Items.size_of, MainData.{marked_rows, rows_of}}
+use Rattle.sync_survey.specs.{Faults.SurveyFields, MainData.{marked_rows, rows_of}}
 use Rattle.sync_survey.specs.Runs.{AreEndToEnd, block_of_item, blocks_of, frames_of, item_run}
 use Rattle.sync_survey.specs.Runs.{ItemRun, PlacedItem}
 use Rattle.sync_survey.specs.Walk.{end_fault, head_of, numbered_frames, stream_run}
-use Rattle.sync_survey.specs.declared.{items.Item.TheVariants.Frame, places.Head.Head}
-use Rattle.sync_survey.specs.declared.places.{Piece.Piece, PlacedFrame.PlacedFrame, Start.Start}
-use Rattle.sync_survey.specs.declared.runs.Region.TheVariants.{Front, Stream}
+use Rattle.sync_survey.specs.declared.places.{Head.Head, Piece.Piece, PlacedFrame.PlacedFrame}
+use Rattle.sync_survey.specs.declared.{places.Start.Start, runs.Region.TheVariants.{Front, Stream}}
 use Rattle.sync_survey.specs.declared.survey_fault.SurveyFault.{SurveyFault}
 
 some_frames : (file : List ℕ) (frames : List PlacedFrame) (o : Option SurveyFault)
@@ -46,41 +43,24 @@ module _ (file : List ℕ) (allowed : ℕ) (start : Start) (read : IsRead file a
   items = front.items ++ stream.items
 
   abbrev pub rest : List PlacedFrame
-  rest = frames_of (item_run Stream file
-      (start.first.offset + size_of (Frame start.first.header))).items
+  rest = frames_of (later_run file start).items
 
-  first_within : start.first.offset + size_of (Frame start.first.header) ≤ length file
-  first_within = (start-first file start read.start_is).frame.within
-
-  stop_is : stream.stop ≡ length file
-  stop_is =
-      let nothing =
-      nothing_left file stream.stop (no_fault file (frames_from file start) _ read.end) in
-      omega (
-        arith,
-        ap length nothing,
-        length-drop stream.stop file,
-        ends-within Stream file start.first.offset stream.items stream.stop
-            (run-ends Stream file start.first.offset) (omega (arith, first_within)),
-      )
+  has : HasStream file start
+  has = has_stream file allowed start read
 
   -- all bytes are items
   pub items-end : AreEndToEnd Stream file 0 items (length file)
   items-end =
-      let front_stop : front.stop ≡ start.first.offset =
-      sym (front_end-is file) ∙ sym (start-front file start read.start_is) ∙ no_junk in
       ends-append Stream file 0 front.items start.first.offset stream.items (length file)
-      (subst (λ n. AreEndToEnd Stream file 0 front.items n) front_stop
+      (subst (λ n. AreEndToEnd Stream file 0 front.items n) (has.front ∙ no_junk)
       (ends-stream Front file 0 front.items front.stop (run-ends Front file 0)))
-      (subst (λ n. AreEndToEnd Stream file start.first.offset stream.items n) stop_is
+      (subst (λ n. AreEndToEnd Stream file start.first.offset stream.items n)
+      (ap (λ (r : ItemRun). r.stop) has.stream ∙ has.stop)
       (run-ends Stream file start.first.offset))
 
   -- the frames of the stream are the first frame and the others
   pub stream-frames : frames_of stream.items ≡ start.first ∷ rest
-  stream-frames =
-      let frame = (start-first file start read.start_is).frame in
-      frames-next Stream file start.first.offset (Frame start.first.header)
-      (first_item file start.first frame.is frame.within)
+  stream-frames = ap (λ (r : ItemRun). frames_of r.items) has.stream
 
   -- the frames of all items are the frames of the stream
   pub items-frames : frames_of items ≡ start.first ∷ rest

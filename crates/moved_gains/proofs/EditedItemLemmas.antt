@@ -5,6 +5,7 @@ use Rattle.std.proofs.lemmas.{Bool.false≢true, List.{drop-drop, drop_at, lengt
 use Rattle.std.specs.List.{cons_option}
 use Rattle.bit_fields.{proofs.BitsLemmas.{AreBelow-drop, AreBelow-take}, specs.Bits.AreBytes}
 use Rattle.frame_header.specs.Fields.{HeaderFields}
+use Rattle.moved_gains.proofs.ImageLemmas.{AreImages, image_moved}
 use Rattle.moved_gains.proofs.MovedFrameLemmas.{IsWhole, moved_whole, whole_item}
 use Rattle.moved_gains.specs.Edited.{moved_frame_unless_lost, moved_item, moved_items}
 use Rattle.requests.specs.declared.shift.Steps.{Steps}
@@ -13,7 +14,7 @@ use Rattle.sync_survey.proofs.ItemListLemmas.{AreItems}
 use Rattle.sync_survey.proofs.ItemsLemmas.{header_front-in_range, stands-at}
 use Rattle.sync_survey.{proofs.RunsLemmas.item_of-is, specs.Items.{item_at, size_of}}
 use Rattle.sync_survey.specs.Runs.{AreEndToEnd, belongs, frame_of_item, frames_of, item_bytes_in}
-use Rattle.sync_survey.specs.{Runs.PlacedItem, Walk.frame_bytes, declared.items.Item.Item}
+use Rattle.sync_survey.specs.{Runs.PlacedItem, declared.items.Item.Item}
 use Rattle.sync_survey.specs.declared.items.Item.TheVariants.{Block, Frame, Zero}
 use Rattle.sync_survey.specs.declared.places.PlacedFrame.{PlacedFrame}
 use Rattle.sync_survey.specs.declared.runs.Region.TheVariants.{Stream}
@@ -81,36 +82,28 @@ moved_are steps lost file from (p ∷ ps) to all ends =
 
 -- ---- the frames among them
 
--- the frame of a file is in another file, `gap` bytes nearer
--- to the beginning, with moved gains if it isn't lost
-pub record IsMovedAt (steps : ℕ → Steps) (lost : ℕ → Bool) (file new : List ℕ) (gap : ℕ)
-    (p : PlacedFrame) : Type 0 where
-  pub whole : IsWhole p.header (frame_bytes file p)
-  pub rest : List ℕ
-  pub stands : drop (p.offset - gap) new
-      ≡ moved_frame_unless_lost (lost p.offset) (steps p.offset) p.header (frame_bytes file p)
-      ++ rest
-
-abbrev pub AreMovedAt : (ℕ → Steps) → (ℕ → Bool) → List ℕ → List ℕ → ℕ → List PlacedFrame → Type 0
-AreMovedAt steps lost file new gap [] = Unit {0}
-AreMovedAt steps lost file new gap (p ∷ ps) =
-    IsMovedAt steps lost file new gap p × AreMovedAt steps lost file new gap ps
-
 module _ (steps : ℕ → Steps) (lost : ℕ → Bool) (file new : List ℕ) (gap : ℕ) where
+  -- the frames are there, `gap` bytes nearer to the beginning, with moved gains if they aren't lost
+  abbrev pub AreMovedAt : List PlacedFrame → Type 0
+  AreMovedAt = AreImages (λ at. at - gap) steps lost file new
+
   frame_more : (at : ℕ) (item : Item) (rest : List ℕ) (frames : List PlacedFrame) → AreBytes file
       → item_at file at ≡ item → at + size_of item ≤ length file → drop (at - gap) new
       ≡ moved_item (steps at) (lost at) item (take (size_of item) (drop at file)) ++ rest
-      → AreMovedAt steps lost file new gap frames
-      → AreMovedAt steps lost file new gap (cons_option (frame_of_item at item) frames)
+      → AreMovedAt frames → AreMovedAt (cons_option (frame_of_item at item) frames)
   frame_more at (Frame h) rest frames all is within stands later =
-      (record { whole = frame_whole file at h all is within; rest = rest; stands = stands }, later)
+      let p : PlacedFrame = record { offset = at; header = h } in (
+        image_moved (λ at. at - gap) steps lost file new p rest
+            (frame_whole file at h all is within) stands,
+        later,
+      )
   frame_more at _ rest frames all is within stands later = later
 
   -- the frames among items with moved gains are the file's
   -- with moved gains, `gap` bytes nearer to the beginning
   pub frames_moved : (from at : ℕ) (ps : List PlacedItem) (to : ℕ) (behind : List ℕ) → AreBytes file
       → AreEndToEnd Stream file from ps to → from ≡ at + gap → drop at new
-      ≡ moved_items steps lost file ps ++ behind → AreMovedAt steps lost file new gap (frames_of ps)
+      ≡ moved_items steps lost file ps ++ behind → AreMovedAt (frames_of ps)
   frames_moved from at [] to behind all ends there is = tt
   frames_moved from at (p ∷ ps) to behind all ends there is =
       let size = size_of p.item in

@@ -1,14 +1,16 @@
 -- The runs of the edited file are the file's, without the junk between them.
-use Rattle.std.proofs.Common.{ap, append-nil, ap₂, arith, Bool, drop, inl, inr, length}
-use Rattle.std.proofs.Common.{length-append, length-drop, List, map, None, Ok, Option, option_map}
-use Rattle.std.proofs.Common.{refl, Some, subst, sym, take, ℕ, [], ◌++◌, ◌+◌, ◌-◌, ◌∙◌, ◌∷◌, ◌≡◌}
-use Rattle.std.proofs.{Common.◌≤◌, Math.Seq.drop-length, lemmas.List.{drop-drop, drop_at, take_at}}
+use Rattle.std.proofs.Common.{ap, append-nil, ap₂, arith, Bool, drop, length, length-append, List}
+use Rattle.std.proofs.Common.{map, None, Ok, Option, option_map, refl, Some, subst, sym, true, ℕ}
+use Rattle.std.proofs.Common.{[], ◌++◌, ◌+◌, ◌-◌, ◌∙◌, ◌∷◌, ◌≡◌, ◌≤◌}
+use Rattle.std.proofs.lemmas.List.{drop-drop, drop_at}
 use Rattle.bit_fields.specs.Bits.{AreBytes}
 use Rattle.frame_header.specs.{Fields.HeaderFields, Tables.{class_of, overhead_of}}
 use Rattle.moved_gains.proofs.EditedItemLemmas.{AreMovedAt, frame_whole, frames_moved, moved-cons}
 use Rattle.moved_gains.proofs.EditedItemLemmas.{moved_are}
-use Rattle.moved_gains.proofs.MovedFrameLemmas.{IsWhole, moved_whole, whole_item}
+use Rattle.moved_gains.proofs.ImageLemmas.{area-image, image_moved, IsImage}
+use Rattle.moved_gains.proofs.MovedFrameLemmas.{IsMoved, IsWhole, moved_whole, whole_item}
 use Rattle.moved_gains.proofs.MovedRowLemmas.{numbered-by}
+use Rattle.moved_gains.proofs.ReadFileLemmas.{has_stream, HasStream, later_run}
 use Rattle.moved_gains.proofs.WholeFileLemmas.{front_end-is, not_in_front, start_by}
 use Rattle.moved_gains.specs.Edited.{edited_file, is_lost_at, moved_frame_unless_lost, moved_items}
 use Rattle.moved_gains.specs.Edited.{moved_stream}
@@ -17,15 +19,12 @@ use Rattle.sync_survey.proofs.ItemBytesLemmas.{IsItem}
 use Rattle.sync_survey.proofs.ItemListLemmas.{AreItems, blocks-nearer, ends-stream, frames-nearer}
 use Rattle.sync_survey.proofs.ItemListLemmas.{item_at-known, items-length, items-run, kept_items}
 use Rattle.sync_survey.proofs.ItemListLemmas.{nearer, nearer-none, nearer_frame, nearer_piece}
-use Rattle.sync_survey.proofs.RunsLemmas.{IsItemOf, item_of-past, run-ends, run-next}
-use Rattle.sync_survey.proofs.SameHeadLemmas.{head_of-nearer, nearer_head}
-use Rattle.sync_survey.proofs.StartLemmas.{start-first, start-front}
+use Rattle.sync_survey.proofs.RunsLemmas.{item_of-past, run-ends}
+use Rattle.sync_survey.proofs.SameHeadLemmas.{head_bytes-nearer, head_of-nearer, nearer_head}
 use Rattle.sync_survey.proofs.SurveyPartsLemmas.{frames_from, IsRead, told_from}
-use Rattle.sync_survey.proofs.WalkLemmas.{first_item, reach-end, ReachesTo}
-use Rattle.sync_survey.specs.Items.{item_at, size_of}
+use Rattle.sync_survey.specs.{Items.{item_at, size_of}, MainData.head_bytes}
 use Rattle.sync_survey.specs.Runs.{AreEndToEnd, blocks_of, bytes_of_items, frames_of, item_run}
-use Rattle.sync_survey.specs.Runs.{ItemRun, PlacedItem, whole_item_at}
-use Rattle.sync_survey.specs.Start.{IsLeastStart, start_of}
+use Rattle.sync_survey.specs.{Runs.{ItemRun, PlacedItem}, Start.start_of}
 use Rattle.sync_survey.specs.Walk.{all_blocks, frame_bytes, head_of, numbered_frames, stream_run}
 use Rattle.sync_survey.specs.declared.{items.Item.TheVariants.Frame, places.Head.Head}
 use Rattle.sync_survey.specs.declared.places.{Piece.Piece, PlacedFrame.PlacedFrame, Start.Start}
@@ -44,20 +43,17 @@ moved_start start = record {
   first = record { offset = start.front_end; header = start.first.header };
 }
 
--- the first frame isn't before the end of the front
-pub low_cases : (file : List ℕ) (start : Start) → IsLeastStart file start
-    → start.front_end ≤ start.first.offset
-low_cases file start (inl same) = omega (arith, same)
-low_cases file start (inr least) = omega (arith, least.0)
-
 -- ---- the bytes of the edited file
 
--- the bytes of the first frame in the edited file: a head stays
+-- the first frame stays if it is a head, or lost
+abbrev pub first_stays : (ℕ → Bool) → PlacedFrame → Option Head → Bool
+first_stays lost first None = lost first.offset
+first_stays lost first (Some head) = true
+
+-- the bytes of the first frame in the edited file
 abbrev pub first_bytes : (ℕ → Steps) → (ℕ → Bool) → List ℕ → PlacedFrame → Option Head → List ℕ
-first_bytes steps lost file first None =
-    moved_frame_unless_lost (lost first.offset)
+first_bytes steps lost file first o = moved_frame_unless_lost (first_stays lost first o)
     (steps first.offset) first.header (frame_bytes file first)
-first_bytes steps lost file first (Some head) = frame_bytes file first
 
 -- the stream begins with the first frame, moved unless
 -- it is a head, and continues with the other items
@@ -101,13 +97,8 @@ module _ (steps : ℕ → Steps) (file : List ℕ) (allowed : ℕ) (start : Star
   abbrev head : Option Head
   head = head_of file start.first
 
-  -- the first frame is a whole item
-  pub first_whole : IsItemOf Stream file first (Frame h)
-  first_whole = (start-first file start read.start_is).frame
-
-  -- the front ends no later than the first frame begins
-  pub front_low : front_end ≤ first
-  front_low = low_cases file start (start-first file start read.start_is).least
+  has : HasStream file start
+  has = has_stream file allowed start read
 
   -- ---- the runs of the file
 
@@ -115,21 +106,10 @@ module _ (steps : ℕ → Steps) (file : List ℕ) (allowed : ℕ) (start : Star
   front = item_run Front file 0
 
   abbrev later : ItemRun
-  later = item_run Stream file (first + size)
+  later = later_run file start
 
   abbrev items : List PlacedItem
   items = record { offset = first; item = Frame h } ∷ later.items
-
-  -- the run of the front stops where the front ends
-  pub front_stop : front.stop ≡ front_end
-  front_stop = sym (start-front file start read.start_is ∙ front_end-is file)
-
-  first_there : whole_item_at Stream file first ≡ Some (Frame h)
-  first_there = first_item file start.first first_whole.is first_whole.within
-
-  -- the run of the stream is all items up to its stop
-  pub stream_is : stream_run file start ≡ record { items = items; stop = later.stop }
-  stream_is = run-next Stream file first (Frame h) first_there
 
   -- the items of the front are end to end
   pub front_ends : AreEndToEnd Front file 0 front.items front.stop
@@ -140,30 +120,7 @@ module _ (steps : ℕ → Steps) (file : List ℕ) (allowed : ℕ) (start : Star
   later_ends = run-ends Stream file (first + size)
 
   ends : AreEndToEnd Stream file first items later.stop
-  ends = (refl, first_there, later_ends)
-
-  -- the items of the stream have all bytes from the first frame on
-  pub items_bytes : bytes_of_items file items ≡ drop first file
-  items_bytes =
-      let reached : ReachesTo file start (length file) =
-      reach-end file start (frames_from file start) (stream_run file start).stop refl read.end in
-      ap (λ (r : ItemRun). bytes_of_items file r.items) (sym stream_is)
-      ∙ sym (append-nil (bytes_of_items file (stream_run file start).items))
-      ∙ ap (λ l. bytes_of_items file (stream_run file start).items ++ l) (sym (drop-length file))
-      ∙ reached
-
-  -- the items of the stream end with the file
-  pub stop_is : later.stop ≡ length file
-  stop_is =
-      omega (
-        arith,
-        items-length Stream file first items later.stop (bytes_of_items file items) ends
-            (kept_items file first items later.stop ends),
-        ap length items_bytes,
-        length-drop first file,
-        first_whole.within,
-        first_whole.some,
-      )
+  ends = (refl, has.there, later_ends)
 
   -- ---- the bytes
 
@@ -178,12 +135,15 @@ module _ (steps : ℕ → Steps) (file : List ℕ) (allowed : ℕ) (start : Star
 
   -- the first frame is whole
   pub first_frame : IsWhole h (frame_bytes file start.first)
-  first_frame = frame_whole file first h all first_whole.is first_whole.within
+  first_frame = frame_whole file first h all has.first.is has.first.within
 
-  own_by : (o : Option Head) → IsItem (Frame h) (first_bytes steps lost file start.first o)
-  own_by None = whole_item h (first_bytes steps lost file start.first None)
-      (moved_whole (lost first) (steps first) h (frame_bytes file start.first) first_frame).whole
-  own_by (Some found) = whole_item h (frame_bytes file start.first) first_frame
+  own_moved : IsMoved (first_stays lost start.first head) (steps first) h
+      (frame_bytes file start.first) own
+  own_moved = moved_whole (first_stays lost start.first head) (steps first) h
+      (frame_bytes file start.first) first_frame
+
+  own_item : IsItem (Frame h) own
+  own_item = whole_item h own own_moved.whole
 
   before_are : AreItems front.items before
   before_are = kept_items file 0
@@ -195,7 +155,7 @@ module _ (steps : ℕ → Steps) (file : List ℕ) (allowed : ℕ) (start : Star
   new-is : new_file ≡ before ++ (own ++ after)
   unfolding edited_file
   new-is =
-      ap (λ (r : ItemRun). before ++ moved_stream steps lost file head r.items) stream_is
+      ap (λ (r : ItemRun). before ++ moved_stream steps lost file head r.items) has.stream
       ∙ ap (λ l. before ++ l) (moved_first steps lost file start.first later.items head)
 
   -- the bytes of the front end where the front ends
@@ -203,7 +163,7 @@ module _ (steps : ℕ → Steps) (file : List ℕ) (allowed : ℕ) (start : Star
   before_long = omega (
     arith,
     items-length Front file 0 front.items front.stop before front_ends before_are,
-    front_stop,
+    has.front,
   )
 
   -- from there on the edited file has the first frame and what is after it
@@ -218,26 +178,26 @@ module _ (steps : ℕ → Steps) (file : List ℕ) (allowed : ℕ) (start : Star
         ap length new-is,
         length-append {A = ℕ},
         before_long,
-        (own_by head).size,
+        own_item.size,
         items-length Stream file (first + size) later.items later.stop after later_ends after_are,
-        stop_is,
-        front_low,
-        first_whole.within,
+        has.stop,
+        has.low,
+        has.first.within,
       )
 
   -- ---- the runs of the edited file
 
   new_first : item_at new_file front_end ≡ Frame h
   new_first = item_at-known new_file front_end front_end (own ++ after) (Frame h) refl new-stands
-      ((own_by head).known after)
+      (own_item.known after)
 
   new_room : front_end + size ≤ length new_file
-  new_room = omega (arith, new-length, front_low, first_whole.within)
+  new_room = omega (arith, new-length, has.low, has.first.within)
 
   -- the front of the edited file is the file's
   pub new-front : item_run Front new_file 0 ≡ record { items = front.items; stop = front_end }
   new-front =
-      let stop : front.stop - 0 ≡ front_end = omega (arith, front_stop) in
+      let stop : front.stop - 0 ≡ front_end = omega (arith, has.front) in
       items-run Front file new_file 0 0 0 front.items front.stop before (own ++ after) front_ends
       (omega arith) before_are (omega arith) new-is
       (not_in_front new_file (front.stop - 0) h (ap (item_at new_file) stop ∙ new_first))
@@ -248,10 +208,10 @@ module _ (steps : ℕ → Steps) (file : List ℕ) (allowed : ℕ) (start : Star
       ≡ record { items = map (nearer gap) items; stop = later.stop - gap }
   new-stream =
       items-run Stream file new_file gap first front_end items later.stop (own ++ after) [] ends
-      (omega (arith, front_low))
-      (own, after, refl, own_by head, after_are) (omega (arith, new_room))
+      (omega (arith, has.low))
+      (own, after, refl, own_item, after_are) (omega (arith, new_room))
       (new-stands ∙ sym (append-nil (own ++ after)))
-      (item_of-past Stream new_file (later.stop - gap) (omega (arith, new-length, stop_is)))
+      (item_of-past Stream new_file (later.stop - gap) (omega (arith, new-length, has.stop)))
 
   -- the edited file starts with the same frame
   pub new-start : start_of new_file ≡ Ok (moved_start start)
@@ -262,7 +222,7 @@ module _ (steps : ℕ → Steps) (file : List ℕ) (allowed : ℕ) (start : Star
 
   -- that frame begins where the front ends
   pub place : first - gap ≡ front_end
-  place = omega (arith, front_low)
+  place = omega (arith, has.low)
 
   -- it is the first frame, nearer by the junk
   pub nearer_first : nearer_frame gap start.first ≡ (moved_start start).first
@@ -271,17 +231,18 @@ module _ (steps : ℕ → Steps) (file : List ℕ) (allowed : ℕ) (start : Star
   -- after the first frame is what was after it
   pub new-later : drop (front_end + size) new_file ≡ after ++ []
   new-later = sym (drop-drop size front_end new_file) ∙ ap (drop size) new-stands
-      ∙ drop_at own after size (own_by head).size ∙ sym (append-nil after)
+      ∙ drop_at own after size own_item.size ∙ sym (append-nil after)
 
   later_moved : AreMovedAt steps lost file new_file gap (frames_of later.items)
   later_moved = frames_moved steps lost file new_file gap (first + size) (front_end + size)
-      later.items later.stop [] all later_ends (omega (arith, front_low)) new-later
+      later.items later.stop [] all later_ends (omega (arith, has.low)) new-later
 
   moved_by : (o : Option Head)
       → drop front_end new_file ≡ first_bytes steps lost file start.first o ++ after → AreMovedAt
       steps lost file new_file gap (numbered_frames o (start.first ∷ frames_of later.items))
   moved_by None is = (
-    record { whole = first_frame; rest = after; stands = ap (λ n. drop n new_file) place ∙ is },
+    image_moved (λ at. at - gap) steps lost file new_file start.first after first_frame
+        (ap (λ n. drop n new_file) place ∙ is),
     later_moved,
   )
   moved_by (Some found) is = later_moved
@@ -289,42 +250,28 @@ module _ (steps : ℕ → Steps) (file : List ℕ) (allowed : ℕ) (start : Star
   -- the frames of the file are in the edited one, with moved gains if they aren't lost
   pub frames-moved : AreMovedAt steps lost file new_file gap (frames_from file start)
   frames-moved = subst (λ (r : ItemRun). AreMovedAt steps lost file new_file gap
-      (numbered_frames head (frames_of r.items))) (sym stream_is) (moved_by head new-stands)
+      (numbered_frames head (frames_of r.items))) (sym has.stream) (moved_by head new-stands)
 
-  -- the first frame is the same there from two bytes before its area on
-  end_by : (o : Option Head)
-      → drop (overhead_of (class_of h) h.protected - 2) (first_bytes steps lost file start.first o)
-      ≡ drop (overhead_of (class_of h) h.protected - 2) (frame_bytes file start.first)
-  end_by None =
-      (moved_whole (lost first) (steps first) h (frame_bytes file start.first) first_frame).same_end
-  end_by (Some found) = refl
-
-  area_by : (o : Option Head)
-      → drop (overhead_of (class_of h) h.protected) (first_bytes steps lost file start.first o)
-      ≡ drop (overhead_of (class_of h) h.protected) (frame_bytes file start.first)
-  area_by None = (moved_whole (lost first) (steps first) h
-      (frame_bytes file start.first) first_frame).same_area
-  area_by (Some found) = refl
-
-  new_own : frame_bytes new_file (moved_start start).first ≡ own
-  new_own = ap (take size) new-stands ∙ take_at own after size (own_by head).size
-
-  -- its bytes are those of the first frame, moved unless it is a head
-  pub near_own : frame_bytes new_file (nearer_frame gap start.first) ≡ own
-  near_own = ap (frame_bytes new_file) nearer_first ∙ new_own
+  first_image : IsImage (λ at. at - gap) steps (λ at. first_stays lost start.first head) file
+      new_file start.first
+  first_image =
+      image_moved (λ at. at - gap) steps (λ at. first_stays lost start.first head) file new_file
+      start.first after first_frame (ap (λ n. drop n new_file) place ∙ new-stands)
 
   -- it is a head if the first frame is one
   pub new-head : head_of new_file (moved_start start).first ≡ option_map (nearer_head gap) head
   new-head =
       ap (head_of new_file) (sym nearer_first)
       ∙ head_of-nearer file new_file gap
-      start.first (ap (drop (overhead_of (class_of h) h.protected - 2)) near_own ∙ end_by head)
+      start.first (ap (drop (overhead_of (class_of h) h.protected - 2)) first_image.bytes
+      ∙ own_moved.same_end)
 
   -- its area stays
-  pub new-area : drop (overhead_of (class_of h) h.protected)
-      (frame_bytes new_file (nearer_frame gap start.first))
-      ≡ drop (overhead_of (class_of h) h.protected) (frame_bytes file start.first)
-  new-area = ap (drop (overhead_of (class_of h) h.protected)) near_own ∙ area_by head
+  pub new-head_area : head_bytes new_file (option_map (nearer_head gap) head)
+      ≡ head_bytes file head
+  new-head_area = head_bytes-nearer file new_file gap start.first
+      (area-image (λ at. at - gap) steps (λ at. first_stays lost start.first head) file new_file
+      start.first first_image)
 
   -- the frames are the file's, nearer by the junk
   pub new-frames : frames_from new_file (moved_start start)
@@ -334,7 +281,7 @@ module _ (steps : ℕ → Steps) (file : List ℕ) (allowed : ℕ) (start : Star
       (ap (λ (r : ItemRun). frames_of r.items) new-stream ∙ frames-nearer gap items)
       ∙ numbered-by (λ at. at - gap) head (frames_of items)
       ∙ ap (λ (r : ItemRun). map (nearer_frame gap) (numbered_frames head (frames_of r.items)))
-      (sym stream_is)
+      (sym has.stream)
 
   -- the blocks of the front stay, and those of the stream are nearer by the junk
   pub new-blocks : all_blocks new_file (moved_start start)
@@ -342,4 +289,4 @@ module _ (steps : ℕ → Steps) (file : List ℕ) (allowed : ℕ) (start : Star
   new-blocks =
       ap₂ (λ (a b : List Piece). a ++ b) (ap (λ (r : ItemRun). blocks_of r.items) new-front)
       (ap (λ (r : ItemRun). blocks_of r.items) new-stream ∙ blocks-nearer gap items
-      ∙ ap (λ (r : ItemRun). map (nearer_piece gap) (blocks_of r.items)) (sym stream_is))
+      ∙ ap (λ (r : ItemRun). map (nearer_piece gap) (blocks_of r.items)) (sym has.stream))

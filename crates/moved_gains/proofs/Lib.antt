@@ -8,6 +8,7 @@ pub mod WrittenLemmas
 pub mod GainsLemmas
 pub mod MovedFrameLemmas
 pub mod EditedItemLemmas
+pub mod ReadFileLemmas
 pub mod EditedRunLemmas
 pub mod LostOffsetLemmas
 pub mod EditedSurveyLemmas
@@ -28,6 +29,7 @@ pub mod MovedItemLemmas
 pub mod WholeFileLemmas
 pub mod SplitItemLemmas
 pub mod MovedRowLemmas
+pub mod ImageLemmas
 pub mod CleanFileLemmas
 pub mod TaggedByteLemmas
 pub mod SplitBlockLemmas

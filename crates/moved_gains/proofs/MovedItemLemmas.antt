@@ -1,16 +1,19 @@
 -- Items of a file that are in another one, each at an offset that depends only on its own.
-use Rattle.std.proofs.Common.{ap, arith, drop, length, length-drop, List, map, Some, subst, sym}
-use Rattle.std.proofs.Common.{take, ℕ, [], ◌++◌, ◌+◌, ◌-◌, ◌<◌, ◌∙◌, ◌∷◌, ◌≡◌, ◌≤◌}
-use Rattle.std.{proofs.lemmas.List.{length-take, take-append-drop}, specs.List.cons_option}
-use Rattle.frame_header.specs.Fields.{IsHeader}
+use Rattle.std.proofs.Common.{ap, arith, drop, false, length, length-drop, List, map, pos, Some}
+use Rattle.std.proofs.Common.{subst, sym, take, true, ℕ, [], ◌++◌, ◌+◌, ◌-◌, ◌<◌, ◌∙◌, ◌∷◌, ◌≡◌}
+use Rattle.std.proofs.{Common.◌≤◌, lemmas.List.{length-take, take-append-drop}}
+use Rattle.std.specs.List.{cons_option}
+use Rattle.frame_header.specs.Tables.{class_of, overhead_of}
+use Rattle.moved_gains.proofs.{EditedItemLemmas.frame_whole, ImageLemmas.AreImages}
+use Rattle.requests.specs.declared.shift.Steps.{Steps}
+use Rattle.side_info.{proofs.FrameLemmas.IsRight, specs.Frame.side_in}
 use Rattle.sync_survey.proofs.ItemBytesLemmas.{IsItem, kept_item}
-use Rattle.sync_survey.proofs.ItemListLemmas.{frame_by, placed_by}
+use Rattle.sync_survey.proofs.ItemListLemmas.{ends-rise, placed_by}
 use Rattle.sync_survey.proofs.ItemsLemmas.{header_front-in_range, stands-at}
 use Rattle.sync_survey.proofs.RunsLemmas.{item_of-is, item_of-whole}
 use Rattle.sync_survey.specs.Items.{item_at, item_front, size_of}
 use Rattle.sync_survey.specs.Runs.{AreEndToEnd, frame_of_item, frames_of, PlacedItem, whole_item_at}
-use Rattle.sync_survey.specs.{Walk.frame_bytes, declared.items.Item.Item}
-use Rattle.sync_survey.specs.declared.items.Item.TheVariants.{Frame, Free}
+use Rattle.sync_survey.specs.declared.items.Item.{Item, TheVariants.{Frame, Free}}
 use Rattle.sync_survey.specs.declared.{places.PlacedFrame.PlacedFrame, runs.Region.Region}
 use Rattle.sync_survey.specs.declared.runs.Region.TheVariants.{Stream}
 
@@ -44,6 +47,10 @@ item-moved file new at place item is same =
 
 -- ---- several items
 
+-- no gain moves
+abbrev pub no_steps : ℕ → Steps
+no_steps at = record { left = pos 0; right = pos 0; wrap = false }
+
 -- the bytes of the file between two offsets are in the other file, at their new offsets
 pub record IsMovedTo (to : ℕ → ℕ) (file new : List ℕ) (from end at : ℕ) : Type 0 where
   pub place : (x : ℕ) → from ≤ x → x < end → to x ≡ at + (x - from)
@@ -59,51 +66,9 @@ module _ (to : ℕ → ℕ) (file new : List ℕ) where
     same = λ x k low high within. moved.same x k (omega (arith, low)) high within;
   }
 
-  rises : (from : ℕ) (ps : List PlacedItem) (end : ℕ) → AreEndToEnd Stream file from ps end
-      → from ≤ end
-  rises from [] end ends = omega (arith, ends)
-  rises from (p ∷ ps) end ends =
-      omega (arith, ends.0, rises (p.offset + size_of p.item) ps end ends.2)
-
-  -- items that are end to end are end to end there
-  pub ends-moved : (from : ℕ) (ps : List PlacedItem) (end at : ℕ)
-      → AreEndToEnd Stream file from ps end → IsMovedTo to file new from end at
-      → AreEndToEnd Stream new at (map (placed_by to) ps) (at + (end - from))
-  ends-moved from [] end at ends moved = omega (arith, ends)
-  ends-moved from (p ∷ ps) end at ends moved =
-      let size = size_of p.item in
-      let some = (item_of-is Stream file p.offset p.item ends.1).some in
-      let rise = rises (p.offset + size) ps end ends.2 in
-      let high : p.offset < end = omega (arith, some, rise) in
-      let place : to p.offset ≡ at =
-      omega (arith, moved.place p.offset (omega (arith, ends.0)) high, ends.0) in
-      let here = item-moved file new p.offset (to p.offset)
-      p.item ends.1 (moved.same p.offset size (omega (arith, ends.0)) high rise) in
-      let next : IsMovedTo to file new (p.offset + size) end (at + size) = subst (λ n. IsMovedTo to
-      file new (n + size) end (at + size)) (sym ends.0) (behind from end at size moved) in
-      let last : (at + size) + (end - (p.offset + size)) ≡ at + (end - from) =
-      omega (arith, ends.0, rise) in (
-        place,
-        here,
-        subst (λ n. AreEndToEnd Stream new (to p.offset + size) (map (placed_by to) ps) n) last
-            (subst (λ n. AreEndToEnd Stream new (n + size) (map (placed_by to) ps)
-            ((at + size) + (end - (p.offset + size)))) (sym place)
-            (ends-moved (p.offset + size) ps end (at + size) ends.2 next)),
-      )
-
-  -- the bytes of a frame are the same there
-  pub record IsKept (p : PlacedFrame) : Type 0 where
-    pub header : IsHeader p.header
-    pub bytes : frame_bytes new (frame_by to p) ≡ frame_bytes file p
-
+  -- the frames stay as they are
   abbrev pub AreKept : List PlacedFrame → Type 0
-  AreKept [] = Unit {0}
-  AreKept (p ∷ ps) = IsKept p × AreKept ps
-
-  -- two lists of frames that are kept are kept together
-  pub kept-append : (ps qs : List PlacedFrame) → AreKept ps → AreKept qs → AreKept (ps ++ qs)
-  kept-append [] qs kept more = more
-  kept-append (p ∷ ps) qs kept more = (kept.0, kept-append ps qs kept.1 more)
+  AreKept = AreImages to no_steps (λ at. true) file new
 
   kept_more : (at : ℕ) (item : Item) (frames : List PlacedFrame) → whole_item_at Stream file at
       ≡ Some item → take (size_of item) (drop (to at) new) ≡ take (size_of item) (drop at file)
@@ -112,28 +77,45 @@ module _ (to : ℕ → ℕ) (file new : List ℕ) where
       let here = item_of-is Stream file at (Frame h) is in (
         record {
           header = header_front-in_range (drop at file) h (stands-at file at (Frame h) here.is);
+          whole = λ all. frame_whole file at h all here.is here.within;
           bytes = same;
+          side = ap (side_in h) same;
+          right = λ was. subst (IsRight h) (sym same) was;
+          area = ap (drop (overhead_of (class_of h) h.protected)) same;
         },
         kept,
       )
   kept_more at Free frames is same kept = kept
   kept_more at _ frames is same kept = kept
 
-  -- the frames of items that were moved to another file are kept there
-  pub frames-kept : (from : ℕ) (ps : List PlacedItem) (end at : ℕ)
+  -- items that are end to end are end to end there, and their frames are kept
+  pub items-moved : (from : ℕ) (ps : List PlacedItem) (end at : ℕ)
       → AreEndToEnd Stream file from ps end → IsMovedTo to file new from end at
-      → AreKept (frames_of ps)
-  frames-kept from [] end at ends moved = tt
-  frames-kept from (p ∷ ps) end at ends moved =
+      → AreEndToEnd Stream new at (map (placed_by to) ps) (at + (end - from))
+      × AreKept (frames_of ps)
+  items-moved from [] end at ends moved = (omega (arith, ends), tt)
+  items-moved from (p ∷ ps) end at ends moved =
       let size = size_of p.item in
       let some = (item_of-is Stream file p.offset p.item ends.1).some in
-      let rise = rises (p.offset + size) ps end ends.2 in
+      let rise = ends-rise Stream file (p.offset + size) ps end ends.2 in
       let high : p.offset < end = omega (arith, some, rise) in
+      let place : to p.offset ≡ at =
+      omega (arith, moved.place p.offset (omega (arith, ends.0)) high, ends.0) in
+      let same = moved.same p.offset size (omega (arith, ends.0)) high rise in
       let next : IsMovedTo to file new (p.offset + size) end (at + size) = subst (λ n. IsMovedTo to
       file new (n + size) end (at + size)) (sym ends.0) (behind from end at size moved) in
-      kept_more p.offset p.item (frames_of ps)
-      ends.1 (moved.same p.offset size (omega (arith, ends.0)) high rise)
-      (frames-kept (p.offset + size) ps end (at + size) ends.2 next)
+      let last : (at + size) + (end - (p.offset + size)) ≡ at + (end - from) =
+      omega (arith, ends.0, rise) in
+      let later = items-moved (p.offset + size) ps end (at + size) ends.2 next in (
+        (
+          place,
+          item-moved file new p.offset (to p.offset) p.item ends.1 same,
+          subst (λ n. AreEndToEnd Stream new (to p.offset + size) (map (placed_by to) ps) n) last
+              (subst (λ n. AreEndToEnd Stream new (n + size) (map (placed_by to) ps)
+              ((at + size) + (end - (p.offset + size)))) (sym place) later.0),
+        ),
+        kept_more p.offset p.item (frames_of ps) ends.1 same later.1,
+      )
 
 -- ---- concatenated lists
 

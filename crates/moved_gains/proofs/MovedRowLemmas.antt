@@ -1,32 +1,24 @@
 -- Rows with other offsets and with side information that says the same of main
--- data: the same frames are lost, and none has a fault that had none. So frames
--- that are in another file as they are in this one, each at an offset that depends
--- only on its own, have the same rows, faults and marks, and hold the same stream.
-use Rattle.std.proofs.Common.{ap, ap₂, arith, Bool, cond, drop, false, flat_map, List, ltb, map}
-use Rattle.std.proofs.Common.{None, Option, option_map, refl, slice_get, Some, subst, suc, sum_by}
-use Rattle.std.proofs.Common.{sym, take, zero, ℕ, [], ◌&&◌, ◌++◌, ◌+◌, ◌-◌, ◌==◌, ◌||◌, ◌∙◌, ◌∷◌}
-use Rattle.std.proofs.{Common.{◌≡◌, ◌≤◌}, lemmas.List.{take-map, Sums.sum_by-cons}}
-use Rattle.std.{proofs.lemmas.Option.slice_get-map, specs.List.enumerate_from}
-use Rattle.frame_header.proofs.{HeaderLemmas.IsClass-class_of, LengthLemmas.area_some}
-use Rattle.frame_header.specs.Fields.{ClassFields, HeaderFields}
-use Rattle.frame_header.specs.Tables.{class_of, length_of, overhead_of}
-use Rattle.info_header.specs.HeadText.{head_text_of}
-use Rattle.moved_gains.proofs.MovedItemLemmas.{AreKept, IsKept}
-use Rattle.side_info.proofs.FrameLemmas.{side_in-take, word_said-take}
-use Rattle.side_info.specs.{Frame.{side_in, stored_crc}, Side.{payload_bits, payload_bytes}}
+-- data: the same frames are lost, and none has a fault that had none.
+use Rattle.std.proofs.Common.{ap, ap₂, arith, Bool, cond, drop, false, List, ltb, map, None, Option}
+use Rattle.std.proofs.Common.{option_map, refl, slice_get, Some, subst, suc, sum_by, sym, take}
+use Rattle.std.proofs.Common.{zero, zero-add, ℕ, [], ◌&&◌, ◌+◌, ◌-◌, ◌==◌, ◌||◌, ◌∙◌, ◌∷◌, ◌≡◌}
+use Rattle.std.proofs.lemmas.{List.{take-map, Sums.sum_by-cons}, Option.slice_get-map, Simd.map-map}
+use Rattle.std.specs.List.{enumerate_from}
+use Rattle.frame_header.specs.Fields.{ClassFields}
+use Rattle.moved_gains.proofs.MovedGainLemmas.{begin-unless, payload-unless, payload_bits-unless}
+use Rattle.moved_gains.specs.Gains.{moved_side_unless_lost}
+use Rattle.requests.specs.declared.shift.Steps.{Steps}
+use Rattle.side_info.proofs.{FrameLemmas.shaped-side_in, SideLemmas.IsShaped}
+use Rattle.side_info.specs.{Frame.stored_crc, Side.{payload_bits, payload_bytes}}
 use Rattle.side_info.specs.declared.side.Side.{Side}
-use Rattle.sync_survey.proofs.{ItemListLemmas.frame_by, SameHeadLemmas.area-frame}
-use Rattle.sync_survey.proofs.SurveyLemmas.{overhead-within}
-use Rattle.sync_survey.proofs.SurveyPartsLemmas.{all_faults-none_sound, AreSound, IsSoundAt}
-use Rattle.sync_survey.proofs.SurveyPartsLemmas.{sound-no_all_faults}
-use Rattle.sync_survey.specs.Faults.{all_faults, has_wrong_crc}
-use Rattle.sync_survey.specs.MainData.{area_bytes, data_end_after, data_end_before, end_of_data}
-use Rattle.sync_survey.specs.MainData.{granule_lengths, head_area, head_bytes, is_lost, is_silent}
-use Rattle.sync_survey.specs.MainData.{lacks_data, main_bytes, marked_row, marked_rows, own_area}
-use Rattle.sync_survey.specs.MainData.{payload_at, place, row_of, row_side, rows_of, split_bits}
-use Rattle.sync_survey.specs.MainData.{start_of_data, stream_frame, stream_frames, StreamFrame}
-use Rattle.sync_survey.specs.{Row.Row, Walk.{end_fault, frame_bytes, head_of, numbered_frames}}
-use Rattle.sync_survey.specs.declared.places.{Head.Head, PlacedFrame.PlacedFrame}
+use Rattle.sync_survey.proofs.{ItemListLemmas.frame_by, SurveyPartsLemmas.{AreSound, IsSoundAt}}
+use Rattle.sync_survey.specs.Faults.{has_wrong_crc}
+use Rattle.sync_survey.specs.MainData.{data_end_after, data_end_before, end_of_data, head_area}
+use Rattle.sync_survey.specs.MainData.{is_lost, is_silent, lacks_data, marked_row, marked_rows}
+use Rattle.sync_survey.specs.{MainData.{own_area, place, row_of, rows_of}, Row.Row}
+use Rattle.sync_survey.specs.{Walk.{end_fault, numbered_frames}, declared.places.Head.Head}
+use Rattle.sync_survey.specs.declared.places.PlacedFrame.{PlacedFrame}
 use Rattle.sync_survey.specs.declared.survey_fault.SurveyFault.{SurveyFault}
 
 abbrev pub row_by : (ℕ → ℕ) → Row → Row
@@ -34,6 +26,12 @@ row_by to r = record r { offset = to r.offset }
 
 abbrev pub head_by : (ℕ → ℕ) → Head → Head
 head_by to head = record head { offset = to head.offset }
+
+-- what is true of all frames and of those after the first is true of those that have numbers
+pub numbered_either : (P : List PlacedFrame → Type 0) (o : Option Head) (p : PlacedFrame)
+    (ps : List PlacedFrame) → P (p ∷ ps) → P ps → P (numbered_frames o (p ∷ ps))
+numbered_either P None p ps all rest = all
+numbered_either P (Some head) p ps all rest = rest
 
 -- the frames that have numbers, elsewhere
 pub numbered-by : (to : ℕ → ℕ) (o : Option Head) (frames : List PlacedFrame)
@@ -50,6 +48,27 @@ end_fault-by file new to [] (Some fault) e = absurd cc
 end_fault-by file new to [] None e = absurd cc
 end_fault-by file new to (p ∷ ps) o e = refl
 
+-- ---- lists of what is made of numbered rows
+
+numbered_from : {X : Type 0} (by : Row → Row) (f g : ℕ → Row → X) (n : ℕ) (rows : List Row)
+    → ((i : ℕ) (r : Row) → slice_get rows i ≡ Some r → f (n + i) (by r) ≡ g (n + i) r)
+    → map (λ (p : ℕ × Row). f p.0 p.1) (enumerate_from n (map by rows))
+    ≡ map (λ (p : ℕ × Row). g p.0 p.1) (enumerate_from n rows)
+numbered_from by f g n [] same = refl
+numbered_from {X} by f g n (r ∷ rows) same =
+    ap₂ (λ (x : X) (xs : List X). x ∷ xs)
+    (subst (λ m. f m (by r) ≡ g m r) (omega arith) (same 0 r refl))
+    (numbered_from by f g (n + 1) rows
+    (λ i q is. subst (λ m. f m (by q) ≡ g m q) (omega arith) (same (suc i) q is)))
+
+-- what is made of changed rows by their numbers is what is made of the rows, if it is of each
+pub numbered-same : {X : Type 0} (by : Row → Row) (f g : ℕ → Row → X) (rows : List Row)
+    → ((i : ℕ) (r : Row) → slice_get rows i ≡ Some r → f i (by r) ≡ g i r)
+    → map (λ (p : ℕ × Row). f p.0 p.1) (enumerate_from 0 (map by rows))
+    ≡ map (λ (p : ℕ × Row). g p.0 p.1) (enumerate_from 0 rows)
+numbered-same by f g rows same = numbered_from by f g 0 rows
+    (λ i r is. subst (λ m. f m (by r) ≡ g m r) (sym (zero-add i)) (same i r is))
+
 -- ---- rows with other offsets and side information
 
 -- side information that says the same of main data
@@ -58,10 +77,10 @@ pub record KeepsData (old new : Side) : Type 0 where
   pub bits : payload_bits new ≡ payload_bits old
   pub bytes : payload_bytes new ≡ payload_bytes old
 
-module _ (to : ℕ → ℕ) (offset : Row → ℕ) (side : Row → Side) (head : Option Head)
-    (rows : List Row) where
-  abbrev changed : Row → Row
-  changed r = record r { offset = offset r; side = side r }
+module _ (to : ℕ → ℕ) (side : Row → Side) (head : Option Head) (rows : List Row) where
+  -- the row at its new offset, with this side information
+  abbrev pub changed : Row → Row
+  changed r = record r { offset = to r.offset; side = side r }
 
   abbrev new_head : Option Head
   new_head = option_map (head_by to) head
@@ -133,7 +152,7 @@ module _ (to : ℕ → ℕ) (offset : Row → ℕ) (side : Row → Side) (head :
     -- with right check words the frames have no fault if they had none
     pub sound-by : (file new : List ℕ) (class : ClassFields) (allowed : ℕ)
         → ((i : ℕ) (r : Row) → slice_get rows i ≡ Some r
-        → has_wrong_crc (stored_crc (drop (offset r) new)) (changed r) ≡ false)
+        → has_wrong_crc (stored_crc (drop (to r.offset) new)) (changed r) ≡ false)
         → AreSound file head class allowed rows → AreSound new new_head class allowed new_rows
     sound-by file new class allowed words sound i q is =
         let found = row_get rows i q is in
@@ -154,204 +173,79 @@ module _ (to : ℕ → ℕ) (offset : Row → ℕ) (side : Row → Side) (head :
           few = here.few;
         })
 
--- ---- rows that are elsewhere
+-- ---- side information with lists as long as the arrays
 
-keeps_own : (s : Side) → KeepsData s s
-keeps_own s = record { begin = refl; bits = refl; bytes = refl }
+-- all side information has lists as long as those that are read
+abbrev pub AreShaped : List Row → Type 0
+AreShaped rows = (i : ℕ) (r : Row) → slice_get rows i ≡ Some r → IsShaped r.side
 
-module _ (to : ℕ → ℕ) (head : Option Head) (rows : List Row) where
+-- rows of a file have side information with lists as long as the arrays
+pub rows_shaped : (file : List ℕ) (ps : List PlacedFrame) → AreShaped (rows_of file ps)
+rows_shaped file [] i r is = absurd cc
+rows_shaped file (p ∷ ps) zero r is = let same : row_of file p ≡ r = cc in
+    subst (λ (x : Row). IsShaped x.side) same (shaped-side_in p.header (drop p.offset file))
+rows_shaped file (p ∷ ps) (suc i) r is = rows_shaped file ps i r is
+
+marks_shaped : (head : Option Head) (all : List Row) (n : ℕ) (rows : List Row) → AreShaped rows
+    → AreShaped (map (λ (p : ℕ × Row). marked_row head all p.0 p.1) (enumerate_from n rows))
+marks_shaped head all n [] shaped i q is = absurd cc
+marks_shaped head all n (r ∷ rows) shaped zero q is =
+    let same : marked_row head all n r ≡ q = cc in
+    subst (λ (x : Row). IsShaped x.side) same (shaped 0 r refl)
+marks_shaped head all n (r ∷ rows) shaped (suc i) q is =
+    marks_shaped head all (n + 1) rows (λ i r is. shaped (suc i) r is) i q is
+
+-- marks don't change that
+pub marked_shaped : (head : Option Head) (rows : List Row) → AreShaped rows
+    → AreShaped (marked_rows head rows)
+unfolding marked_rows
+marked_shaped head rows shaped i r is = marks_shaped head rows 0 rows shaped i r is
+
+-- ---- rows that are elsewhere, with moved gains unless they stay
+
+-- the row at its new offset, with its gains moved unless its frame stays
+abbrev pub image_row : (ℕ → ℕ) → (ℕ → Steps) → (ℕ → Bool) → Row → Row
+image_row to steps stays r = record r {
+  offset = to r.offset;
+  side = moved_side_unless_lost (stays r.offset) (steps r.offset) r.side;
+}
+
+module _ (to : ℕ → ℕ) (steps : ℕ → Steps) (stays : ℕ → Bool) (head : Option Head)
+    (rows : List Row) (shaped : AreShaped rows) where
   abbrev far_head : Option Head
   far_head = option_map (head_by to) head
 
   abbrev far_rows : List Row
-  far_rows = map (row_by to) rows
+  far_rows = map (image_row to steps stays) rows
 
-  lost_same : (i : ℕ) (r : Row) → is_lost far_head far_rows i (row_by to r) ≡ is_lost head rows i r
-  lost_same i r = lost-by to (λ (r : Row). to r.offset) (λ (r : Row). r.side) head rows
-      (λ i r is. keeps_own r.side) i r refl
+  abbrev side_by : Row → Side
+  side_by r = moved_side_unless_lost (stays r.offset) (steps r.offset) r.side
 
-  marks : (n : ℕ) (more : List Row) → map (λ (p : ℕ × Row). marked_row far_head far_rows p.0 p.1)
-      (enumerate_from n (map (row_by to) more)) ≡ map (row_by to)
-      (map (λ (p : ℕ × Row). marked_row head rows p.0 p.1) (enumerate_from n more))
-  marks n [] = refl
-  marks n (r ∷ more) = ap₂ (λ (b : Bool) (l : List Row). record (row_by to r) { lost = b } ∷ l)
-      (lost_same n r) (marks (n + 1) more)
+  keeps : (i : ℕ) (r : Row) → slice_get rows i ≡ Some r → KeepsData r.side (side_by r)
+  keeps i r is = record {
+    begin = begin-unless (stays r.offset) (steps r.offset) r.side;
+    bits = payload_bits-unless (stays r.offset) (steps r.offset) r.side (shaped i r is);
+    bytes = payload-unless (stays r.offset) (steps r.offset) r.side (shaped i r is);
+  }
 
-  -- the same rows are marked
-  pub marked-by : marked_rows far_head far_rows ≡ map (row_by to) (marked_rows head rows)
+  -- with right check words the frames have no fault if they had none
+  pub sound-image : (file new : List ℕ) (class : ClassFields) (allowed : ℕ)
+      → ((i : ℕ) (r : Row) → slice_get rows i ≡ Some r
+      → has_wrong_crc (stored_crc (drop (to r.offset) new)) (image_row to steps stays r) ≡ false)
+      → AreSound file head class allowed rows → AreSound new far_head class allowed far_rows
+  sound-image file new class allowed words sound =
+      sound-by to side_by head rows keeps file new class allowed words sound
+
+  -- the same rows are marked, so that the marked rows are there as each marked row is
+  pub marked-image : (far : Row → Row) → ((i : ℕ) (r : Row) → slice_get rows i ≡ Some r
+      → record (image_row to steps stays r) { lost = is_lost head rows i r }
+      ≡ far (marked_row head rows i r))
+      → marked_rows far_head far_rows ≡ map far (marked_rows head rows)
   unfolding marked_rows
-  marked-by = marks 0 rows
-
-  -- ---- the same stream, if the main data are the same
-
-  frame_same : (main : List ℕ) (i : ℕ) (r : Row)
-      → stream_frame main far_head far_rows i (row_by to r) ≡ stream_frame main head rows i r
-  frame_same main i r =
-      ap (λ n. record (stream_frame main head rows i r) {
-        payload = split_bits (granule_lengths r.header (row_side r))
-            (payload_at main (start_of_data n r) (row_side r));
-      })
-      (place-by to (λ (r : Row). to r.offset) (λ (r : Row). r.side) head rows i)
-
-  frames_same : (main : List ℕ) (n : ℕ) (more : List Row) → map (λ (p : ℕ × Row). stream_frame main
-      far_head far_rows p.0 p.1) (enumerate_from n (map (row_by to) more))
-      ≡ map (λ (p : ℕ × Row). stream_frame main head rows p.0 p.1) (enumerate_from n more)
-  frames_same main n [] = refl
-  frames_same main n (r ∷ more) = ap₂ (λ (f : StreamFrame) (l : List StreamFrame). f ∷ l)
-      (frame_same main n r) (frames_same main (n + 1) more)
-
-  -- the frames have the same stream elsewhere
-  pub stream-by : (main : List ℕ)
-      → stream_frames main far_head far_rows ≡ stream_frames main head rows
-  unfolding stream_frames
-  stream-by main = frames_same main 0 rows
-
-module _ (to : ℕ → ℕ) (file new : List ℕ) where
-  -- ---- one frame
-
-  room : (p : PlacedFrame) → IsKept to file new p
-      → (overhead_of (class_of p.header) p.header.protected ≤ length_of (class_of p.header)
-      p.header.slot) × (6 ≤ length_of (class_of p.header) p.header.slot)
-  room p kept = (
-    overhead-within p.header kept.header,
-    omega (
-      arith,
-      area_some (class_of p.header) p.header.slot (IsClass-class_of p.header kept.header)
-          kept.header.slot,
-    ),
-  )
-
-  side_same : (p : PlacedFrame) → IsKept to file new p
-      → side_in p.header (drop (to p.offset) new) ≡ side_in p.header (drop p.offset file)
-  side_same p kept =
-      let size = length_of (class_of p.header) p.header.slot in
-      let over = (room p kept).0 in
-      sym (side_in-take p.header size (drop (to p.offset) new) over)
-      ∙ ap (side_in p.header) kept.bytes ∙ side_in-take p.header size (drop p.offset file) over
-
-  word_same : (p : PlacedFrame) → IsKept to file new p
-      → stored_crc (drop (to p.offset) new) ≡ stored_crc (drop p.offset file)
-  word_same p kept =
-      let size = length_of (class_of p.header) p.header.slot in
-      let six = (room p kept).1 in
-      sym (word_said-take size (drop (to p.offset) new) six) ∙ ap stored_crc kept.bytes
-      ∙ word_said-take size (drop p.offset file) six
-
-  area_same : (p : PlacedFrame) → IsKept to file new p
-      → area_bytes new (to p.offset) p.header ≡ area_bytes file p.offset p.header
-  area_same p kept =
-      let over = (room p kept).0 in
-      area-frame new (frame_by to p) over
-      ∙ ap (drop (overhead_of (class_of p.header) p.header.protected)) kept.bytes
-      ∙ sym (area-frame file p over)
-
-  head_placed : (p : PlacedFrame) (o : Option ℕ)
-      → option_map (λ at. record { offset = to p.offset; header = p.header; text_at = at }) o
-      ≡ option_map (head_by to)
-      (option_map (λ at. record { offset = p.offset; header = p.header; text_at = at }) o)
-  head_placed p None = refl
-  head_placed p (Some at) = refl
-
-  -- a frame is a head there exactly if it is one here
-  pub head-by : (p : PlacedFrame) → IsKept to file new p
-      → head_of new (frame_by to p) ≡ option_map (head_by to) (head_of file p)
-  unfolding head_of
-  head-by p kept =
-      ap (λ l. option_map (λ at. record { offset = to p.offset; header = p.header; text_at = at })
-      (head_text_of p.header l)) kept.bytes
-      ∙ head_placed p (head_text_of p.header (frame_bytes file p))
-
-  head_area_cases : (p : PlacedFrame) (o : Option ℕ) → area_bytes new (to p.offset) p.header
-      ≡ area_bytes file p.offset p.header → head_bytes new (option_map (head_by to) (option_map
-      (λ at. record { offset = p.offset; header = p.header; text_at = at }) o)) ≡ head_bytes file
-      (option_map (λ at. record { offset = p.offset; header = p.header; text_at = at }) o)
-  head_area_cases p None same = refl
-  head_area_cases p (Some at) same = same
-
-  -- a head that is kept has the same area
-  pub head_bytes-by : (p : PlacedFrame) → IsKept to file new p
-      → head_bytes new (option_map (head_by to) (head_of file p)) ≡ head_bytes file (head_of file p)
-  unfolding head_of
-  head_bytes-by p kept =
-      head_area_cases p (head_text_of p.header (frame_bytes file p)) (area_same p kept)
-
-  -- ---- all frames
-
-  -- frames that are kept have the same rows elsewhere
-  pub rows-by : (ps : List PlacedFrame) → AreKept to file new ps
-      → rows_of new (map (frame_by to) ps) ≡ map (row_by to) (rows_of file ps)
-  rows-by [] kept = refl
-  rows-by (p ∷ ps) kept =
-      ap₂ (λ s (l : List Row).
-      record { offset = to p.offset; header = p.header; side = s; lost = false } ∷ l)
-      (side_same p kept.0) (rows-by ps kept.1)
-
-  word_get : (ps : List PlacedFrame) (i : ℕ) (r : Row) → AreKept to file new ps
-      → slice_get (rows_of file ps) i ≡ Some r
-      → stored_crc (drop (to r.offset) new) ≡ stored_crc (drop r.offset file)
-  word_get [] i r kept is = absurd cc
-  word_get (p ∷ ps) zero r kept is =
-      let same : row_of file p ≡ r = cc in
-      subst (λ (x : Row). stored_crc (drop (to x.offset) new) ≡ stored_crc (drop x.offset file))
-      same
-      (word_same p kept.0)
-  word_get (p ∷ ps) (suc i) r kept is = word_get ps i r kept.1 is
-
-  -- the frames have no fault there if they have none here
-  pub no_faults-by : (head : Option Head) (class : ClassFields) (allowed : ℕ)
-      (ps : List PlacedFrame) → AreKept to file new ps
-      → all_faults file head class allowed (rows_of file ps) ≡ [] → all_faults new
-      (option_map (head_by to) head) class allowed (map (row_by to) (rows_of file ps)) ≡ []
-  no_faults-by head class allowed ps kept none =
-      let rows = rows_of file ps in
-      let sound = all_faults-none_sound file head class allowed rows none in
-      sound-no_all_faults new (option_map (head_by to) head) class allowed (map (row_by to) rows)
-      (sound-by to (λ (r : Row). to r.offset) (λ (r : Row). r.side) head rows
-      (λ i r is. keeps_own r.side) file new class allowed
-      (λ i r is. ap (λ w. has_wrong_crc w r) (word_get ps i r kept is) ∙ (sound i r is).word)
-      sound)
-
-  -- ---- their main data
-
-  areas_of : (ps : List PlacedFrame) → AreKept to file new ps
-      → flat_map (λ (r : Row). area_bytes new (to r.offset) r.header) (rows_of file ps)
-      ≡ flat_map (λ (r : Row). area_bytes file r.offset r.header) (rows_of file ps)
-  areas_of [] kept = refl
-  areas_of (p ∷ ps) kept = ap₂ (λ (a b : List ℕ). a ++ b) (area_same p kept.0) (areas_of ps kept.1)
-
-  each_marked : (area : ℕ → HeaderFields → List ℕ) (head : Option Head) (all : List Row) (n : ℕ)
-      (rows : List Row) → flat_map (λ (r : Row). area r.offset r.header)
-      (map (λ (p : ℕ × Row). marked_row head all p.0 p.1) (enumerate_from n rows))
-      ≡ flat_map (λ (r : Row). area r.offset r.header) rows
-  each_marked area head all n [] = refl
-  each_marked area head all n (r ∷ rows) =
-      ap (λ l. area r.offset r.header ++ l) (each_marked area head all (n + 1) rows)
-
-  all_marked : (area : ℕ → HeaderFields → List ℕ) (head : Option Head) (rows : List Row)
-      → flat_map (λ (r : Row). area r.offset r.header) (marked_rows head rows)
-      ≡ flat_map (λ (r : Row). area r.offset r.header) rows
-  unfolding marked_rows
-  all_marked area head rows = each_marked area head rows 0 rows
-
-  moved_areas : (rows : List Row)
-      → flat_map (λ (r : Row). area_bytes new r.offset r.header) (map (row_by to) rows)
-      ≡ flat_map (λ (r : Row). area_bytes new (to r.offset) r.header) rows
-  moved_areas [] = refl
-  moved_areas (r ∷ rows) = ap (λ l. area_bytes new (to r.offset) r.header ++ l) (moved_areas rows)
-
-  -- the main data are the same
-  pub main-by : (first : PlacedFrame) (head : Option Head) (ps : List PlacedFrame)
-      → head_of file first ≡ head → IsKept to file new first → AreKept to file new ps
-      → main_bytes new (option_map (head_by to) head) (map (row_by to)
-      (marked_rows head (rows_of file ps)))
-      ≡ main_bytes file head (marked_rows head (rows_of file ps))
-  unfolding main_bytes
-  main-by first head ps is first_kept kept =
-      let rows = rows_of file ps in
-      ap₂ (λ (a b : List ℕ). a ++ b)
-      (subst (λ o. head_bytes new (option_map (head_by to) o) ≡ head_bytes file o) is
-      (head_bytes-by first first_kept))
-      (moved_areas (marked_rows head rows)
-      ∙ all_marked (λ at h. area_bytes new (to at) h) head rows
-      ∙ areas_of ps kept
-      ∙ sym (all_marked (area_bytes file) head rows))
+  marked-image far same =
+      numbered-same (image_row to steps stays) (marked_row far_head far_rows)
+      (λ i r. far (marked_row head rows i r)) rows
+      (λ i r is. ap (λ b. record (image_row to steps stays r) { lost = b })
+      (lost-by to side_by head rows keeps i r
+      (begin-unless (stays r.offset) (steps r.offset) r.side)) ∙ same i r is)
+      ∙ sym (map-map far (λ (p : ℕ × Row). marked_row head rows p.0 p.1) (enumerate_from 0 rows))

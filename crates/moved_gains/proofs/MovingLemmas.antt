@@ -94,14 +94,6 @@ frames_behind lost file part ps from to e =
 abbrev item_bytes : List ℕ → ℕ → Item → List ℕ
 item_bytes file at item = take (size_of item) (drop at file)
 
--- an item that isn't a frame
-kept : (steps : ℕ → Steps) (lost : ℕ → Bool) (file : List ℕ) (frames : List PlacedFrame) (at : ℕ)
-    (item : Item) → IsBehind (at + size_of item) (rows_by lost file frames)
-    → moved_from steps file at (rows_by lost file frames) ≡ item_bytes file at item
-    ++ moved_from steps file (at + size_of item) (rows_by lost file frames)
-kept steps lost file frames at item behind =
-    moved_from-later steps file at (size_of item) (rows_by lost file frames) behind
-
 module _ (steps : ℕ → Steps) (lost : ℕ → Bool) (part : Region) (file : List ℕ)
     (frames : List PlacedFrame) (at : ℕ) where
   -- a frame
@@ -129,7 +121,8 @@ module _ (steps : ℕ → Steps) (lost : ℕ → Bool) (part : Region) (file : L
       ≡ moved_item (steps at) (lost at) item (item_bytes file at item)
       ++ moved_from steps file (at + size_of item) (rows_by lost file frames)
   item_step (Frame h) here behind = frame_step h here
-  item_step item here behind = kept steps lost file frames at item behind
+  item_step item here behind =
+      moved_from-later steps file at (size_of item) (rows_by lost file frames) behind
 
 -- consecutive items are written as the moved items
 pub moved_from-items : (steps : ℕ → Steps) (lost : ℕ → Bool) (part : Region) (file : List ℕ)

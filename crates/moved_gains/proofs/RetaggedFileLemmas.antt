@@ -1,44 +1,41 @@
 -- The survey of a file with another tag, and its stream.
 use Rattle.std.proofs.Common.{ap, ap₂, arith, cond, drop, false, filter, inl, inr, length, List}
 use Rattle.std.proofs.Common.{map, None, Ok, Option, option_map, option_to_list, refl, Some, subst}
-use Rattle.std.proofs.Common.{sym, take, ℕ, [], ◌++◌, ◌+◌, ◌-◌, ◌==◌, ◌∙◌, ◌∷◌, ◌≡◌, ◌≤◌}
-use Rattle.std.proofs.lemmas.{Bool.ne_eqb, List.{drop_all, map-append, take_all}}
+use Rattle.std.proofs.Common.{sym, take, true, ℕ, [], ◌++◌, ◌+◌, ◌-◌, ◌==◌, ◌∙◌, ◌∷◌, ◌≡◌, ◌≤◌}
+use Rattle.std.proofs.lemmas.{Bool.ne_eqb, List.{map-append, take_all}}
 use Rattle.moved_gains.proofs.CleanFileLemmas.{blocks-append, frames-is, items, items-blocks}
 use Rattle.moved_gains.proofs.CleanFileLemmas.{items-frames, rest, split}
 use Rattle.moved_gains.proofs.FoundTagLemmas.{tag-there}
-use Rattle.moved_gains.proofs.MovedItemLemmas.{AreKept, ends-append, ends-moved, frames-kept}
-use Rattle.moved_gains.proofs.MovedItemLemmas.{item-moved, kept-append}
-use Rattle.moved_gains.proofs.MovedRowLemmas.{end_fault-by, head-by, head_by, main-by, marked-by}
-use Rattle.moved_gains.proofs.MovedRowLemmas.{no_faults-by, numbered-by, row_by, rows-by, stream-by}
-use Rattle.moved_gains.proofs.SplitBlockLemmas.{blocks-before, blocks-behind, blocks-stay, IsOld}
-use Rattle.moved_gains.proofs.{SplitBlockLemmas.items-begin, SplitItemLemmas.IsSplit}
-use Rattle.moved_gains.proofs.TagReadingLemmas.{place-some}
+use Rattle.moved_gains.proofs.ImageLemmas.{area-image, head-by, head_area-by, images-append}
+use Rattle.moved_gains.proofs.ImageLemmas.{IsFileImage, read-image, stream-image, told-image}
+use Rattle.moved_gains.proofs.MovedItemLemmas.{AreKept, ends-append, item-moved, items-moved}
+use Rattle.moved_gains.proofs.MovedItemLemmas.{no_steps}
+use Rattle.moved_gains.proofs.MovedRowLemmas.{head_by, numbered-by, numbered_either, place-by}
+use Rattle.moved_gains.proofs.MovedRowLemmas.{row_by}
+use Rattle.moved_gains.proofs.SplitBlockLemmas.{BeginBetween, blocks-before, blocks-behind}
+use Rattle.moved_gains.proofs.SplitBlockLemmas.{blocks-stay, IsOld, items-begin}
+use Rattle.moved_gains.proofs.{SplitItemLemmas.IsSplit, TagReadingLemmas.place-some}
 use Rattle.moved_gains.proofs.TaggedByteLemmas.{front-moved, later-moved, new-length, new-own}
 use Rattle.moved_gains.proofs.TaggedByteLemmas.{stays}
 use Rattle.moved_gains.proofs.WholeFileLemmas.{clean, clean-start, IsClean, start_with}
 use Rattle.moved_gains.specs.TagPlace.{file_with_tag, IsTagBytes, new_blocks, retagged_fields}
 use Rattle.moved_gains.specs.TagPlace.{retagged_offset, stands_before, stands_behind, tag_block}
 use Rattle.moved_gains.specs.TagPlace.{tag_length, tag_offset}
+use Rattle.side_info.specs.declared.side.Side.{Side}
 use Rattle.sync_survey.proofs.ItemListLemmas.{blocks-by, ends-rise, frame_by, frames-by, piece_by}
 use Rattle.sync_survey.proofs.{ItemListLemmas.placed_by, OneItemLemmas.stands-only_at}
 use Rattle.sync_survey.proofs.RunsLemmas.{frames-append, item_of-whole}
-use Rattle.sync_survey.proofs.SurveyPartsLemmas.{frames_from, IsRead, surveyed-parts, surveyed-told}
-use Rattle.sync_survey.proofs.SurveyPartsLemmas.{told_from}
-use Rattle.sync_survey.specs.Faults.{all_faults, class_from, stream_of_survey, survey_fields}
-use Rattle.sync_survey.specs.{Faults.SurveyFields, Items.item_at}
-use Rattle.sync_survey.specs.{MainData.{main_bytes, marked_rows, rows_of, stream_frames}, Row.Row}
+use Rattle.sync_survey.proofs.SurveyPartsLemmas.{IsRead, surveyed-parts, surveyed-told, told_from}
+use Rattle.sync_survey.specs.Faults.{class_from, stream_of_survey, survey_fields, SurveyFields}
+use Rattle.sync_survey.specs.MainData.{granule_lengths, payload_at, row_side, split_bits}
+use Rattle.sync_survey.specs.{MainData.{start_of_data, stream_frame, stream_frames}, Row.Row}
 use Rattle.sync_survey.specs.Runs.{AreEndToEnd, blocks_of, frames_of, PlacedItem, whole_item_at}
-use Rattle.sync_survey.specs.Walk.{all_blocks, end_fault, fault_at, head_of, numbered_frames}
-use Rattle.sync_survey.specs.{Walk.stream_run, declared.items.Item.TheVariants.{Block, End}}
-use Rattle.sync_survey.specs.declared.places.{Head.Head, Piece.Piece, PlacedFrame.PlacedFrame}
-use Rattle.sync_survey.specs.declared.{places.Start.Start, runs.Region.TheVariants.Stream}
+use Rattle.sync_survey.specs.Walk.{all_blocks, head_of, numbered_frames}
+use Rattle.sync_survey.specs.declared.{items.Item.TheVariants.Block, places.Head.Head}
+use Rattle.sync_survey.specs.declared.places.{Piece.Piece, PlacedFrame.PlacedFrame, Start.Start}
+use Rattle.sync_survey.specs.declared.runs.Region.TheVariants.{Stream}
 use Rattle.tag_blocks.proofs.BlocksLemmas.{block_front-least}
 use Rattle.tag_blocks.specs.declared.block.{Block.Block as TagBlock, Kind.TheVariants.Ape}
-
-numbered-kept : (to : ℕ → ℕ) (file new : List ℕ) (o : Option Head) (frames : List PlacedFrame)
-    → AreKept to file new frames → AreKept to file new (numbered_frames o frames)
-numbered-kept to file new (Some head) (p ∷ ps) kept = kept.1
-numbered-kept to file new _ _ kept = kept
 
 -- ---- the new tag among the items
 
@@ -125,19 +122,24 @@ module _ (file : List ℕ) (allowed : ℕ) (start : Start) (read : IsRead file a
   abbrev new_items : List PlacedItem
   new_items = before ++ (tag.own ++ behind)
 
+  low : AreEndToEnd Stream new 0 before (0 + (cut - 0))
+      × AreKept to file new (frames_of parts.front)
+  low = items-moved to file new 0 parts.front cut 0 parts.before (front-moved bytes file s room)
+
+  high : AreEndToEnd Stream new (cut + n) behind ((cut + n) + (length file - (cut + gone)))
+      × AreKept to file new (frames_of parts.rest)
+  high = items-moved to file new (cut + gone) parts.rest (length file) (cut + n) parts.behind
+      (later-moved bytes file s room)
+
   new_ends : AreEndToEnd Stream new 0 new_items (length new)
   new_ends =
-      let low =
-      ends-moved to file new 0 parts.front cut 0 parts.before (front-moved bytes file s room) in
-      let high = ends-moved to file new (cut + gone) parts.rest (length file)
-      (cut + n) parts.behind (later-moved bytes file s room) in
       let mid : 0 + (cut - 0) ≡ cut = omega arith in
       let end : (cut + n) + (length file - (cut + gone)) ≡ length new =
       omega (arith, new-length bytes file s room, room) in
       ends-append Stream new 0 before cut (tag.own ++ behind) (length new)
-      (subst (λ m. AreEndToEnd Stream new 0 before m) mid low)
+      (subst (λ m. AreEndToEnd Stream new 0 before m) mid low.0)
       (ends-append Stream new cut tag.own (cut + n) behind
-      (length new) tag.ends (subst (λ m. AreEndToEnd Stream new (cut + n) behind m) end high))
+      (length new) tag.ends (subst (λ m. AreEndToEnd Stream new (cut + n) behind m) end high.0))
 
   old_frames : frames_of parts.front ++ frames_of parts.rest ≡ all
   old_frames = sym parts.frames ∙ items-frames file allowed start read no_junk
@@ -153,10 +155,8 @@ module _ (file : List ℕ) (allowed : ℕ) (start : Start) (read : IsRead file a
   kept : AreKept to file new all
   kept =
       subst (AreKept to file new) old_frames
-      (kept-append to file new (frames_of parts.front) (frames_of parts.rest)
-      (frames-kept to file new 0 parts.front cut 0 parts.before (front-moved bytes file s room))
-      (frames-kept to file new (cut + gone) parts.rest (length file)
-      (cut + n) parts.behind (later-moved bytes file s room)))
+      (images-append to no_steps (λ at. true) file new (frames_of parts.front)
+      (frames_of parts.rest) low.1 high.1)
 
   -- ---- the blocks
 
@@ -172,26 +172,30 @@ module _ (file : List ℕ) (allowed : ℕ) (start : Start) (read : IsRead file a
       ≡ blocks_of parts.front ++ (option_to_list (tag_block s) ++ blocks_of parts.rest)
   old_blocks = sym (items-blocks file allowed start read no_junk) ∙ parts.blocks
 
+  front_begin : BeginBetween 0 cut (blocks_of parts.front)
+  front_begin = items-begin file 0 parts.front cut parts.before
+
+  rest_begin : BeginBetween (cut + gone) (length file) (blocks_of parts.rest)
+  rest_begin = items-begin file (cut + gone) parts.rest (length file) parts.behind
+
   -- the blocks before the tag are those of the first items
   pub before_is : filter (stands_before s) s.blocks ≡ blocks_of parts.front
   before_is =
       ap (filter (stands_before s)) old_blocks
       ∙ blocks-before s (blocks_of parts.front) (blocks_of parts.rest) (tag_block s) (length file)
-      (items-begin file 0 parts.front cut parts.before) (items-begin file
-      (cut + gone) parts.rest (length file) parts.behind) (is_old (tag_block s) refl)
+      front_begin rest_begin (is_old (tag_block s) refl)
 
   behind_is : filter (stands_behind s) s.blocks ≡ blocks_of parts.rest
   behind_is =
       ap (filter (stands_behind s)) old_blocks
       ∙ blocks-behind s (blocks_of parts.front) (blocks_of parts.rest) (tag_block s) (length file)
-      (items-begin file 0 parts.front cut parts.before) (items-begin file
-      (cut + gone) parts.rest (length file) parts.behind) (is_old (tag_block s) refl)
+      front_begin rest_begin (is_old (tag_block s) refl)
 
   new_blocks_are : blocks_of new_items ≡ filter (stands_before s) s.blocks
       ++ (new_blocks n s ++ map (piece_by to) (filter (stands_behind s) s.blocks))
   new_blocks_are =
       let front = blocks-by to parts.front ∙ blocks-stay to 0 cut (blocks_of parts.front)
-      (items-begin file 0 parts.front cut parts.before) (stays bytes file s room) in
+      front_begin (stays n s) in
       blocks-append before (tag.own ++ behind)
       ∙ ap₂ (λ (a b : List Piece). a ++ b) (front ∙ sym before_is)
       (blocks-append tag.own behind ∙ ap₂ (λ (a b : List Piece). a ++ b)
@@ -211,58 +215,34 @@ module _ (file : List ℕ) (allowed : ℕ) (start : Start) (read : IsRead file a
       (map (frame_by to) (rest file allowed start read no_junk)) new_ends new_frames
 
   new_head : head_of new first ≡ option_map (head_by to) head
-  new_head = head-by to file new start.first kept.0
+  new_head = head-by to file new start.first kept.0.bytes
 
-  new_numbered : frames_from new new_start ≡ map (frame_by to) (frames_from file start)
-  new_numbered =
-      ap₂ numbered_frames new_head new_clean.frames
-      ∙ numbered-by to head all
-      ∙ ap (map (frame_by to)) (sym (frames-is file allowed start read no_junk))
-
-  numbered_kept : AreKept to file new (frames_from file start)
-  numbered_kept = subst (AreKept to file new) (sym (frames-is file allowed start read no_junk))
-      (numbered-kept to file new head all kept)
-
-  new_rows : rows_of new (frames_from new new_start)
-      ≡ map (row_by to) (rows_of file (frames_from file start))
-  new_rows =
-      ap (rows_of new) new_numbered ∙ rows-by to file new (frames_from file start) numbered_kept
-
-  no_faults : all_faults new (head_of new first) (class_from new_start) allowed
-      (rows_of new (frames_from new new_start)) ≡ []
-  no_faults =
-      ap₂ (λ (o : Option Head) (rs : List Row). all_faults new o (class_from start) allowed rs)
-      new_head new_rows
-      ∙ no_faults-by to file new head (class_from start) allowed
-      (frames_from file start) numbered_kept read.frames
-
-  whole_end : end_fault new (frames_from new new_start)
-      (fault_at (stream_run new new_start).stop (item_at new (stream_run new new_start).stop))
-      ≡ None
-  whole_end =
-      let stop : (stream_run new new_start).stop ≡ length new = new_clean.stop in
-      let nothing : drop (stream_run new new_start).stop new ≡ [] =
-      drop_all (stream_run new new_start).stop new (omega (arith, stop)) in
-      let ended : fault_at
-      (stream_run new new_start).stop (item_at new (stream_run new new_start).stop) ≡ None =
-      ap (fault_at (stream_run new new_start).stop)
-      (sym (stands-only_at new (stream_run new new_start).stop End nothing)) in
-      ap₂ (end_fault new) new_numbered ended
-      ∙ end_fault-by file new to (frames_from file start) _ read.end
+  -- the file with another tag is the file's image, with no gain moved
+  new_image : IsFileImage to no_steps (λ at. true) file new start new_start
+  new_image = record {
+    start_is = clean-start new first _ _ new_clean;
+    class = refl;
+    head = new_head;
+    head_area = head_area-by to file new start.first
+        (area-image to no_steps (λ at. true) file new start.first kept.0);
+    frames = ap₂ numbered_frames new_head new_clean.frames ∙ numbered-by to head all
+        ∙ ap (map (frame_by to)) (sym (frames-is file allowed start read no_junk));
+    images = subst (AreKept to file new) (sym (frames-is file allowed start read no_junk))
+        (numbered_either (AreKept to file new) head start.first
+        (rest file allowed start read no_junk) kept kept.1);
+    past = omega (arith, new_clean.stop);
+  }
 
   new_read : IsRead new allowed new_start
-  new_read =
-      record { start_is = clean-start new first _ _ new_clean; frames = no_faults; end = whole_end }
+  new_read = read-image to no_steps (λ at. true) file new start new_start new_image allowed read
 
   -- ---- what its survey finds
 
   new_told : told_from new new_start ≡ retagged_fields n s
   unfolding retagged_fields
   new_told =
-      let rows : marked_rows (head_of new first) (rows_of new (frames_from new new_start))
-      ≡ map (row_by to) (marked_rows head (rows_of file (frames_from file start))) =
-      ap₂ marked_rows new_head new_rows
-      ∙ marked-by to head (rows_of file (frames_from file start)) in
+      let rows = told-image to no_steps (λ at. true) file new start new_start new_image (row_by to)
+      (λ i r is. refl) in
       let blocks : all_blocks new new_start ≡ filter (stands_before s) s.blocks
       ++ (new_blocks n s ++ map (piece_by to) (filter (stands_behind s) s.blocks)) =
       new_clean.blocks_are ∙ new_blocks_are in
@@ -284,11 +264,15 @@ module _ (file : List ℕ) (allowed : ℕ) (start : Start) (read : IsRead file a
 
   -- the stream is the same
   pub stream-from : stream_of_survey new (retagged_fields n s) ≡ stream_of_survey file s
-  unfolding stream_of_survey retagged_fields
+  unfolding stream_of_survey retagged_fields stream_frames
   stream-from =
-      ap (λ main. stream_frames main (option_map (head_by to) head) (map (row_by to) s.frames))
-      (main-by to file new start.first head (frames_from file start) refl kept.0 numbered_kept)
-      ∙ stream-by to head s.frames (main_bytes file head s.frames)
+      let side : Row → Side = λ r. r.side in
+      stream-image to no_steps (λ at. true) file new start new_start new_image side
+      (λ r frame. frame)
+      (λ main i r is. ap (λ n. record (stream_frame main head s.frames i r) {
+        payload = split_bits (granule_lengths r.header (row_side r))
+            (payload_at main (start_of_data n r) (row_side r));
+      }) (place-by to side head s.frames i))
 
 -- ---- from the survey
 

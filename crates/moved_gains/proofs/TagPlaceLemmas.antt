@@ -1,30 +1,31 @@
 -- Where the tag of a file is among its frames: before
 -- all of them, or after some and before the others.
 use Rattle.std.proofs.Common.{ap, append-nil, ap₂, arith, Bool, cond, drop, false, inl, inr, length}
-use Rattle.std.proofs.Common.{length-drop, List, map, None, Ok, Option, refl, Some, subst, suc, sym}
-use Rattle.std.proofs.Common.{take, true, ℕ, [], ◌++◌, ◌+◌, ◌<◌, ◌∙◌, ◌∷◌, ◌≡◌, ◌≤◌, ◌⊎◌}
+use Rattle.std.proofs.Common.{length-drop, List, None, Ok, Option, refl, Some, subst, sym, take}
+use Rattle.std.proofs.Common.{true, ℕ, [], ◌++◌, ◌+◌, ◌<◌, ◌∙◌, ◌∷◌, ◌≡◌, ◌≤◌, ◌⊎◌}
 use Rattle.std.proofs.lemmas.List.{length-map, length-take-le, map-append, Folds.find-append}
+use Rattle.std.proofs.lemmas.List.FromFn.{length-enumerate_from}
 use Rattle.std.specs.{List.{cons_option, enumerate_from, find}, Option.option_or}
 use Rattle.frame_header.{proofs.HeaderLemmas.IsClass-class_of, specs.Fields.HeaderFields}
 use Rattle.frame_header.specs.Tables.{class_of, length_of}
-use Rattle.moved_gains.proofs.{EditedRunLemmas.low_cases, FoundTagLemmas.{found_item, last_more}}
+use Rattle.moved_gains.proofs.FoundTagLemmas.{found_item, last_more}
 use Rattle.moved_gains.proofs.LostOffsetLemmas.{end_earlier, end_later, end_rises, EndBy, items_end}
 use Rattle.moved_gains.proofs.LostOffsetLemmas.{marked-by, rows_by, walk_rising}
-use Rattle.moved_gains.proofs.{MovedGainLemmas.IsShaped-moved, SplitItemLemmas.split-tag}
-use Rattle.moved_gains.proofs.{TagReadingLemmas.place-some, WholeFileLemmas.front_end-is}
+use Rattle.moved_gains.proofs.{MovedGainLemmas.IsShaped-moved, MovedRowLemmas.numbered_either}
+use Rattle.moved_gains.proofs.ReadFileLemmas.{has_stream, HasStream, later_run}
+use Rattle.moved_gains.proofs.{SplitItemLemmas.split-tag, TagReadingLemmas.place-some}
 use Rattle.moved_gains.{proofs.WrittenLemmas.AreSized, specs.{Edited.is_lost_at, Gains.moved_side}}
 use Rattle.moved_gains.specs.Moving.{row_end}
 use Rattle.moved_gains.specs.TagPlace.{is_tag, last_end, tag_block, tag_length, tag_offset}
 use Rattle.requests.specs.declared.shift.Steps.{Steps}
 use Rattle.side_info.proofs.FrameLemmas.{length-frame_with, shaped-side_in}
 use Rattle.side_info.specs.Frame.{frame_with_side, side_in}
-use Rattle.sync_survey.proofs.ItemListLemmas.{ends-stream, ends-within}
+use Rattle.sync_survey.proofs.ItemListLemmas.{ends-stream}
 use Rattle.sync_survey.proofs.ItemsLemmas.{header_front-in_range, stands-at}
-use Rattle.sync_survey.proofs.RunsLemmas.{IsItemOf, item_of-is, run-ends, run-next}
-use Rattle.sync_survey.proofs.{StartLemmas.{start-first, start-front}, SurveyLemmas.overhead-within}
+use Rattle.sync_survey.proofs.RunsLemmas.{IsItemOf, item_of-is, run-ends}
+use Rattle.sync_survey.proofs.SurveyLemmas.{overhead-within}
 use Rattle.sync_survey.proofs.SurveyPartsLemmas.{frames_from, IsRead, surveyed-parts, told_from}
-use Rattle.sync_survey.{proofs.WalkLemmas.first_item, specs.Faults.{survey_fields, SurveyFields}}
-use Rattle.sync_survey.specs.Items.{item_at, size_of}
+use Rattle.sync_survey.specs.{Faults.{survey_fields, SurveyFields}, Items.{item_at, size_of}}
 use Rattle.sync_survey.specs.{MainData.{marked_row, marked_rows, row_of, rows_of}, Row.Row}
 use Rattle.sync_survey.specs.Runs.{AreEndToEnd, blocks_of, frame_of_item, frames_of, item_run}
 use Rattle.sync_survey.specs.Runs.{ItemRun, PlacedItem}
@@ -163,15 +164,11 @@ pub record StandsSomewhere (steps : ℕ → Steps) (file : List ℕ) (s : Survey
   pub some : 0 < length s.frames
   pub place : IsInFront s ⊎ IsAmong s
 
-each_long : (head : Option Head) (all : List Row) (n : ℕ) (rows : List Row)
-    → length (map (λ (p : ℕ × Row). marked_row head all p.0 p.1) (enumerate_from n rows))
-    ≡ length rows
-each_long head all n [] = refl
-each_long head all n (r ∷ rows) = ap (λ m. suc m) (each_long head all (n + 1) rows)
-
 marked_long : (head : Option Head) (rows : List Row) → length (marked_rows head rows) ≡ length rows
 unfolding marked_rows
-marked_long head rows = each_long head rows 0 rows
+marked_long head rows =
+    length-map (enumerate_from 0 rows) (λ (p : ℕ × Row). marked_row head rows p.0 p.1)
+    ∙ length-enumerate_from 0 rows
 
 -- without a tag its place is the end of the last frame, and it has no bytes
 pub tag_none : (s : SurveyFields) → tag_block s ≡ None
@@ -196,7 +193,7 @@ module _ (steps : ℕ → Steps) (file : List ℕ) (allowed : ℕ) (start : Star
   head = head_of file start.first
 
   abbrev later : ItemRun
-  later = item_run Stream file (first + size)
+  later = later_run file start
 
   abbrev front : ItemRun
   front = item_run Front file 0
@@ -204,56 +201,30 @@ module _ (steps : ℕ → Steps) (file : List ℕ) (allowed : ℕ) (start : Star
   abbrev lost : ℕ → Bool
   lost = is_lost_at s.frames
 
-  first_whole : IsItemOf Stream file first (Frame h)
-  first_whole = (start-first file start read.start_is).frame
-
-  front_low : start.front_end ≤ first
-  front_low = low_cases file start (start-first file start read.start_is).least
-
-  front_stop : front.stop ≡ start.front_end
-  front_stop = sym (start-front file start read.start_is ∙ front_end-is file)
-
-  stream_is : stream_run file start ≡
-      record { items = record { offset = first; item = Frame h } ∷ later.items; stop = later.stop }
-  stream_is = run-next Stream file first (Frame h)
-      (first_item file start.first first_whole.is first_whole.within)
+  has : HasStream file start
+  has = has_stream file allowed start read
 
   later_ends : AreEndToEnd Stream file (first + size) later.items later.stop
   later_ends = run-ends Stream file (first + size)
 
   stop_within : later.stop ≤ length file
-  stop_within =
-      ends-within Stream file (first + size) later.items later.stop later_ends first_whole.within
+  stop_within = omega (arith, has.stop)
 
   -- the frames of the survey, by the items after the first
   rows_told : s.frames
       ≡ rows_by lost file (numbered_frames head (start.first ∷ frames_of later.items))
   rows_told =
       marked-by file head first (frames_from file start) (walk_rising file start head)
-      ∙ ap (λ (r : ItemRun). rows_by lost file (numbered_frames head (frames_of r.items))) stream_is
+      ∙ ap (λ (r : ItemRun). rows_by lost file (numbered_frames head (frames_of r.items)))
+      has.stream
 
-  ends_by : (o : Option Head) → EndBy first
-      (rows_by lost file (numbered_frames o (start.first ∷ frames_of later.items))) (length file)
-  ends_by None = (
-    omega arith,
-    omega (arith, first_whole.some),
-    end_later (first + size) (rows_by lost file (frames_of later.items)) later.stop (length file)
-        stop_within (items_end lost file Stream (first + size) later.items later.stop later_ends),
-  )
-  ends_by (Some found) =
-      end_earlier first (first + size) (rows_by lost file (frames_of later.items)) (length file)
-      (omega arith)
-      (end_later (first + size) (rows_by lost file (frames_of later.items)) later.stop (length file)
-      stop_within (items_end lost file Stream (first + size) later.items later.stop later_ends))
+  later_end : EndBy (first + size) (rows_by lost file (frames_of later.items)) (length file)
+  later_end = end_later (first + size) (rows_by lost file (frames_of later.items)) later.stop
+      (length file) stop_within
+      (items_end lost file Stream (first + size) later.items later.stop later_ends)
 
-  sized_by : (o : Option Head) → AreSized steps file
-      (rows_by lost file (numbered_frames o (start.first ∷ frames_of later.items)))
-  sized_by None = (
-    one_sized lost file steps Stream first h first_whole (lost first),
-    items_sized lost file steps Stream (first + size) later.items later.stop later_ends,
-  )
-  sized_by (Some found) =
-      items_sized lost file steps Stream (first + size) later.items later.stop later_ends
+  later_sized : AreSized steps file (rows_by lost file (frames_of later.items))
+  later_sized = items_sized lost file steps Stream (first + size) later.items later.stop later_ends
 
   cut_by : (o : Option Head) (b : Piece)
       → IsCut lost file (first + size) (frames_of later.items) b later.stop
@@ -262,7 +233,7 @@ module _ (steps : ℕ → Steps) (file : List ℕ) (allowed : ℕ) (start : Star
     before = start.first ∷ cut.before;
     behind = cut.behind;
     all = ap (λ (l : List PlacedFrame). start.first ∷ l) cut.all;
-    front = (omega arith, omega (arith, first_whole.some), cut.front);
+    front = (omega arith, omega (arith, has.first.some), cut.front);
     rest = cut.rest;
     some = cut.some;
   }
@@ -281,7 +252,7 @@ module _ (steps : ℕ → Steps) (file : List ℕ) (allowed : ℕ) (start : Star
         all = rows_told ∙ ap (rows_by lost file) cut.all ∙ map-append (λ (p : PlacedFrame).
             record (row_of file p) { lost = lost p.offset }) cut.before cut.behind;
         low = omega (arith, tag.0, beyond);
-        past = omega (arith, tag.0, tag.1, beyond, front_low, cut.some);
+        past = omega (arith, tag.0, tag.1, beyond, has.low, cut.some);
         front = subst (EndBy first (rows_by lost file cut.before)) (sym tag.0) cut.front;
         rest = end_later (tag_offset s + tag_length s)
             (rows_by lost file cut.behind) later.stop (length file) stop_within
@@ -305,7 +276,11 @@ module _ (steps : ℕ → Steps) (file : List ℕ) (allowed : ℕ) (start : Star
       at (p ∷ ps) o same e = omega (arith, same)
 
   rows_ends : EndBy first s.frames (length file)
-  rows_ends = subst (λ l. EndBy first l (length file)) (sym rows_told) (ends_by head)
+  rows_ends = subst (λ l. EndBy first l (length file)) (sym rows_told)
+      (numbered_either (λ ps. EndBy first (rows_by lost file ps) (length file)) head start.first
+      (frames_of later.items) (omega arith, omega (arith, has.first.some), later_end)
+      (end_earlier first (first + size) (rows_by lost file (frames_of later.items)) (length file)
+      (omega arith) later_end))
 
   frames_some : 0 < length s.frames
   frames_some = some_frame s.frames (frames_from file start)
@@ -318,27 +293,14 @@ module _ (steps : ℕ → Steps) (file : List ℕ) (allowed : ℕ) (start : Star
   last_by (row ∷ rows) same ends some is =
       let tag = tag_none s is in
       let last = last_ends first row rows (length file) ends in
+      let beyond = end_rises (row_end row) rows (last_end (row ∷ rows)) last.0.2 in
       let place : tag_offset s ≡ last_end (row ∷ rows) = tag.0 ∙ ap last_end (sym same) in
       let among : IsAmong s = record {
         before = row ∷ rows;
         behind = [];
         all = sym same ∙ sym (append-nil (row ∷ rows));
-        low = omega (
-          arith,
-          place,
-          ends.0,
-          ends.1,
-          end_rises (row_end row) rows (last_end (row ∷ rows)) last.0.2,
-        );
-        past = omega (
-          arith,
-          place,
-          tag.1,
-          ends.0,
-          ends.1,
-          end_rises (row_end row) rows (last_end (row ∷ rows)) last.0.2,
-          front_low,
-        );
+        low = omega (arith, place, ends.0, ends.1, beyond);
+        past = omega (arith, place, tag.1, ends.0, ends.1, beyond, has.low);
         front = subst (EndBy first (row ∷ rows)) (sym place) last.0;
         rest = omega (arith, place, tag.1, last.1);
         up = omega (arith, place, tag.1, last.1);
@@ -346,7 +308,7 @@ module _ (steps : ℕ → Steps) (file : List ℕ) (allowed : ℕ) (start : Star
       record { among = among; apart = inl refl }
 
   blocks_later : blocks_of (stream_run file start).items ≡ blocks_of later.items
-  blocks_later = ap (λ (r : ItemRun). blocks_of r.items) stream_is
+  blocks_later = ap (λ (r : ItemRun). blocks_of r.items) has.stream
 
   place_by : (x y : Option Piece) → find is_tag (blocks_of front.items) ≡ x
       → find is_tag (blocks_of later.items) ≡ y → tag_block s ≡ option_or x y
@@ -359,12 +321,12 @@ module _ (steps : ℕ → Steps) (file : List ℕ) (allowed : ℕ) (start : Star
       end_rises (b.offset + b.block.length) (rows_by lost file cut.behind) front.stop cut.rest in
       inl (record {
         some = omega (arith, tag.1, cut.some);
-        before = omega (arith, tag.0, tag.1, last, front_stop);
+        before = omega (arith, tag.0, tag.1, last, has.front);
       })
   place_by None (Some b) front_is later_is is =
       let cut = items_cut lost file (first + size) later.items b later.stop later_ends later_is in
       let beyond = end_rises (first + size) (rows_by lost file cut.before) b.offset cut.front in
-      inr (among_by b is (omega (arith, beyond, first_whole.some)) (cut_by head b cut))
+      inr (among_by b is (omega (arith, beyond, has.first.some)) (cut_by head b cut))
   place_by None None front_is later_is is = inr (last_by s.frames refl rows_ends frames_some is)
 
   -- the tag is before the junk, or apart from all frames
@@ -383,9 +345,12 @@ module _ (steps : ℕ → Steps) (file : List ℕ) (allowed : ℕ) (start : Star
   pub stands : StandsSomewhere steps file s
   stands = record {
     size = refl;
-    junk = front_low;
-    first = omega (arith, first_whole.within);
-    sized = subst (AreSized steps file) (sym rows_told) (sized_by head);
+    junk = has.low;
+    first = omega (arith, has.first.within);
+    sized = subst (AreSized steps file) (sym rows_told)
+        (numbered_either (λ ps. AreSized steps file (rows_by lost file ps)) head start.first
+        (frames_of later.items)
+        (one_sized lost file steps Stream first h has.first (lost first), later_sized) later_sized);
     ends = rows_ends;
     some = frames_some;
     place = somewhere apart_place;

@@ -1,9 +1,8 @@
 -- A file with moved gains and another tag, changed again: it
 -- is the file with both changes' steps and with the last tag.
-use Rattle.std.proofs.Common.{ap, append-nil, append_assoc, ap₂, arith, Bool, cond, drop, false}
-use Rattle.std.proofs.Common.{inl, inr, length, length-drop, List, ltb, map, Ok, refl, Some, subst}
-use Rattle.std.proofs.Common.{sym, take, true, ℕ, [], ◌++◌, ◌+◌, ◌-◌, ◌<◌, ◌∙◌, ◌∷◌, ◌≡◌, ◌≤◌, ◌⊎◌}
-use Rattle.std.proofs.lemmas.Bool.{le-ltb, lt-ltb}
+use Rattle.std.proofs.Common.{ap, append-nil, append_assoc, ap₂, arith, drop, inl, inr, length}
+use Rattle.std.proofs.Common.{length-drop, List, map, Ok, refl, Some, subst, sym, take, ℕ, [], ◌++◌}
+use Rattle.std.proofs.Common.{◌+◌, ◌-◌, ◌∙◌, ◌∷◌, ◌≡◌, ◌≤◌, ◌⊎◌}
 use Rattle.std.proofs.lemmas.List.{drop-drop, drop_at, length-take-le, map-append, take_at}
 use Rattle.bit_fields.specs.Bits.{AreBytes}
 use Rattle.moved_gains.proofs.{EditedSurveyLemmas.surveyed-edited, LostOffsetLemmas.EndBy}
@@ -12,6 +11,7 @@ use Rattle.moved_gains.proofs.{MovedAgainLemmas.{moved_again, stood}, MovingLemm
 use Rattle.moved_gains.proofs.{NewTagLemmas.tagged-again, RetaggedFileLemmas.surveyed-retagged}
 use Rattle.moved_gains.proofs.RowLemmas.{each_before, each_behind}
 use Rattle.moved_gains.proofs.TagPlaceLemmas.{IsAmong, IsInFront, stands_somewhere, StandsSomewhere}
+use Rattle.moved_gains.proofs.TaggedByteLemmas.{follows, stays}
 use Rattle.moved_gains.proofs.WholeFrameLemmas.{AreFramesOf, frames_there, IsFrameOf}
 use Rattle.moved_gains.proofs.WrittenTagLemmas.{at_behind, at_front, IsParted, length_moved}
 use Rattle.moved_gains.proofs.WrittenTagLemmas.{parted_among, parted_front}
@@ -101,14 +101,6 @@ module _ (one : ℕ → Steps) (file : List ℕ) (allowed : ℕ) (s : SurveyFiel
   unfolding retagged_fields edited_survey
   new_long = refl
 
-  stays : (x : ℕ) → x < tag_offset m → retagged_offset size m x ≡ x
-  stays x low = let below : ltb x (tag_offset m) ≡ true = lt-ltb x (tag_offset m) low in
-      ap (λ (b : Bool). cond b x (x - tag_length m + size)) below
-
-  follows : (x : ℕ) → tag_offset m ≤ x → retagged_offset size m x ≡ x - tag_length m + size
-  follows x high = let above : ltb x (tag_offset m) ≡ false = le-ltb x (tag_offset m) high in
-      ap (λ (b : Bool). cond b x (x - tag_length m + size)) above
-
   old_size : tag_length m ≡ old
   old_size = length_moved one s
 
@@ -124,6 +116,23 @@ module _ (one : ℕ → Steps) (file : List ℕ) (allowed : ℕ) (s : SurveyFiel
   whole : length new ≡ new_survey.length
   whole = (stands_somewhere one new allowed new_survey new_is).size
 
+  -- its tag is after the same bytes, and before the same
+  module _ (before behind : List ℕ) (parted : IsParted one file s before behind) where
+    before_long : length before ≡ tag_offset new_survey
+    before_long = sym (has_block.place ∙ parted.place)
+
+    before_there : take (tag_offset new_survey) new ≡ before
+    before_there = ap (take (tag_offset new_survey)) (parted.tagged block)
+        ∙ take_at before (block ++ behind) (tag_offset new_survey) before_long
+
+    behind_there : drop (tag_offset new_survey + tag_length new_survey) new ≡ behind
+    behind_there =
+        ap (λ k. drop (tag_offset new_survey + k) new) new_size
+        ∙ sym (drop-drop size (tag_offset new_survey) new)
+        ∙ ap (λ (l : List ℕ). drop size (drop (tag_offset new_survey) l)) (parted.tagged block)
+        ∙ ap (drop size) (drop_at before (block ++ behind) (tag_offset new_survey) before_long)
+        ∙ drop_at block behind size refl
+
   -- if the tag is after some frames and before the others, so is the new one
   module _ (at : IsAmong s) where
     kept : tag_offset m ≡ a - gap
@@ -133,7 +142,7 @@ module _ (one : ℕ → Steps) (file : List ℕ) (allowed : ℕ) (s : SurveyFiel
     place = has_block.place ∙ kept
 
     still : retagged_offset size m s.junk ≡ s.junk
-    still = stays s.junk (omega (arith, kept, at.low, here.junk))
+    still = stays size m s.junk (omega (arith, kept, at.low, here.junk))
 
     junk_same : new_survey.junk ≡ s.junk
     junk_same = new_junk ∙ still
@@ -145,11 +154,11 @@ module _ (one : ℕ → Steps) (file : List ℕ) (allowed : ℕ) (s : SurveyFiel
     next = tag_offset new_survey + tag_length new_survey
 
     by_before : AreMovedBy to s.first a new_survey.first
-    by_before x low high = stays (x - gap) (omega (arith, kept, low, high, here.junk))
+    by_before x low high = stays size m (x - gap) (omega (arith, kept, low, high, here.junk))
         ∙ omega (arith, first_same, low, here.junk)
 
     by_behind : AreMovedBy to (a + old) (length file) next
-    by_behind x low high = follows (x - gap) (omega (arith, kept, low))
+    by_behind x low high = follows size m (x - gap) (omega (arith, kept, low))
         ∙ omega (arith, old_size, place, new_size, low, at.low, here.junk)
 
     to_place : a - s.first + new_survey.first ≡ tag_offset new_survey
@@ -189,34 +198,25 @@ module _ (one : ℕ → Steps) (file : List ℕ) (allowed : ℕ) (s : SurveyFiel
         → file_with_tag bytes (edited_survey two n) (edited_file two new n)
         ≡ file_with_tag bytes (edited_survey all s) (edited_file all file s)
     front_again at bytes =
-        let place : tag_offset n ≡ a =
-        has_block.place ∙ at_front one s (omega (arith, at.some, at.before, here.junk)) at.some in
         let kept : tag_offset m ≡ a =
         at_front one s (omega (arith, at.some, at.before, here.junk)) at.some in
+        let place : tag_offset n ≡ a = has_block.place ∙ kept in
         let past : retagged_offset size m s.junk ≡ s.junk - old + size =
-        follows s.junk (omega (arith, kept, at.before)) ∙ ap (λ k. s.junk - k + size) old_size in
+        follows size m s.junk (omega (arith, kept, at.before))
+        ∙ ap (λ k. s.junk - k + size) old_size in
         let between = bytes_between file (a + old) s.junk in
         let rows = moved_to one file s.first (length file) s.frames in
         let within : s.junk ≤ length file = omega (arith, here.size, here.junk, here.first) in
-        let stands : new ≡ take a file ++ (block ++ (between ++ rows)) =
-        (parted_front one file allowed s is at).tagged block in
+        let parted = parted_front one file allowed s is at in
         let at_new : IsInFront n = record {
           some = omega (arith, new_size, some);
           before = omega (arith, place, new_size, new_junk, past, at.before);
         } in
-        let front_long : length (take a file) ≡ a =
-        length-take-le a file (omega (arith, at.before, within)) in
         let between_long : length between ≡ s.junk - (a + old) = length-take-le (s.junk - (a + old))
         (drop (a + old) file) (omega (arith, length-drop (a + old) file, at.before, within)) in
-        let before_same : take (tag_offset n) new ≡ take a file = ap (λ k. take k new) place
-        ∙ ap (take a) stands ∙ take_at (take a file) (block ++ (between ++ rows)) a front_long in
+        let before_same = before_there (take a file) (between ++ rows) parted in
         let next : tag_offset n + tag_length n ≡ a + size = ap₂ (λ j k. j + k) place new_size in
-        let behind : drop (tag_offset n + tag_length n) new ≡ between ++ rows =
-        ap (λ k. drop k new) next
-        ∙ sym (drop-drop size a new)
-        ∙ ap (λ (l : List ℕ). drop size (drop a l)) stands
-        ∙ ap (drop size) (drop_at (take a file) (block ++ (between ++ rows)) a front_long)
-        ∙ drop_at block (between ++ rows) size refl in
+        let behind = behind_there (take a file) (between ++ rows) parted in
         let between_same : bytes_between new (tag_offset n + tag_length n) n.junk ≡ between =
         ap (take (n.junk - (tag_offset n + tag_length n))) behind
         ∙ take_at between rows (n.junk - (tag_offset n + tag_length n))
@@ -242,7 +242,7 @@ module _ (one : ℕ → Steps) (file : List ℕ) (allowed : ℕ) (s : SurveyFiel
           at.before,
         ) in
         let by : AreMovedBy to s.first (length file) n.first =
-        λ x low high. follows (x - gap) (omega (arith, kept, low, here.junk, at.before))
+        λ x low high. follows size m (x - gap) (omega (arith, kept, low, here.junk, at.before))
         ∙ omega (arith, old_size, new_first, past, low, here.junk, at.before) in
         let rows_same : moved_to two new n.first (length new) n.frames
         ≡ moved_to all file s.first (length file) s.frames =
@@ -306,17 +306,8 @@ module _ (one : ℕ → Steps) (file : List ℕ) (allowed : ℕ) (s : SurveyFiel
           (each_before (IsFrameOf file) at.before at.behind both) at.front (omega (arith, up))
           (by_before at) before_stands
 
-      front_long : length (junk ++ before) ≡ tag_offset n
-      front_long = sym (has_block.place ∙ parted.place)
-
       behind_stands : drop after new ≡ behind ++ []
-      behind_stands =
-          ap (λ k. drop (tag_offset n + k) new) new_size
-          ∙ sym (drop-drop size (tag_offset n) new)
-          ∙ ap (λ (l : List ℕ). drop size (drop (tag_offset n) l)) stands
-          ∙ ap (drop size) (drop_at (junk ++ before) (block ++ behind) (tag_offset n) front_long)
-          ∙ drop_at block behind size refl
-          ∙ sym (append-nil behind)
+      behind_stands = behind_there (junk ++ before) behind parted ∙ sym (append-nil behind)
 
       behind_again : moved_to two new after (length new) (map (stood to one) at.behind)
           ≡ moved_to all file (a + old) (length file) at.behind

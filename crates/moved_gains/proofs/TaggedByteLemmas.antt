@@ -16,6 +16,17 @@ pub with_tag-is : (bytes : List ℕ) (s : SurveyFields) (file : List ℕ) → fi
 unfolding file_with_tag
 with_tag-is bytes s file = refl
 
+module _ (n : ℕ) (s : SurveyFields) where
+  -- the offset of what was before the tag stays
+  pub stays : (x : ℕ) → x < tag_offset s → retagged_offset n s x ≡ x
+  stays x low = let is : ltb x (tag_offset s) ≡ true = lt-ltb x (tag_offset s) low in
+      ap (λ (b : Bool). cond b x (x - tag_length s + n)) is
+
+  -- the offset of what was after the tag changes by the difference in length
+  pub follows : (x : ℕ) → tag_offset s ≤ x → retagged_offset n s x ≡ x - tag_length s + n
+  follows x high = let is : ltb x (tag_offset s) ≡ false = le-ltb x (tag_offset s) high in
+      ap (λ (b : Bool). cond b x (x - tag_length s + n)) is
+
 module _ (bytes file : List ℕ) (s : SurveyFields)
     (room : tag_offset s + tag_length s ≤ length file) where
   abbrev new : List ℕ
@@ -76,16 +87,6 @@ module _ (bytes file : List ℕ) (s : SurveyFields)
   new-later =
       sym (drop-drop n (tag_offset s) new) ∙ ap (drop n) new-tag ∙ drop_at bytes later n refl
 
-  -- the offset of what was before the tag stays
-  pub stays : (x : ℕ) → x < tag_offset s → retagged_offset n s x ≡ x
-  stays x low = let is : ltb x (tag_offset s) ≡ true = lt-ltb x (tag_offset s) low in
-      ap (λ (b : Bool). cond b x (x - tag_length s + n)) is
-
-  -- the offset of what was after the tag changes by the difference in length
-  pub follows : (x : ℕ) → tag_offset s ≤ x → retagged_offset n s x ≡ x - tag_length s + n
-  follows x high = let is : ltb x (tag_offset s) ≡ false = le-ltb x (tag_offset s) high in
-      ap (λ (b : Bool). cond b x (x - tag_length s + n)) is
-
   take_both : (x k : ℕ) (l : List ℕ) → take k (drop x l) ≡ drop x (take (x + k) l)
   take_both x k l = sym (drop-take x k l)
 
@@ -100,9 +101,10 @@ module _ (bytes file : List ℕ) (s : SurveyFields)
   -- what is before the tag is where it was
   pub front-moved : IsMovedTo (retagged_offset n s) file new 0 (tag_offset s) 0
   front-moved = record {
-    place = λ x low high. stays x high ∙ omega arith;
+    place = λ x low high. stays n s x high ∙ omega arith;
     same =
-        λ x k low high within. ap (λ y. take k (drop y new)) (stays x high) ∙ front_same x k within;
+        λ x k low high within. ap (λ y. take k (drop y new)) (stays n s x high)
+        ∙ front_same x k within;
   }
 
   later_same : (x : ℕ) → tag_offset s + tag_length s ≤ x
@@ -120,7 +122,7 @@ module _ (bytes file : List ℕ) (s : SurveyFields)
       (length file)
       (tag_offset s + n)
   later-moved = record {
-    place = λ x low high. follows x (omega (arith, low)) ∙ omega (arith, low);
-    same = λ x k low high within. ap (λ y. take k (drop y new)) (follows x (omega (arith, low)))
+    place = λ x low high. follows n s x (omega (arith, low)) ∙ omega (arith, low);
+    same = λ x k low high within. ap (λ y. take k (drop y new)) (follows n s x (omega (arith, low)))
         ∙ ap (take k) (later_same x low);
   }

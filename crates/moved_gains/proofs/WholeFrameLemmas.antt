@@ -1,21 +1,22 @@
 -- The frames that a survey lists are whole in the file,
 -- with their side information and with right check words.
-use Rattle.std.proofs.Common.{ap, Bool, cond, drop, false, length, List, Ok, pos, refl, subst, suc}
-use Rattle.std.proofs.Common.{sym, take, true, ℕ, [], ◌∙◌, ◌∷◌, ◌≡◌}
+use Rattle.std.proofs.Common.{ap, Bool, cond, drop, false, length, List, Ok, refl, subst, suc, sym}
+use Rattle.std.proofs.Common.{take, true, ℕ, [], ◌-◌, ◌∙◌, ◌∷◌, ◌≡◌}
 use Rattle.bit_fields.specs.Bits.{AreBytes}
-use Rattle.moved_gains.proofs.EditedItemLemmas.{AreMovedAt}
 use Rattle.moved_gains.proofs.EditedRunLemmas.{frames-moved, gap_of, lost_from, new_file}
-use Rattle.moved_gains.proofs.EditedSurveyLemmas.{AreRight, own-right, own-side, words}
+use Rattle.moved_gains.proofs.ImageLemmas.{AreImages, AreRight, own-right, own-side}
 use Rattle.moved_gains.proofs.LostOffsetLemmas.{marked-by, rows_by, walk_rising}
-use Rattle.moved_gains.proofs.{MovedFrameLemmas.{IsWhole, moved_whole}, RowLemmas.Each}
-use Rattle.moved_gains.specs.{Gains.moved_side, Moving.{moved_row_bytes, row_length}}
+use Rattle.moved_gains.proofs.{MovedFrameLemmas.{IsWhole, moved_whole}, MovedItemLemmas.no_steps}
+use Rattle.moved_gains.{proofs.RowLemmas.Each, specs.Gains.moved_side}
+use Rattle.moved_gains.specs.Moving.{moved_row_bytes, row_length}
 use Rattle.requests.specs.declared.shift.Steps.{Steps}
 use Rattle.side_info.proofs.{FrameLemmas.{IsRight, shaped-side_in}, SideLemmas.IsShaped}
 use Rattle.side_info.specs.{Frame.{frame_with_side, side_in}, declared.side.Side.Side}
-use Rattle.sync_survey.proofs.SurveyPartsLemmas.{frames_from, IsRead, surveyed-parts, told_from}
-use Rattle.sync_survey.specs.{Faults.{survey_fields, SurveyFields}, MainData.{row_of, rows_of}}
-use Rattle.sync_survey.specs.{Row.Row, Walk.head_of, declared.places.PlacedFrame.PlacedFrame}
-use Rattle.sync_survey.specs.declared.places.Start.{Start}
+use Rattle.sync_survey.proofs.SurveyPartsLemmas.{all_faults-none_sound, frames_from, IsRead}
+use Rattle.sync_survey.proofs.SurveyPartsLemmas.{surveyed-parts, told_from}
+use Rattle.sync_survey.specs.Faults.{class_from, survey_fields, SurveyFields}
+use Rattle.sync_survey.specs.{MainData.{row_of, rows_of}, Row.Row, Walk.head_of}
+use Rattle.sync_survey.specs.declared.places.{PlacedFrame.PlacedFrame, Start.Start}
 
 -- the bytes of a frame of the file
 abbrev pub frame_of : List ℕ → Row → List ℕ
@@ -50,18 +51,18 @@ row_sized steps file row here = by_lost row.lost
         here.side
         ∙ (moved_whole false steps row.header (frame_of file row) here.whole).whole.size
 
-each_there : (steps : ℕ → Steps) (lost : ℕ → Bool) (file new : List ℕ) (gap : ℕ)
-    (ps : List PlacedFrame) → AreMovedAt steps lost file new gap ps
+each_there : (to : ℕ → ℕ) (steps : ℕ → Steps) (lost : ℕ → Bool) (file new : List ℕ)
+    (ps : List PlacedFrame) → AreBytes file → AreImages to steps lost file new ps
     → AreRight file (rows_of file ps) → AreFramesOf file (rows_by lost file ps)
-each_there steps lost file new gap [] at right = tt
-each_there steps lost file new gap (p ∷ ps) at right = (
+each_there to steps lost file new [] all are right = tt
+each_there to steps lost file new (p ∷ ps) all are right = (
   record {
-    whole = at.0.whole;
-    side = sym (own-side file p at.0.whole);
+    whole = are.0.whole all;
+    side = sym (own-side file p are.0.header);
     right =
-        own-right file p at.0.whole (right 0 (row_of file p) refl);
+        own-right file p are.0.header (right 0 (row_of file p) refl);
   },
-  each_there steps lost file new gap ps at.1 (λ i r is. right (suc i) r is),
+  each_there to steps lost file new ps all are.1 (λ i r is. right (suc i) r is),
 )
 
 -- all frames of a surveyed file are whole, with their side information and right check words
@@ -74,12 +75,13 @@ frames_there file allowed s all e =
     from : (start : Start) → IsRead file allowed start
         → AreFramesOf file (told_from file start).frames
     from start read =
-        let steps : ℕ → Steps = λ at. record { left = pos 0; right = pos 0; wrap = false } in
         let told : (told_from file start).frames
         ≡ rows_by (lost_from file start) file (frames_from file start) =
         marked-by file (head_of file start.first) start.first.offset (frames_from file start)
         (walk_rising file start (head_of file start.first)) in
         subst (AreFramesOf file) (sym told)
-        (each_there steps (lost_from file start) file (new_file steps file allowed start all read)
-        (gap_of start) (frames_from file start) (frames-moved steps file allowed start all read)
-        (words steps file allowed start all read))
+        (each_there (λ at. at - gap_of start) no_steps (lost_from file start) file
+        (new_file no_steps file allowed start all read) (frames_from file start) all
+        (frames-moved no_steps file allowed start all read)
+        (λ i r is. (all_faults-none_sound file (head_of file start.first) (class_from start) allowed
+        (rows_of file (frames_from file start)) read.frames i r is).word))

@@ -1,0 +1,73 @@
+-- A file that was read without fault: its first frame, and where its items end.
+use Rattle.std.proofs.Common.{ap, arith, drop, inl, inr, length, length-append, length-drop, List}
+use Rattle.std.proofs.Common.{refl, Some, sym, ℕ, ◌+◌, ◌∙◌, ◌∷◌, ◌≡◌, ◌≤◌}
+use Rattle.moved_gains.proofs.WholeFileLemmas.{front_end-is}
+use Rattle.sync_survey.proofs.ItemListLemmas.{items-length, kept_items}
+use Rattle.sync_survey.proofs.RunsLemmas.{IsItemOf, run-ends, run-next}
+use Rattle.sync_survey.proofs.StartLemmas.{start-first, start-front}
+use Rattle.sync_survey.proofs.SurveyPartsLemmas.{frames_from, IsRead}
+use Rattle.sync_survey.{proofs.WalkLemmas.{first_item, reach-end, ReachesTo}, specs.Items.size_of}
+use Rattle.sync_survey.specs.Runs.{AreEndToEnd, bytes_of_items, item_run, ItemRun, PlacedItem}
+use Rattle.sync_survey.specs.{Runs.whole_item_at, Start.IsLeastStart, Walk.stream_run}
+use Rattle.sync_survey.specs.declared.{items.Item.TheVariants.Frame, places.Start.Start}
+use Rattle.sync_survey.specs.declared.runs.Region.TheVariants.{Front, Stream}
+
+-- the items after the first frame
+abbrev pub later_run : List ℕ → Start → ItemRun
+later_run file start =
+    item_run Stream file (start.first.offset + size_of (Frame start.first.header))
+
+-- The first frame is whole, and the front ends no later than it begins. It is
+-- the first item of the stream; the items after it end with the file.
+pub record HasStream (file : List ℕ) (start : Start) : Type 0 where
+  pub first : IsItemOf Stream file start.first.offset (Frame start.first.header)
+  pub there : whole_item_at Stream file start.first.offset ≡ Some (Frame start.first.header)
+  pub low : start.front_end ≤ start.first.offset
+  pub front : (item_run Front file 0).stop ≡ start.front_end
+  pub stream : stream_run file start ≡ record {
+    items = record { offset = start.first.offset; item = Frame start.first.header }
+        ∷ (later_run file start).items;
+    stop = (later_run file start).stop;
+  }
+  pub stop : (later_run file start).stop ≡ length file
+
+low_cases : (file : List ℕ) (start : Start) → IsLeastStart file start
+    → start.front_end ≤ start.first.offset
+low_cases file start (inl same) = omega (arith, same)
+low_cases file start (inr least) = omega (arith, least.0)
+
+-- a file without fault is such a file
+pub has_stream : (file : List ℕ) (allowed : ℕ) (start : Start) → IsRead file allowed start
+    → HasStream file start
+has_stream file allowed start read =
+    let at = start.first.offset in
+    let item = Frame start.first.header in
+    let later = later_run file start in
+    let begins = start-first file start read.start_is in
+    let there = first_item file start.first begins.frame.is begins.frame.within in
+    let stream = run-next Stream file at item there in
+    let items : List PlacedItem = record { offset = at; item = item } ∷ later.items in
+    let bytes = bytes_of_items file items in
+    let ends : AreEndToEnd Stream file at items later.stop =
+    (refl, there, run-ends Stream file (at + size_of item)) in
+    let reached : ReachesTo file start (length file) =
+    reach-end file start (frames_from file start) (stream_run file start).stop refl read.end in
+    record {
+      first = begins.frame;
+      there = there;
+      low = low_cases file start begins.least;
+      front = sym (start-front file start read.start_is ∙ front_end-is file);
+      stream = stream;
+      stop = omega (
+        arith,
+        items-length Stream file at items later.stop bytes ends
+            (kept_items file at items later.stop ends),
+        ap (λ (r : ItemRun). length (bytes_of_items file r.items)) stream,
+        length-append (bytes_of_items file (stream_run file start).items) (drop (length file) file),
+        length-drop (length file) file,
+        ap length reached,
+        length-drop at file,
+        begins.frame.within,
+        begins.frame.some,
+      );
+    }
