@@ -5,10 +5,11 @@ use Rattle.std.proofs.Common.{subst, suc, sym, true, zero, zero-add, ℕ, [], �
 use Rattle.std.proofs.{Common.{◌||◌, ◌∙◌, ◌∷◌, ◌≡◌, ◌≤◌}, lemmas.Bool.{eq-eqb, ne_eqb}}
 use Rattle.std.specs.List.{cons_option, enumerate_from}
 use Rattle.moved_gains.specs.{Edited.is_lost_at, Moving.row_end}
-use Rattle.sync_survey.{proofs.RunsLemmas.{item_of-is, run-ends}, specs.Items.size_of}
+use Rattle.sync_survey.proofs.RunsLemmas.{item_of-is, run-ends}
+use Rattle.sync_survey.{proofs.SurveyPartsLemmas.{frames_from, told_from}, specs.Items.size_of}
 use Rattle.sync_survey.specs.{MainData.{is_lost, marked_row, marked_rows, row_of, rows_of}, Row.Row}
 use Rattle.sync_survey.specs.Runs.{AreEndToEnd, frame_of_item, frames_of, PlacedItem}
-use Rattle.sync_survey.specs.{Walk.{numbered_frames, stream_run}, declared.items.Item.Item}
+use Rattle.sync_survey.specs.{Walk.{head_of, numbered_frames, stream_run}, declared.items.Item.Item}
 use Rattle.sync_survey.specs.declared.items.Item.TheVariants.{Block, Frame, Zero}
 use Rattle.sync_survey.specs.declared.places.{Head.Head, PlacedFrame.PlacedFrame, Start.Start}
 use Rattle.sync_survey.specs.declared.runs.Region.{Region, TheVariants.Stream}
@@ -211,3 +212,9 @@ walk_rising file start o =
     let stream = stream_run file start in
     numbered_rising file start.first.offset o (frames_of stream.items) (items_rising file Stream
     start.first.offset stream.items stream.stop (run-ends Stream file start.first.offset))
+
+-- the frames that a survey tells are marked as lost exactly at the offsets of lost frames
+pub told_rows : (file : List ℕ) (start : Start) → (told_from file start).frames
+    ≡ rows_by (is_lost_at (told_from file start).frames) file (frames_from file start)
+told_rows file start = marked-by file (head_of file start.first) start.first.offset
+    (frames_from file start) (walk_rising file start (head_of file start.first))

@@ -3,12 +3,12 @@ use Rattle.std.proofs.Common.{ap, append-nil, append_assoc, ap₂, arith, Bool, 
 use Rattle.std.proofs.Common.{length-append, length-drop, List, None, Ok, Option, option_to_list}
 use Rattle.std.proofs.Common.{refl, Some, subst, sym, take, take-append-drop, ℕ, [], ◌++◌, ◌+◌, ◌-◌}
 use Rattle.std.proofs.{Common.{◌∙◌, ◌∷◌, ◌≡◌, ◌≤◌}, Math.Seq.take-add}
-use Rattle.std.proofs.lemmas.List.{drop-drop, take_all, take_at}
+use Rattle.std.proofs.lemmas.List.{drop-drop, drop_all, take_all, take_at}
 use Rattle.frame_header.specs.{Fields.HeaderFields, Tables.{class_of, length_of}}
 use Rattle.moved_gains.proofs.EditedItemLemmas.{moved-cons, moved-nil}
-use Rattle.moved_gains.proofs.FoundTagLemmas.{survey_of-surveyed}
-use Rattle.moved_gains.proofs.LostOffsetLemmas.{EndBy, items_end, marked-by, rows_by, walk_rising}
-use Rattle.moved_gains.proofs.WholeFileLemmas.{front_end-is}
+use Rattle.moved_gains.proofs.FoundTagLemmas.{survey_of-surveyed, surveyed-length}
+use Rattle.moved_gains.proofs.LostOffsetLemmas.{EndBy, items_end, rows_by, told_rows}
+use Rattle.moved_gains.proofs.ReadFileLemmas.{has_stream}
 use Rattle.moved_gains.specs.Edited.{edited_file, is_lost_at, moved_frame_unless_lost, moved_item}
 use Rattle.moved_gains.specs.{Edited.{moved_items, moved_stream}, Gains.moved_side}
 use Rattle.moved_gains.specs.Moving.{AreRowsOf, moved_row_bytes, row_end}
@@ -19,13 +19,13 @@ use Rattle.side_info.specs.declared.side.Side.{Side}
 use Rattle.sync_survey.proofs.ItemListLemmas.{ends-within}
 use Rattle.sync_survey.proofs.ItemsLemmas.{header_front-in_range, stands-at}
 use Rattle.sync_survey.proofs.RunsLemmas.{bytes-ends, cons_list, IsItemOf, item_of-is, run-ends}
-use Rattle.sync_survey.proofs.StartLemmas.{start-first, start-front}
-use Rattle.sync_survey.proofs.SurveyLemmas.{overhead-within, surveyed-is, walked}
-use Rattle.sync_survey.specs.Faults.{fields_from, survey_fields, SurveyFields}
-use Rattle.sync_survey.specs.{Items.{item_at, size_of}, MainData.{marked_rows, rows_of}, Row.Row}
+use Rattle.sync_survey.proofs.SurveyLemmas.{overhead-within}
+use Rattle.sync_survey.proofs.SurveyPartsLemmas.{frames_from, IsRead, surveyed-parts, told_from}
+use Rattle.sync_survey.specs.{Faults.{survey_fields, SurveyFields}, Items.{item_at, size_of}}
+use Rattle.sync_survey.specs.Row.{Row}
 use Rattle.sync_survey.specs.Runs.{AreEndToEnd, bytes_of_items, frame_of_item, frames_of}
-use Rattle.sync_survey.specs.{Runs.{item_bytes_in, item_run, PlacedItem}, Survey.survey_of}
-use Rattle.sync_survey.specs.{Walk.{numbered_frames, stream_run}, declared.items.Item.Item}
+use Rattle.sync_survey.specs.{Runs.{item_bytes_in, item_run, ItemRun, PlacedItem}, Survey.survey_of}
+use Rattle.sync_survey.specs.{Walk.{head_of, numbered_frames, stream_run}, declared.items.Item.Item}
 use Rattle.sync_survey.specs.declared.{items.Item.TheVariants.Frame, places.Head.Head}
 use Rattle.sync_survey.specs.declared.places.{PlacedFrame.PlacedFrame, Start.Start}
 use Rattle.sync_survey.specs.declared.runs.Region.{Region, TheVariants.{Front, Stream}}
@@ -201,47 +201,38 @@ front_bytes file =
 
 -- ---- the whole file
 
+written_from : (steps : ℕ → Steps) (file : List ℕ) (allowed : ℕ) (start : Start)
+    → IsRead file allowed start → take start.front_end file
+    ++ moved_from steps file start.first.offset (told_from file start).frames
+    ≡ edited_file steps file (told_from file start)
+unfolding edited_file
+written_from steps file allowed start read =
+    let has = has_stream file allowed start read in
+    let stream = stream_run file start in
+    let stop : stream.stop ≡ length file = ap (λ (r : ItemRun). r.stop) has.stream ∙ has.stop in
+    ap₂ (λ (l m : List ℕ). l ++ m) (ap (λ n. take n file) (sym has.front) ∙ sym (front_bytes file))
+    (ap (moved_from steps file start.first.offset) (told_rows file start)
+    ∙ behind_head steps (is_lost_at (told_from file start).frames) file (head_of file start.first)
+    stream.items start.first.offset stream.stop start.first.header
+    (run-ends Stream file start.first.offset) (drop_all stream.stop file (omega (arith, stop)))
+    has.first.is)
+
 -- the bytes up to the junk, and those from the first frame on with moved gains, are the edited file
 pub written-edited : (steps : ℕ → Steps) (file : List ℕ) (allowed : ℕ) (s : SurveyFields)
     → survey_fields file allowed ≡ Ok s
     → take s.junk file ++ moved_from steps file s.first s.frames ≡ edited_file steps file s
-unfolding edited_file
 written-edited steps file allowed s e =
-    let is = surveyed-is file allowed s e in
-    let walk = walked file allowed s is in
-    let first = start-first file is.start is.begins in
-    let junk : s.junk ≡ (item_run Front file 0).stop =
-    walk.junk_is ∙ start-front file is.start is.begins ∙ front_end-is file in
-    let lost = is_lost_at s.frames in
-    let marks : s.frames
-    ≡ rows_by lost file (numbered_frames s.head (frames_of (stream_run file is.start).items)) =
-    walk.frames_are
-    ∙ marked-by file s.head is.start.first.offset (numbered_frames s.head
-    (frames_of (stream_run file is.start).items)) (walk_rising file is.start s.head)
-    ∙ ap (λ rs. rows_by (is_lost_at rs) file
-    (numbered_frames s.head (frames_of (stream_run file is.start).items))) (sym walk.frames_are) in
-    let moved : moved_from steps file s.first s.frames
-    ≡ moved_stream steps lost file s.head (item_run Stream file s.first).items =
-    ap₂ (moved_from steps file) walk.first_is marks
-    ∙ behind_head steps lost file s.head (stream_run file is.start).items is.start.first.offset
-    (stream_run file is.start).stop is.start.first.header
-    (run-ends Stream file is.start.first.offset) walk.nothing_behind first.frame.is
-    ∙ ap (λ n. moved_stream steps lost file s.head (item_run Stream file n).items)
-    (sym walk.first_is) in
-    ap₂ (λ (l m : List ℕ). l ++ m) (ap (λ n. take n file) junk ∙ sym (front_bytes file)) moved
+    let parts = surveyed-parts file allowed s e in
+    subst (λ (t : SurveyFields). take t.junk file ++ moved_from steps file t.first t.frames
+    ≡ edited_file steps file t) parts.2 (written_from steps file allowed parts.0 parts.1)
 
 -- ---- a survey over a folder
-
-fields-length : (file : List ℕ) (start : Start) → (fields_from file start).length ≡ length file
-unfolding fields_from
-fields-length file start = refl
 
 -- a survey says how long the file is
 pub survey_of-length : (file : List ℕ) (allowed : ℕ) (s : SurveyFields)
     → survey_of file allowed ≡ Ok s → length file ≡ s.length
 survey_of-length file allowed s e =
-    let is = surveyed-is file allowed s (survey_of-surveyed file allowed s e) in
-    sym (fields-length file is.start) ∙ ap (λ (t : SurveyFields). t.length) is.fields_are
+    surveyed-length file allowed s (survey_of-surveyed file allowed s e)
 
 -- ---- the rows are those of the file
 
@@ -254,10 +245,7 @@ are_rows lost file (p ∷ ps) = (refl, are_rows lost file ps)
 pub survey_of-rows : (file : List ℕ) (allowed : ℕ) (s : SurveyFields)
     → survey_of file allowed ≡ Ok s → AreRowsOf file s.frames
 survey_of-rows file allowed s e =
-    let is = surveyed-is file allowed s (survey_of-surveyed file allowed s e) in
-    let walk = walked file allowed s is in
-    let frames = numbered_frames s.head (frames_of (stream_run file is.start).items) in
-    let marks =
-    marked-by file s.head is.start.first.offset frames (walk_rising file is.start s.head) in
-    subst (AreRowsOf file) (sym (walk.frames_are ∙ marks))
-    (are_rows (is_lost_at (marked_rows s.head (rows_of file frames))) file frames)
+    let parts = surveyed-parts file allowed s (survey_of-surveyed file allowed s e) in
+    subst (λ (t : SurveyFields). AreRowsOf file t.frames) parts.2
+    (subst (AreRowsOf file) (sym (told_rows file parts.0))
+    (are_rows (is_lost_at (told_from file parts.0).frames) file (frames_from file parts.0)))

@@ -10,7 +10,7 @@ use Rattle.frame_header.{proofs.HeaderLemmas.IsClass-class_of, specs.Fields.Head
 use Rattle.frame_header.specs.Tables.{class_of, length_of}
 use Rattle.moved_gains.proofs.FoundTagLemmas.{found_item, last_more}
 use Rattle.moved_gains.proofs.LostOffsetLemmas.{end_earlier, end_later, end_rises, EndBy, items_end}
-use Rattle.moved_gains.proofs.LostOffsetLemmas.{marked-by, rows_by, walk_rising}
+use Rattle.moved_gains.proofs.LostOffsetLemmas.{rows_by, told_rows}
 use Rattle.moved_gains.proofs.{MovedGainLemmas.IsShaped-moved, MovedRowLemmas.numbered_either}
 use Rattle.moved_gains.proofs.ReadFileLemmas.{has_stream, HasStream, later_run}
 use Rattle.moved_gains.proofs.{SplitItemLemmas.split-tag, TagReadingLemmas.place-some}
@@ -214,7 +214,7 @@ module _ (steps : ℕ → Steps) (file : List ℕ) (allowed : ℕ) (start : Star
   rows_told : s.frames
       ≡ rows_by lost file (numbered_frames head (start.first ∷ frames_of later.items))
   rows_told =
-      marked-by file head first (frames_from file start) (walk_rising file start head)
+      told_rows file start
       ∙ ap (λ (r : ItemRun). rows_by lost file (numbered_frames head (frames_of r.items)))
       has.stream
 

@@ -5,7 +5,7 @@ use Rattle.std.proofs.Common.{take, true, ℕ, [], ◌-◌, ◌∙◌, ◌∷◌
 use Rattle.bit_fields.specs.Bits.{AreBytes}
 use Rattle.moved_gains.proofs.EditedRunLemmas.{frames-moved, gap_of, lost_from, new_file}
 use Rattle.moved_gains.proofs.ImageLemmas.{AreImages, AreRight, own-right, own-side}
-use Rattle.moved_gains.proofs.LostOffsetLemmas.{marked-by, rows_by, walk_rising}
+use Rattle.moved_gains.proofs.LostOffsetLemmas.{rows_by, told_rows}
 use Rattle.moved_gains.proofs.{MovedFrameLemmas.{IsWhole, moved_whole}, MovedItemLemmas.no_steps}
 use Rattle.moved_gains.{proofs.RowLemmas.Each, specs.Gains.moved_side}
 use Rattle.moved_gains.specs.Moving.{moved_row_bytes, row_length}
@@ -75,11 +75,7 @@ frames_there file allowed s all e =
     from : (start : Start) → IsRead file allowed start
         → AreFramesOf file (told_from file start).frames
     from start read =
-        let told : (told_from file start).frames
-        ≡ rows_by (lost_from file start) file (frames_from file start) =
-        marked-by file (head_of file start.first) start.first.offset (frames_from file start)
-        (walk_rising file start (head_of file start.first)) in
-        subst (AreFramesOf file) (sym told)
+        subst (AreFramesOf file) (sym (told_rows file start))
         (each_there (λ at. at - gap_of start) no_steps (lost_from file start) file
         (new_file no_steps file allowed start all read) (frames_from file start) all
         (frames-moved no_steps file allowed start all read)
