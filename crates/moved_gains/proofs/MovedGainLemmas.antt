@@ -208,6 +208,13 @@ none_each (Some x) b e = absurd cc
 none_both : (a b : Option OutOfRange) → a ≡ None → b ≡ None → option_or a b ≡ None
 none_both a b p q = ap₂ option_or p q
 
+-- the first of the four gains that would leave the range
+abbrev first_out_of : Steps → Side → Option OutOfRange
+first_out_of steps s =
+    option_or (gain_out_of_range steps.left s 0 0)
+    (option_or (gain_out_of_range steps.right s 0 1)
+    (option_or (gain_out_of_range steps.left s 1 0) (gain_out_of_range steps.right s 1 1)))
+
 -- the four gains stay within the range
 pub record AreFree (left right : ℤ) (g h k l : Granule) : Type 0 where
   pub first : is_stuck left g ≡ false
@@ -222,24 +229,19 @@ module _ (steps : Steps) (m p a b : ℕ) (g h k l : Granule) where
   unfolding side_out_of_range
   free-parts strict free =
       let s = side_with m p a b g h k l in
+      let last =
+      option_or (gain_out_of_range steps.left s 1 0) (gain_out_of_range steps.right s 1 1) in
       let all = none_each (gain_out_of_range steps.left s 0 0)
-      (option_or (gain_out_of_range steps.right s 0 1)
-      (option_or (gain_out_of_range steps.left s 1 0) (gain_out_of_range steps.right s 1 1)))
-      (sym (ap (λ w. cond w None
-      (option_or (gain_out_of_range steps.left s 0 0)
-      (option_or (gain_out_of_range steps.right s 0 1)
-      (option_or (gain_out_of_range steps.left s 1 0) (gain_out_of_range steps.right s 1 1)))))
-      strict) ∙ free) in
-      let behind = none_each (gain_out_of_range steps.right s 0 1)
-      (option_or (gain_out_of_range steps.left s 1 0) (gain_out_of_range steps.right s 1 1))
-      all.1 in
-      let last = none_each (gain_out_of_range steps.left s 1 0)
+      (option_or (gain_out_of_range steps.right s 0 1) last)
+      (sym (ap (λ w. cond w None (first_out_of steps s)) strict) ∙ free) in
+      let behind = none_each (gain_out_of_range steps.right s 0 1) last all.1 in
+      let two = none_each (gain_out_of_range steps.left s 1 0)
       (gain_out_of_range steps.right s 1 1) behind.1 in
       record {
         first = free_of _ _ all.0;
         second = free_of _ _ behind.0;
-        third = free_of _ _ last.0;
-        fourth = free_of _ _ last.1;
+        third = free_of _ _ two.0;
+        fourth = free_of _ _ two.1;
       }
 
   -- if each of the four gains can move, none would leave the range
@@ -248,11 +250,7 @@ module _ (steps : Steps) (m p a b : ℕ) (g h k l : Granule) where
   unfolding side_out_of_range
   free-whole free strict =
       let s = side_with m p a b g h k l in
-      ap (λ w. cond w None
-      (option_or (gain_out_of_range steps.left s 0 0)
-      (option_or (gain_out_of_range steps.right s 0 1)
-      (option_or (gain_out_of_range steps.left s 1 0) (gain_out_of_range steps.right s 1 1)))))
-      strict
+      ap (λ w. cond w None (first_out_of steps s)) strict
       ∙ none_both _ _ (none_of _ _ free.first) (none_both _ _ (none_of _ _ free.second)
       (none_both _ _ (none_of _ _ free.third) (none_of _ _ free.fourth)))
 
@@ -276,11 +274,7 @@ module _ (steps : Steps) (m p a b : ℕ) (g h k l : Granule) where
 -- with wrap no gain ever leaves the range
 pub wrapped-free : (steps : Steps) (s : Side) → steps.wrap ≡ true → side_out_of_range steps s ≡ None
 unfolding side_out_of_range
-wrapped-free steps s wraps =
-    ap (λ w. cond w None
-    (option_or (gain_out_of_range steps.left s 0 0) (option_or (gain_out_of_range steps.right s 0
-    1)
-    (option_or (gain_out_of_range steps.left s 1 0) (gain_out_of_range steps.right s 1 1))))) wraps
+wrapped-free steps s wraps = ap (λ w. cond w None (first_out_of steps s)) wraps
 
 abbrev ThenGoal : Steps → Steps → Steps → Side → Type 0
 ThenGoal one two all s =
