@@ -342,36 +342,37 @@ all-decided (Told f) names s ss b bs d can is front known = record {
   told = all-told f names s ss b bs d can is front known;
 }
 
--- the first input by its place
-module _ (files : Files) (names : List (List ℕ)) {s : SurveyFields} {b : Beginning}
-    {rest : List SurveyFields} (d : Deciding) where
-  -- if all inputs are decided, and then the front, the whole join is decided
-  pub at-end : (ss : List SurveyFields) (bs : List Beginning) → CanBeDecided files names ss bs
-      → drop 0 ss ≡ s ∷ rest → slice_get bs 0 ≡ Some b → (count : ℕ) → count ≡ length ss
-      → IsDecidingTo files names ss bs count d → AreNeedsOfClass s.class d.needs.items
-      × FitsBehind (window_of s.class.version) (window_of s.class.version) d.needs.items
-      × (take (length s.frames) d.needs.items ≡ input_needs s)
-      × ((front : ℕ) → IsFront s b d.needs.items front → IsRunDecided files names ss bs
-      (record { front = front; joints = d.joints; needs = d.needs }))
-  at-end [] bs can e there count all is = absurd cc
-  at-end (t ∷ ss) [] can e there count all is = absurd cc
-  at-end (t ∷ ss) (c ∷ bs) can e there count all is =
-      let surveys : t ≡ s = cc in
-      let beginnings : c ≡ b = cc in
-      let now : IsDecidingTo files names (t ∷ ss) (c ∷ bs) (length (t ∷ ss)) d =
-      subst (λ n. IsDecidingTo files names (t ∷ ss) (c ∷ bs) n d) all is in (
-        subst (λ (u : SurveyFields). AreNeedsOfClass u.class d.needs.items) surveys
-            (front-same files names t ss c bs d can now),
-        subst (λ (u : SurveyFields). FitsBehind (window_of u.class.version)
-            (window_of u.class.version) d.needs.items) surveys
-            (front-fits files names t ss c bs d can now),
-        subst (λ (u : SurveyFields). take (length u.frames) d.needs.items ≡ input_needs u) surveys
-            (front-first files names t ss c bs d can now),
-        λ front known.
-            all-decided files names t ss c bs d can now front
-            (subst (λ (u : SurveyFields). IsFront u c d.needs.items front) (sym surveys)
-            (subst (λ (e : Beginning). IsFront s e d.needs.items front) (sym beginnings) known)),
-      )
+-- what is known when all inputs are decided: the needs of the run are of the first input's class and
+-- fit after a whole window, those of the first input come first, and the front decides the join
+pub record AreAllDecided (files : Files) (names : List (List ℕ)) (ss : List SurveyFields)
+    (bs : List Beginning) (s : SurveyFields) (b : Beginning) (d : Deciding) : Type 0 where
+  pub same : AreNeedsOfClass s.class d.needs.items
+  pub fits : FitsBehind (window_of s.class.version) (window_of s.class.version) d.needs.items
+  pub first : take (length s.frames) d.needs.items ≡ input_needs s
+  pub joined : (front : ℕ) → IsFront s b d.needs.items front → IsRunDecided files names ss bs
+      (record { front = front; joints = d.joints; needs = d.needs })
+
+-- all inputs are decided, the first of which is given by its place
+pub at-end : (files : Files) (names : List (List ℕ)) {s : SurveyFields} {b : Beginning}
+    {rest : List SurveyFields} (d : Deciding) (ss : List SurveyFields) (bs : List Beginning)
+    → CanBeDecided files names ss bs → drop 0 ss ≡ s ∷ rest → slice_get bs 0 ≡ Some b
+    → (count : ℕ) → count ≡ length ss → IsDecidingTo files names ss bs count d
+    → AreAllDecided files names ss bs s b d
+at-end files names d [] bs can e there count all is = absurd cc
+at-end files names d (t ∷ ss) [] can e there count all is = absurd cc
+at-end files names {s} {b} d (t ∷ ss) (c ∷ bs) can e there count all is =
+    let surveys : t ≡ s = cc in
+    let beginnings : c ≡ b = cc in
+    let now : IsDecidingTo files names (t ∷ ss) (c ∷ bs) (length (t ∷ ss)) d =
+    subst (λ n. IsDecidingTo files names (t ∷ ss) (c ∷ bs) n d) all is in
+    subst (λ (u : SurveyFields). AreAllDecided files names (t ∷ ss) (c ∷ bs) u b d) surveys
+    (subst (λ (e : Beginning). AreAllDecided files names (t ∷ ss) (c ∷ bs) t e d) beginnings
+    (record {
+      same = front-same files names t ss c bs d can now;
+      fits = front-fits files names t ss c bs d can now;
+      first = front-first files names t ss c bs d can now;
+      joined = all-decided files names t ss c bs d can now;
+    }))
 
 -- ---- the next input
 

@@ -1,12 +1,14 @@
 -- The first input begins, and each of the others is decided after those before it.
-use Rattle.std.proofs.Common.{ap₂, arith, false, length, map, None, refl, string_bytes, ◌<◌, ◌∙◌}
+use Rattle.std.proofs.Common.{ap₂, arith, false, get_or, length, List, map, None, refl, string_bytes, ◌<◌, ◌∙◌}
 use Rattle.std.proofs.{Common.◌≡◌, lemmas.{List.length-map, Slice.Zip.AllZip-long}}
 use Rattle.commands.proofs.RefusingLemmas.{err_with}
-use Rattle.join_edits.proofs.DecideAllLemmas.{at-end, begun-at, can-begin-at, get-here}
+use Rattle.join_edits.proofs.DecideAllLemmas.{AreAllDecided, at-end, begun-at, can-begin-at, get-here}
 use Rattle.join_edits.proofs.{KnownLemmas.get-at, PlanLemmas.can-some, ReadFaultLemmas.fault-later}
 use Rattle.join_edits.specs.declared.beginnings.Beginning.{Beginning}
 use Rattle.outside.specs.Seen.{seen_folder}
-use Rattle.sync_survey.specs.Faults.{survey_view}
+use Rattle.sync_survey.specs.Faults.{survey_view, SurveyFields}
+use Rattle.join_edits.proofs.decided.decide_all.Given as given
+use Rattle.join_edits.proofs.decided.decide_all.Goals.{After-as_slice}
 use Rattle.join_edits.proofs.decided.decide_all.Goals as goal
 
 abbrev no-beginning : Beginning
@@ -55,59 +57,47 @@ pub front_of-front-requires-clause-begin : goal.front_of-front-requires-clause-b
 front_of-front-requires-clause-begin g c =
     can-begin-at _ _ _ _ c.requires.can c.known_at-first.ensures
 
+-- all inputs are decided
+module _ (g : given.Over) (c : After-as_slice g) where
+  abbrev ss : List SurveyFields
+  ss = map survey_view c.args.sources.now.surveys.now
+
+  abbrev bs : List Beginning
+  bs = c.args.beginnings.now
+
+  count : c.loop-number.number ≡ length ss
+  count =
+      omega (
+        arith,
+        c.loop-number-test.false,
+        c.loop-number.invariant.within,
+        AllZip-long _ _ _ c.requires.can.known,
+        length-map c.args.sources.now.inputs.now string_bytes,
+      )
+
+  within : 0 < length bs
+  within = omega (arith, can-some ss c.requires.can.joined, c.requires.can.begun)
+
+  decided : AreAllDecided (g.D.Folder.seen c.args.folder.now).files
+      (map string_bytes c.args.sources.now.inputs.now) ss bs
+      (survey_view c.known_at-first.result.now) (get_or bs 0 no-beginning) c.loop-number.deciding
+  decided =
+      at-end _ _ c.loop-number.deciding ss bs c.requires.can c.known_at-first.ensures (get-here bs 0
+      no-beginning within) c.loop-number.number count c.loop-number.invariant.decided
+
 pub front_of-front-requires-clause-fits : goal.front_of-front-requires-clause-fits
 front_of-front-requires-clause-fits g c =
-    let ss = map survey_view c.args.sources.now.surveys.now in
-    let bs = c.args.beginnings.now in
-    let count : c.loop-number.number ≡ length ss =
-    omega (
-      arith,
-      c.loop-number-test.false,
-      c.loop-number.invariant.within,
-      AllZip-long _ _ _ c.requires.can.known,
-      length-map c.args.sources.now.inputs.now string_bytes,
-    ) in
-    let within : 0 < length bs =
-    omega (arith, can-some ss c.requires.can.joined, c.requires.can.begun) in
     rw (c.as_slice.ensures.value)
-    (at-end _ _ c.loop-number.deciding ss bs c.requires.can c.known_at-first.ensures (get-here bs 0
-    no-beginning within) c.loop-number.number count c.loop-number.invariant.decided).1
+    (decided g (goal.at.front_of-front-requires-clause-fits g c).After-as_slice).fits
 
 pub front_of-front-requires-clause-first : goal.front_of-front-requires-clause-first
 front_of-front-requires-clause-first g c =
-    let ss = map survey_view c.args.sources.now.surveys.now in
-    let bs = c.args.beginnings.now in
-    let count : c.loop-number.number ≡ length ss =
-    omega (
-      arith,
-      c.loop-number-test.false,
-      c.loop-number.invariant.within,
-      AllZip-long _ _ _ c.requires.can.known,
-      length-map c.args.sources.now.inputs.now string_bytes,
-    ) in
-    let within : 0 < length bs =
-    omega (arith, can-some ss c.requires.can.joined, c.requires.can.begun) in
     rw (c.as_slice.ensures.value)
-    (at-end _ _ c.loop-number.deciding ss bs c.requires.can c.known_at-first.ensures (get-here bs 0
-    no-beginning within) c.loop-number.number count c.loop-number.invariant.decided).2
+    (decided g (goal.at.front_of-front-requires-clause-first g c).After-as_slice).first
 
 pub returns-clause-decided : goal.returns-clause-decided
 returns-clause-decided g c =
-    let ss = map survey_view c.args.sources.now.surveys.now in
-    let bs = c.args.beginnings.now in
-    let count : c.loop-number.number ≡ length ss =
-    omega (
-      arith,
-      c.loop-number-test.false,
-      c.loop-number.invariant.within,
-      AllZip-long _ _ _ c.requires.can.known,
-      length-map c.args.sources.now.inputs.now string_bytes,
-    ) in
-    let within : 0 < length bs =
-    omega (arith, can-some ss c.requires.can.joined, c.requires.can.begun) in
-    (at-end _ _ c.loop-number.deciding ss bs c.requires.can c.known_at-first.ensures
-    (get-here bs 0 _ within) c.loop-number.number count c.loop-number.invariant.decided).3
-    c.front_of-front.result
+    (decided g (goal.at.returns-clause-decided g c).After-as_slice).joined c.front_of-front.result
     (record {
       is = λ first frames brings is. c.front_of-front.ensures.front first frames brings
           (c.as_slice.ensures.value ∙ is);

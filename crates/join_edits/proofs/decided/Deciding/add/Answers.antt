@@ -132,16 +132,25 @@ module _ (g : given.Over) (c : After-brought-input g) where
       (subst (λ (k : ClassFields). IfSome c.brought-input.result.played (AreCounted k
       (length borrowed))) c.class.ensures c.brought-input.ensures.counted)
 
+  abbrev beginning : Beginning
+  beginning = get_or c.args.beginnings.now c.args.number no-beginning
+
+  begun-here : slice_get c.args.beginnings.now c.args.number ≡ Some beginning
+  begun-here = get-here c.args.beginnings.now c.args.number _ begun-within
+
+  played : c.brought-input.result.played
+      ≡ counted_positions beginning.head s.class (length s.frames)
+  played =
+      c.brought-input.ensures.played
+      ∙ ap₂ (λ (k : ClassFields) n. counted_positions beginning.head k n) c.class.ensures long
+
   next-of : IsNextInput (map survey_view c.args.sources.now.surveys.now)
       c.args.number c.args.self.now.run c.brought-input.result
   next-of =
       is-next _ (map string_bytes c.args.sources.now.inputs.now)
       (map survey_view c.args.sources.now.surveys.now)
       c.args.beginnings.now c.args.number c.args.self.now c.requires.can c.requires.before s found _
-      (get-here c.args.beginnings.now c.args.number _ begun-within)
-      c.brought-input.result parts c.brought-input.ensures.blank
-      (c.brought-input.ensures.played ∙ ap₂ (λ (k : ClassFields) n. counted_positions (get_or
-      c.args.beginnings.now c.args.number no-beginning).head k n) c.class.ensures long) counted
+      begun-here c.brought-input.result parts c.brought-input.ensures.blank played counted
 
   of : IsInputOf (map survey_view c.args.sources.now.surveys.now)
       c.args.beginnings.now c.args.number c.requires.before.class c.brought-input.result
@@ -149,10 +158,7 @@ module _ (g : given.Over) (c : After-brought-input g) where
       input-of _ (map string_bytes c.args.sources.now.inputs.now)
       (map survey_view c.args.sources.now.surveys.now)
       c.args.beginnings.now c.args.number c.args.self.now c.requires.can c.requires.before s found _
-      (get-here c.args.beginnings.now c.args.number _ begun-within)
-      c.brought-input.result parts c.brought-input.ensures.blank
-      (c.brought-input.ensures.played ∙ ap₂ (λ (k : ClassFields) n. counted_positions (get_or
-      c.args.beginnings.now c.args.number no-beginning).head k n) c.class.ensures long) counted
+      begun-here c.brought-input.result parts c.brought-input.ensures.blank played counted
 
 pub alike-requires-clause-next : goal.alike-requires-clause-next
 alike-requires-clause-next g c =
