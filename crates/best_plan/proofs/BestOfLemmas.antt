@@ -245,12 +245,12 @@ unfolding cheapest_plan
 no-plans items [] none q has = has
 no-plans items (p ∷ plans) none q has = absurd cc
 
-cheapest-is : (items : List PlanItem) (plans : List (List Placed)) (found : List Placed)
+cheapest_plan-is : (items : List PlanItem) (plans : List (List Placed)) (found : List Placed)
     → cheapest_plan items plans ≡ Some found → IsCheapest items plans found
 unfolding cheapest_plan
-cheapest-is items [] found e = absurd cc
-cheapest-is items (placed ∷ plans) found e =
-    of (cheapest_plan items plans) refl e (λ other is. cheapest-is items plans other is)
+cheapest_plan-is items [] found e = absurd cc
+cheapest_plan-is items (placed ∷ plans) found e =
+    of (cheapest_plan items plans) refl e (λ other is. cheapest_plan-is items plans other is)
   where
     keeps : ((q : List Placed) → Among plans q
         → IsNotBehind (cost_of items placed) (cost_of items q))
@@ -326,7 +326,7 @@ plans-best window items placed ordered is = of (best_placement window items) ref
     of : (o : Option (List Placed)) → best_placement window items ≡ o → o ≡ Some placed
     of None none = absurd (no-plans items (plans_of window items) none own.0 own.1)
     of (Some found) e =
-        let cheap = cheapest-is items (plans_of window items) found e in
+        let cheap = cheapest_plan-is items (plans_of window items) found e in
         let also = from-plans window items found cheap.among in
         let chosen = chosen-for items found also.slots in
         let before = subst (λ l. IsNotBehind (cost_of items found) (sum l ∷ l))
@@ -365,7 +365,7 @@ best-plans window items placed e = record {
 }
   where
     cheap : IsCheapest items (plans_of window items) placed
-    cheap = cheapest-is items (plans_of window items) placed e
+    cheap = cheapest_plan-is items (plans_of window items) placed e
 
     laid : IsLaid window items placed
     laid = from-plans window items placed cheap.among

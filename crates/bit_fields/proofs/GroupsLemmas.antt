@@ -21,39 +21,39 @@ pub sum-cons : (width : ℕ) (widths : List ℕ) → sum (width ∷ widths) ≡ 
 sum-cons width widths = sum_by-cons (λ n. n) width widths
 
 -- the bits of numbers in groups are the first number in its width, followed by the bits of the rest
-pub spelled-cons : (width n : ℕ) (widths ns : List ℕ)
+pub group_bits-cons : (width n : ℕ) (widths ns : List ℕ)
     → group_bits (width ∷ widths) (n ∷ ns) ≡ bits_of width n ++ group_bits widths ns
 unfolding group_bits
-spelled-cons width n widths ns = refl
+group_bits-cons width n widths ns = refl
 
 -- there are as many numbers that fit in groups as there are groups
-pub length-Fits : (widths ns : List ℕ) → NumbersFit widths ns → length ns ≡ length widths
-length-Fits [] [] h = refl
-length-Fits [] (n ∷ ns) h = absurd h
-length-Fits (width ∷ widths) [] h = absurd h
-length-Fits (width ∷ widths) (n ∷ ns) h = ap suc (length-Fits widths ns h.1)
+pub length-NumbersFit : (widths ns : List ℕ) → NumbersFit widths ns → length ns ≡ length widths
+length-NumbersFit [] [] h = refl
+length-NumbersFit [] (n ∷ ns) h = absurd h
+length-NumbersFit (width ∷ widths) [] h = absurd h
+length-NumbersFit (width ∷ widths) (n ∷ ns) h = ap suc (length-NumbersFit widths ns h.1)
 
 -- as many numbers as groups are spelled in as many bits as the groups have together
-pub length-spelled : (widths ns : List ℕ) → length ns ≡ length widths
+pub length-group_bits : (widths ns : List ℕ) → length ns ≡ length widths
     → length (group_bits widths ns) ≡ sum widths
 unfolding group_bits
-length-spelled [] ns h = refl
-length-spelled (width ∷ widths) [] h = absurd (omega arith)
-length-spelled (width ∷ widths) (n ∷ ns) h =
+length-group_bits [] ns h = refl
+length-group_bits (width ∷ widths) [] h = absurd (omega arith)
+length-group_bits (width ∷ widths) (n ∷ ns) h =
     let rest : length (group_bits widths ns) ≡ sum widths =
-    length-spelled widths ns (omega arith) in
+    length-group_bits widths ns (omega arith) in
     let both : sum (width ∷ widths) ≡ width + sum widths = sum-cons width widths in
     omega (arith, length-append (bits_of width n) (group_bits widths ns), length-bits_of width n)
 
 -- ---- zeros and ones, and numbers that fit
 -- numbers in groups are spelled by zeros and ones
-pub AreBits-spelled : (widths ns : List ℕ) → AreBits (group_bits widths ns)
+pub AreBits-group_bits : (widths ns : List ℕ) → AreBits (group_bits widths ns)
 unfolding group_bits
-AreBits-spelled [] ns = tt
-AreBits-spelled (width ∷ widths) [] = tt
-AreBits-spelled (width ∷ widths) (n ∷ ns) =
+AreBits-group_bits [] ns = tt
+AreBits-group_bits (width ∷ widths) [] = tt
+AreBits-group_bits (width ∷ widths) (n ∷ ns) =
     AreBelow-append 2 (bits_of width n) (group_bits widths ns) (AreBits-bits_of width n)
-    (AreBits-spelled widths ns)
+    (AreBits-group_bits widths ns)
 
 -- a group of `width` bits is below 2 ^ width
 pub group-below : (from width : ℕ) (bs : List ℕ) → AreBits bs → group from width bs < 2 ^ width
@@ -64,57 +64,60 @@ group-below from width bs h =
     (AreBelow-take 2 width (drop from bs) (AreBelow-drop 2 from bs h))) (pow_mono few)
 
 -- the numbers of groups of bits fit in these groups
-pub Fits-numbers_at : (widths bs : List ℕ) → AreBits bs → NumbersFit widths (numbers_at widths bs)
+pub NumbersFit-numbers_at : (widths bs : List ℕ) → AreBits bs
+    → NumbersFit widths (numbers_at widths bs)
 unfolding numbers_at group
-Fits-numbers_at [] bs h = tt
-Fits-numbers_at (width ∷ widths) bs h =
-    (group-below 0 width bs h, Fits-numbers_at widths (drop width bs) (AreBelow-drop 2 width bs h))
+NumbersFit-numbers_at [] bs h = tt
+NumbersFit-numbers_at (width ∷ widths) bs h = (
+  group-below 0 width bs h,
+  NumbersFit-numbers_at widths (drop width bs) (AreBelow-drop 2 width bs h),
+)
 
 -- ---- there and back
 -- numbers that fit are read from the bits that spell them, whatever follows
-pub numbers_at-spelled_more : (widths ns more : List ℕ) → NumbersFit widths ns
+pub numbers_at-group_bits_more : (widths ns more : List ℕ) → NumbersFit widths ns
     → numbers_at widths (group_bits widths ns ++ more) ≡ ns
 unfolding numbers_at group_bits
-numbers_at-spelled_more [] [] more h = refl
-numbers_at-spelled_more [] (n ∷ ns) more h = absurd h
-numbers_at-spelled_more (width ∷ widths) [] more h = absurd h
-numbers_at-spelled_more (width ∷ widths) (n ∷ ns) more h =
+numbers_at-group_bits_more [] [] more h = refl
+numbers_at-group_bits_more [] (n ∷ ns) more h = absurd h
+numbers_at-group_bits_more (width ∷ widths) [] more h = absurd h
+numbers_at-group_bits_more (width ∷ widths) (n ∷ ns) more h =
     let l : length (bits_of width n) ≡ width = length-bits_of width n in
     rw append_assoc
     (ap₂ (λ m ms. m ∷ ms)
     (ap number (take_at (bits_of width n) (group_bits widths ns ++ more) width l)
     ∙ number-bits_of-below width n h.0)
     (ap (numbers_at widths) (drop_at (bits_of width n) (group_bits widths ns ++ more) width l)
-    ∙ numbers_at-spelled_more widths ns more h.1))
+    ∙ numbers_at-group_bits_more widths ns more h.1))
 
 -- the same where nothing follows
-pub numbers_at-spelled : (widths ns : List ℕ) → NumbersFit widths ns
+pub numbers_at-group_bits : (widths ns : List ℕ) → NumbersFit widths ns
     → numbers_at widths (group_bits widths ns) ≡ ns
-numbers_at-spelled widths ns h =
+numbers_at-group_bits widths ns h =
     ap (numbers_at widths) (sym (append-nil (group_bits widths ns)))
-    ∙ numbers_at-spelled_more widths ns [] h
+    ∙ numbers_at-group_bits_more widths ns [] h
 
 -- the first bits are those that the numbers of the groups spell
-pub spelled-numbers_at_front : (widths bs : List ℕ) → AreBits bs → sum widths ≤ length bs
+pub group_bits-numbers_at_front : (widths bs : List ℕ) → AreBits bs → sum widths ≤ length bs
     → group_bits widths (numbers_at widths bs) ≡ take (sum widths) bs
 unfolding numbers_at group_bits
-spelled-numbers_at_front [] bs all h = refl
-spelled-numbers_at_front (width ∷ widths) bs all h =
+group_bits-numbers_at_front [] bs all h = refl
+group_bits-numbers_at_front (width ∷ widths) bs all h =
     let both : sum (width ∷ widths) ≡ width + sum widths = sum-cons width widths in
     let l : length (take width bs) ≡ width = length-take-le width bs (omega arith) in
     let m : sum widths ≤ length (drop width bs) = simp length-drop (omega arith) in
     ap₂ (λ cs ds. cs ++ ds)
     (ap (λ w. bits_of w (number (take width bs))) (sym l)
     ∙ bits_of-number (take width bs) (AreBelow-take 2 width bs all))
-    (spelled-numbers_at_front widths (drop width bs) (AreBelow-drop 2 width bs all) m)
+    (group_bits-numbers_at_front widths (drop width bs) (AreBelow-drop 2 width bs all) m)
     ∙ sym (take-add width (sum widths) bs)
     ∙ ap (λ n. take n bs) (sym both)
 
 -- the numbers of the groups that bits are spell these bits
-pub spelled-numbers_at : (widths bs : List ℕ) → AreBits bs → length bs ≡ sum widths
+pub group_bits-numbers_at : (widths bs : List ℕ) → AreBits bs → length bs ≡ sum widths
     → group_bits widths (numbers_at widths bs) ≡ bs
-spelled-numbers_at widths bs all h =
-    spelled-numbers_at_front widths bs all (omega arith) ∙ take_all (sum widths) bs (omega arith)
+group_bits-numbers_at widths bs all h =
+    group_bits-numbers_at_front widths bs all (omega arith) ∙ take_all (sum widths) bs (omega arith)
 
 -- ---- groups that follow others
 -- the numbers of joined groups are the numbers of the first, followed by those of the groups after
@@ -130,14 +133,14 @@ numbers_at-append (width ∷ widths) more bs =
     (drop-drop (sum widths) width bs ∙ ap (λ n. drop n bs) (sym (sum-cons width widths))))
 
 -- the bits of joined groups are the bits of the first followed by the bits of the others
-pub spelled-append : (widths more ns ms : List ℕ) → length ns ≡ length widths
+pub group_bits-append : (widths more ns ms : List ℕ) → length ns ≡ length widths
     → group_bits (widths ++ more) (ns ++ ms) ≡ group_bits widths ns ++ group_bits more ms
 unfolding group_bits
-spelled-append [] more [] ms h = refl
-spelled-append [] more (n ∷ ns) ms h = absurd (omega arith)
-spelled-append (width ∷ widths) more [] ms h = absurd (omega arith)
-spelled-append (width ∷ widths) more (n ∷ ns) ms h =
-    ap (λ bs. bits_of width n ++ bs) (spelled-append widths more ns ms (omega arith))
+group_bits-append [] more [] ms h = refl
+group_bits-append [] more (n ∷ ns) ms h = absurd (omega arith)
+group_bits-append (width ∷ widths) more [] ms h = absurd (omega arith)
+group_bits-append (width ∷ widths) more (n ∷ ns) ms h =
+    ap (λ bs. bits_of width n ++ bs) (group_bits-append widths more ns ms (omega arith))
     ∙ sym (append_assoc (bits_of width n) (group_bits widths ns) (group_bits more ms))
 
 -- ---- only the bits of the groups count
@@ -294,13 +297,13 @@ joined-below (width ∷ widths) (n ∷ ns) h =
     (mul-add-lt n (2 ^ sum widths) (joined widths ns) (2 ^ width) h.0 (joined-below widths ns h.1))
 
 -- numbers in groups are spelled by the bits of the one number that joins them
-pub spelled-joined : (widths ns : List ℕ) → NumbersFit widths ns
+pub group_bits-joined : (widths ns : List ℕ) → NumbersFit widths ns
     → group_bits widths ns ≡ bits_of (sum widths) (joined widths ns)
 unfolding group_bits joined bits_of
-spelled-joined [] [] h = refl
-spelled-joined [] (n ∷ ns) h = absurd h
-spelled-joined (width ∷ widths) [] h = absurd h
-spelled-joined (width ∷ widths) (n ∷ ns) h =
-    ap (λ bs. bits_of width n ++ bs) (spelled-joined widths ns h.1)
+group_bits-joined [] [] h = refl
+group_bits-joined [] (n ∷ ns) h = absurd h
+group_bits-joined (width ∷ widths) [] h = absurd h
+group_bits-joined (width ∷ widths) (n ∷ ns) h =
+    ap (λ bs. bits_of width n ++ bs) (group_bits-joined widths ns h.1)
     ∙ sym (bits_of-cat width (sum widths) n (joined widths ns) (joined-below widths ns h.1))
     ∙ ap (λ k. bits_of k (n * 2 ^ sum widths + joined widths ns)) (sym (sum-cons width widths))

@@ -17,7 +17,7 @@ use Rattle.commands.specs.declared.fault.Refusal.{Refusal}
 use Rattle.outside.proofs.FilesLemmas.{there_holds}
 use Rattle.outside.specs.Files.{Contents, Files, Holds, IfTold, IsFileThere, Told, Untold}
 use Rattle.outside.specs.Seen.{Seen, seen_folder}
-use Rattle.sync_survey.proofs.BytesFaultLemmas.{IsOfBytes, surveyed_of_bytes}
+use Rattle.sync_survey.proofs.BytesFaultLemmas.{IsOfBytes, survey_fields-of_bytes}
 use Rattle.sync_survey.proofs.FoldersLemmas.{survey_of-short}
 use Rattle.sync_survey.proofs.SurveyedFileLemmas.{survey_of-parts, survey_of-sound}
 use Rattle.sync_survey.specs.Faults.{HoldsStream, longest_file, survey_fields, SurveyFields}
@@ -237,7 +237,8 @@ module _ (make : Making) (stream : List ℕ → List StreamFrame)
   short_late bytes few =
       subst (λ r. IfErr (surveyed_result make bytes r) IsLateFault)
       (sym (survey_of-short bytes most_frames few))
-      (survey_late bytes (survey_fields bytes most_frames) (surveyed_of_bytes bytes most_frames))
+      (survey_late bytes (survey_fields bytes most_frames)
+      (survey_fields-of_bytes bytes most_frames))
 
   file_late : (o : Option (List ℕ)) (bytes : List ℕ) → o ≡ Some bytes → length bytes ≤ longest_file
       → IfErr (input_result make o) IsLateFault

@@ -6,8 +6,8 @@ use Rattle.commands.specs.SingleOutput.{clash_in, clash_or, command_result, inpu
 use Rattle.commands.specs.SingleOutput.{most_frames, one_command, Task, task_result}
 use Rattle.commands.specs.declared.fault.EditFault.{EditFault}
 use Rattle.outside.specs.Files.{Contents}
-use Rattle.sync_survey.proofs.FaultsLemmas.{marked-length}
-use Rattle.sync_survey.proofs.SurveyPartsLemmas.{frames_from, some_frames, surveyed-parts}
+use Rattle.sync_survey.proofs.FaultsLemmas.{length-marked_rows}
+use Rattle.sync_survey.proofs.SurveyPartsLemmas.{frames_from, some_frames, survey_fields-parts}
 use Rattle.sync_survey.{proofs.SurveyedFileLemmas.survey_of-parts, specs.Faults.SurveyFields}
 use Rattle.sync_survey.specs.{MainData.{row_of, rows_of}, Survey.survey_of, Walk.head_of}
 
@@ -83,10 +83,10 @@ of-made make files name file s there surveyed =
 pub some-frames : (file : List ℕ) (allowed : ℕ) (s : SurveyFields) → survey_of file allowed ≡ Ok s
     → 0 < length s.frames
 some-frames file allowed s e =
-    let parts = surveyed-parts file allowed s (survey_of-parts file allowed s e).1 in
+    let parts = survey_fields-parts file allowed s (survey_of-parts file allowed s e).1 in
     let frames = frames_from file parts.0 in
     let head = head_of file parts.0.first in
     let size : length s.frames ≡ length (rows_of file frames) =
     ap (λ (t : SurveyFields). length t.frames) (sym parts.2)
-    ∙ marked-length head (rows_of file frames) in
+    ∙ length-marked_rows head (rows_of file frames) in
     omega (arith, size, length-map frames (row_of file), some_frames file frames _ parts.1.end)

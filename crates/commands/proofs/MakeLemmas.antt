@@ -70,21 +70,21 @@ module _ (inputs : Inputs) (task : Task) (named : names_of inputs ≡ task.input
       ≡ clash_from (output ∷ []) 0 (names_of inputs) → found ≡ place → clash_in task output ≡ place
   clash_is output of is = ap (clash_from (output ∷ []) 0) (sym named) ∙ sym of ∙ is
 
-made_result-clash : (task : Task) (output : List ℕ) (place : ℕ) (f : Contents)
+task_result-clash : (task : Task) (output : List ℕ) (place : ℕ) (f : Contents)
     → clash_in task output ≡ Some place → task_result task output f ≡ Err (EqualNames place)
 unfolding task_result
-made_result-clash task output place f clash = rw clash refl
+task_result-clash task output place f clash = rw clash refl
 
-made_result-free : (task : Task) (output : List ℕ) (f : Contents) → clash_in task output ≡ None
+task_result-free : (task : Task) (output : List ℕ) (f : Contents) → clash_in task output ≡ None
     → task_result task output f ≡ task.makes f
 unfolding task_result
-made_result-free task output f free = rw free refl
+task_result-free task output f free = rw free refl
 
 gives_clash : (task : Task) (output : List ℕ) (place : ℕ) (files : Files) → clash_in task output
     ≡ Some place → HasAnswer (one_command task output) files (Err (EqualNames place))
 gives_clash task output place (Untold touched) clash = tt
 gives_clash task output place (Told f) clash =
-    ap (command_result output) (made_result-clash task output place f clash)
+    ap (command_result output) (task_result-clash task output place f clash)
 
 -- a clash is a fault of the command, with its number, that changes nothing
 pub clash_left : (task : Task) (output : List ℕ) (place : ℕ) (now : Seen) → clash_in task output
@@ -97,7 +97,7 @@ clash_left task output place now clash =
 module _ (task : Task) (output : List ℕ) (free : clash_in task output ≡ None) where
   makes_free : (f : Contents)
       → (one_command task output).makes f ≡ command_result output (task.makes f)
-  makes_free f = ap (command_result output) (made_result-free task output f free)
+  makes_free f = ap (command_result output) (task_result-free task output f free)
 
   gives_refused : (files : Files) (fault : EditFault) → TaskRefuses task files fault
       → HasAnswer (one_command task output) files (Err fault)

@@ -15,12 +15,12 @@ use Rattle.outside.specs.{Seen.seen_folder, declared.pass.PassFault.PassFault}
 use Rattle.outside.specs.declared.pass.PassFault.TheVariants.{Read, Shrunk, Write}
 
 -- created empty and then appended to, the output holds these bytes
-appended-emptied : (files : Files) (name bytes : List ℕ)
+with_appended_bytes-with_empty_file : (files : Files) (name bytes : List ℕ)
     → with_appended_bytes (with_empty_file files name) name bytes ≡ files_holding files name bytes
 unfolding with_appended_bytes with_empty_file files_holding
-appended-emptied (Untold touched) name bytes =
+with_appended_bytes-with_empty_file (Untold touched) name bytes =
     ap Untold (touch_twice touched name true (is_some_byte bytes) true refl)
-appended-emptied (Told f) name bytes =
+with_appended_bytes-with_empty_file (Told f) name bytes =
     ap (λ (held : Option (List ℕ)). Told (with_file (with_file f name []) name
     (unwrap_or held [] ++ bytes))) (with_file_here f name [])
     ∙ ap Told (with_file_twice f name [] bytes)
@@ -38,15 +38,16 @@ module _ (made : List ℕ → List ℕ) (input output : List ℕ) (apart : input
   held_mid file holds = subst (λ f. Holds f input file) (sym created)
       (emptied_holds_other old output input file apart holds)
 
-  holding_new : (bytes : List ℕ) → new ≡ with_appended_bytes mid output bytes
+  files_holding-new : (bytes : List ℕ) → new ≡ with_appended_bytes mid output bytes
       → new ≡ files_holding old output bytes
-  holding_new bytes is =
-      is ∙ ap (λ f. with_appended_bytes f output bytes) created ∙ appended-emptied old output bytes
+  files_holding-new bytes is =
+      is ∙ ap (λ f. with_appended_bytes f output bytes) created
+      ∙ with_appended_bytes-with_empty_file old output bytes
 
   -- with all bytes appended, it holds what was made of the input
   pub output_whole : AppendsMadeBytes input output made mid new → (file : List ℕ)
       → Holds old input file → new ≡ files_holding old output (made file)
-  output_whole done file holds = holding_new done.bytes done.files
+  output_whole done file holds = files_holding-new done.bytes done.files
       ∙ ap (files_holding old output) (done.is file (held_mid file holds))
 
   -- with a prefix of the bytes appended, it was begun
@@ -54,7 +55,7 @@ module _ (made : List ℕ → List ℕ) (input output : List ℕ) (apart : input
       → IsOutputBegun made input output old new
   output_prefix part file holds = inr (
     length part.bytes,
-    holding_new part.bytes part.files
+    files_holding-new part.bytes part.files
         ∙ ap (files_holding old output) (part.prefix file (held_mid file holds)),
   )
 
@@ -66,7 +67,8 @@ module _ (made : List ℕ → List ℕ) (input output : List ℕ) (apart : input
       inr (
         length part.bytes,
         part.short refl file held,
-        holding_new part.bytes part.files ∙ ap (files_holding old output) (part.prefix file held),
+        files_holding-new part.bytes part.files
+            ∙ ap (files_holding old output) (part.prefix file held),
       )
 
   touches_new : (bytes : List ℕ) → new ≡ with_appended_bytes mid output bytes

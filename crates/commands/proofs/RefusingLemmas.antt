@@ -13,10 +13,10 @@ use Rattle.sync_survey.specs.declared.survey_fault.SurveyFault.TheVariants.{Read
 -- ---- what is true of every fault
 
 -- what is true of a refusal is true of the result with it
-pub unless_all : {A : Type 0} (P : EditFault → Type 0) (o : Option Refusal) (a : A)
+pub refusal_or-all : {A : Type 0} (P : EditFault → Type 0) (o : Option Refusal) (a : A)
     → IfSome o (λ refusal. P (Refused refusal)) → IfErr (refusal_or o a) P
-unless_all P None a is = tt
-unless_all P (Some refusal) a is = is
+refusal_or-all P None a is = tt
+refusal_or-all P (Some refusal) a is = is
 
 -- what is true of the errors of two steps is true of the errors of both
 pub then_all : {A B : Type 0} (P : EditFault → Type 0) (r : Result A EditFault)
@@ -46,9 +46,9 @@ before_first (Told f) makes fault is =
 -- ---- memory was taken before
 
 -- no refusal is found before memory was taken
-pub unless_late : {A : Type 0} (o : Option Refusal) (a : A) → IfErr (refusal_or o a) IsLateFault
-unless_late None a = tt
-unless_late (Some refusal) a = refl
+pub refusal_or-late : {A : Type 0} (o : Option Refusal) (a : A) → IfErr (refusal_or o a) IsLateFault
+refusal_or-late None a = tt
+refusal_or-late (Some refusal) a = refl
 
 -- if the errors of two steps are late, so are the errors of both
 pub then_late : {A B : Type 0} (r : Result A EditFault) (make : A → Result B EditFault)
@@ -70,10 +70,10 @@ err_with P (Ok a) is holds = absurd is
 err_with P (Err first) is holds = subst P (sym is) holds
 
 -- a result that isn't refused has no refusal
-pub unless_ok : {A : Type 0} (o : Option Refusal) (a b : A) → refusal_or o a ≡ Ok b
+pub refusal_or-ok : {A : Type 0} (o : Option Refusal) (a b : A) → refusal_or o a ≡ Ok b
     → (o ≡ None) × (a ≡ b)
-unless_ok (Some refusal) a b e = absurd cc
-unless_ok None a b e = (refl, cc)
+refusal_or-ok (Some refusal) a b e = absurd cc
+refusal_or-ok None a b e = (refl, cc)
 
 -- a result of two steps is one of each
 pub then_ok : {A B : Type 0} (r : Result A EditFault) (make : A → Result B EditFault) (b : B)

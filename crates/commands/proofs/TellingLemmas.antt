@@ -33,10 +33,10 @@ module _ (text : Contents → List ℕ) (command : Command) where
   told = telling_command text command
 
   -- a fault of the command is one of the command with the text
-  pub telling-gives : (files : Files) (fault : EditFault) → HasAnswer command files (Err fault)
-      → HasAnswer told files (Err fault)
-  telling-gives (Untold touched) fault is = tt
-  telling-gives (Told f) fault is = ap (with_text (text f)) is
+  pub telling_command-gives : (files : Files) (fault : EditFault)
+      → HasAnswer command files (Err fault) → HasAnswer told files (Err fault)
+  telling_command-gives (Untold touched) fault is = tt
+  telling_command-gives (Told f) fault is = ap (with_text (text f)) is
 
   takes_memory : (files : Files) → IfTold files (λ f. TakesMemory (command.makes f))
       → IfTold files (λ f. TakesMemory (told.makes f))
@@ -49,8 +49,9 @@ module _ (text : Contents → List ℕ) (command : Command) where
   all-told (Told f) P is = all_text P (text f) (command.makes f) is
 
   -- a command that is done is done with the text too
-  pub telling-done : (old new : Seen) → IsCommandDone command old new → IsCommandDone told old new
-  telling-done old new done =
+  pub telling_command-done : (old new : Seen) → IsCommandDone command old new
+      → IsCommandDone told old new
+  telling_command-done old new done =
       record { made = at old.files done.made; touches = done.touches; counts = done.counts }
     where
       at : (files : Files) → IfTold files (λ f. (made : Made) × (command.makes f ≡ Ok made)
@@ -84,11 +85,13 @@ module _ (text : Contents → List ℕ) (command : Command) where
     unread-to (inr h) = inr (h.0, written-to h.0 old.files new.files h.1)
 
     -- what the command leaves, it leaves with the text too
-    pub telling-left : IsCommandFault command old new fault → IsCommandFault told old new fault
-    telling-left h = each_why (why_of fault) h (record {
-      rejected = λ r. record { defined = telling-gives old.files fault r.defined; stays = r.stays };
+    pub telling_command-left : IsCommandFault command old new fault
+        → IsCommandFault told old new fault
+    telling_command-left h = each_why (why_of fault) h (record {
+      rejected = λ r.
+          record { defined = telling_command-gives old.files fault r.defined; stays = r.stays };
       missing = λ m. record {
-        defined = telling-gives old.files fault m.defined;
+        defined = telling_command-gives old.files fault m.defined;
         rose = m.rose;
         files = m.files;
       };
@@ -101,15 +104,16 @@ module _ (text : Contents → List ℕ) (command : Command) where
       shorter = λ l. record { ended = l.ended; touches = l.touches };
       unwritten =
           λ k w. record { rose = w.rose; files = unfinished-to k old.files new.files w.files };
-      unsent = λ d. telling-done old new d;
+      unsent = λ d. telling_command-done old new d;
       no_memory =
           λ n. record { names = n.names; takes = takes_memory old.files n.takes; stays = n.stays };
     })
 
   -- the streams that the command holds, it holds with the text too
-  pub telling-streams : (files : Files) → HoldsStreams command files → HoldsStreams told files
-  telling-streams (Untold touched) holds = tt
-  telling-streams (Told f) holds = λ made is. at (command.makes f) refl made is
+  pub telling_command-streams : (files : Files) → HoldsStreams command files
+      → HoldsStreams told files
+  telling_command-streams (Untold touched) holds = tt
+  telling_command-streams (Told f) holds = λ made is. at (command.makes f) refl made is
     where
       by_text : (m made : Made) → command.makes f ≡ Ok m → (record m { text = text f }) ≡ made
           → MakesStreams told f made
@@ -122,10 +126,10 @@ module _ (text : Contents → List ℕ) (command : Command) where
       at (Err fault) is made e = absurd cc
 
   -- the text of the command is made from files whose contents are known
-  pub telling-text : (files : Files) (all : List ℕ) → IsCommandText told files all
+  pub telling_command-text : (files : Files) (all : List ℕ) → IsCommandText told files all
       → (f : Contents) × (files ≡ Told f) × (all ≡ text f)
-  telling-text files all (inl always) = absurd cc
-  telling-text files all (inr t) = (t.0, t.2, sym t.4 ∙ at (command.makes t.0) t.3)
+  telling_command-text files all (inl always) = absurd cc
+  telling_command-text files all (inr t) = (t.0, t.2, sym t.4 ∙ at (command.makes t.0) t.3)
     where
       at : (r : Result Made EditFault) → with_text (text t.0) r ≡ Ok t.1 → t.1.text ≡ text t.0
       at (Ok m) e = let same : (record m { text = text t.0 }) ≡ t.1 = cc in

@@ -7,7 +7,7 @@ use Rattle.std.proofs.lemmas.List.{length-take}
 use Rattle.std.specs.Prelude.{Contains, IfErr, nat_le, nat_lt, replicate, ◌<◌, ◌↔◌, ◌≤◌, ◌⊎◌}
 use Rattle.bit_fields.specs.Bits.{AreBytes}
 use Rattle.commands.proofs.InputLemmas.{file_makes, file_proper, IsProperMaking}
-use Rattle.commands.proofs.RefusingLemmas.{then_late, then_ok, unless_late, unless_ok}
+use Rattle.commands.proofs.RefusingLemmas.{refusal_or-late, refusal_or-ok, then_late, then_ok}
 use Rattle.commands.specs.{AfterCall.IsLateFault, Refusing.then_made}
 use Rattle.commands.specs.SingleOutput.{IsMaking, IsProperTask, most_frames}
 use Rattle.commands.specs.declared.fault.{EditFault.EditFault, Refusal.{Refusal, TheVariants.Range}}
@@ -313,14 +313,14 @@ pub chosen-within : (quality : Option ℕ) (extension : List ℕ) (from to : ℕ
     → (from < to) × (to ≤ frames)
 chosen-within quality extension from to frames chosen e =
     outside-none from to frames (nat_lt from to && nat_le to frames) refl
-    (unless_ok (outside_fault from to frames) _ chosen e).0
+    (refusal_or-ok (outside_fault from to frames) _ chosen e).0
 
 -- frames chosen by a range are frames of the survey, with an extension of 36 bytes
 pub with_right : (quality : Option ℕ) (extension : List ℕ) (from to : ℕ) (s : SurveyFields)
     (chosen : Chosen) → length extension ≡ 36
     → chosen_range quality extension from to (length s.frames) ≡ Ok chosen → IsRight chosen s
 with_right quality extension from to s chosen size e =
-    let ok = unless_ok (outside_fault from to (length s.frames)) _ chosen e in
+    let ok = refusal_or-ok (outside_fault from to (length s.frames)) _ chosen e in
     let there = chosen-within quality extension from to (length s.frames) chosen e in
     subst (λ (c : Chosen). IsRight c s)
     ok.1 (record { some = there.0; within = there.1; extension = size })
@@ -329,7 +329,7 @@ with_right quality extension from to s chosen size e =
 pub cut_choosing : (from to : Place) → IsChoosing (cut_choice from to)
 unfolding cut_choice
 cut_choosing from to = record {
-  late = λ file s. unless_late _ _;
+  late = λ file s. refusal_or-late _ _;
   right = λ file s chosen e. with_right None (replicate 36 0) (frame_at s.class (length s.frames)
       from) (frame_at s.class (length s.frames) to) s chosen refl e;
 }
@@ -360,13 +360,13 @@ pub all-whole : (file : List ℕ) (s : SurveyFields) (chosen : Chosen) → all_c
     → (chosen.from ≡ 0) × (chosen.to ≡ length s.frames)
 unfolding all_choice
 all-whole file s chosen e =
-    let same = (unless_ok (outside_fault 0 (length s.frames) (length s.frames)) _ chosen e).1 in
+    let same = (refusal_or-ok (outside_fault 0 (length s.frames) (length s.frames)) _ chosen e).1 in
     (sym (ap (λ (c : Chosen). c.from) same), sym (ap (λ (c : Chosen). c.to) same))
 
 -- what `pack` chooses is right
 pub all_choosing : IsChoosing all_choice
 unfolding all_choice
-all_choosing = record { late = λ file s. unless_late _ _; right = all_right }
+all_choosing = record { late = λ file s. refusal_or-late _ _; right = all_right }
 
 -- ---- the commands
 

@@ -59,22 +59,23 @@ emptied_whole file [] are = tt
 emptied_whole file (r ∷ rows) are = (row_whole file r r.lost are.0, emptied_whole file rows are.1)
 
 -- a survey has as many frames when its head is set apart
-pub apart-length : (s : SurveyFields) → length (survey_without_head s).frames ≡ length s.frames
-apart-length s =
+pub survey_without_head-length : (s : SurveyFields)
+    → length (survey_without_head s).frames ≡ length s.frames
+survey_without_head-length s =
     length-map (rows_set_apart s.head s.frames) emptied_row ∙ length_apart s.head s.frames
 
 -- the main data of its frames are still well placed
-pub apart-placed : (s : SurveyFields) → AreWellPlaced s.head s.class s.frames
+pub survey_without_head-placed : (s : SurveyFields) → AreWellPlaced s.head s.class s.frames
     → AreWellPlaced s.head s.class (survey_without_head s).frames
-apart-placed s placed = placed-emptied s.head s.class (rows_set_apart s.head s.frames)
+survey_without_head-placed s placed = placed-emptied s.head s.class (rows_set_apart s.head s.frames)
     (placed-apart s.head s.class s.frames placed)
 
 -- a file can be relaid by the survey whose head is set apart, if the main data are well placed
 -- there
-pub apart-had : (file : List ℕ) (s : SurveyFields) → CanBeRelaid file s
+pub survey_without_head-had : (file : List ℕ) (s : SurveyFields) → CanBeRelaid file s
     → AreWellPlaced s.head s.class (survey_without_head s).frames
     → CanBeRelaid file (survey_without_head s)
-apart-had file s is placed = record {
+survey_without_head-had file s is placed = record {
   long = is.long;
   head = is.head;
   rows = emptied_whole file (rows_set_apart s.head s.frames)

@@ -6,14 +6,15 @@ use Rattle.std.proofs.Common.{◌∙◌, ◌≡◌}
 use Rattle.std.specs.Prelude.{IfErr, IfSome, nat_le, nat_lt, slice_get, ◌<◌, ◌≤◌}
 use Rattle.bit_fields.specs.Bits.{AreBytes}
 use Rattle.commands.proofs.InputLemmas.{file_makes, file_proper, IsProperMaking}
-use Rattle.commands.proofs.RefusingLemmas.{then_late, then_ok, unless_late, unless_ok}
+use Rattle.commands.proofs.RefusingLemmas.{refusal_or-late, refusal_or-ok, then_late, then_ok}
 use Rattle.commands.specs.{AfterCall.IsLateFault, Refusing.then_made}
 use Rattle.commands.specs.SingleOutput.{IsMaking, IsProperTask, most_frames}
 use Rattle.commands.specs.declared.fault.{EditFault.EditFault, Refusal.Refusal}
 use Rattle.commands.specs.declared.fault.Refusal.TheVariants.{Span as NoSpan}
 use Rattle.cut_edits.proofs.ChosenLemmas.{head-extension}
-use Rattle.cut_edits.proofs.HeadLemmas.{apart-had, apart-length, apart-placed}
-use Rattle.cut_edits.{proofs.{SealedLemmas.for-whole, SpanLemmas.with-fitting}, specs.Chosen.Chosen}
+use Rattle.cut_edits.proofs.HeadLemmas.{survey_without_head-had, survey_without_head-length}
+use Rattle.cut_edits.proofs.{HeadLemmas.survey_without_head-placed, SealedLemmas.for-whole}
+use Rattle.cut_edits.{proofs.SpanLemmas.with-fitting, specs.Chosen.Chosen}
 use Rattle.cut_edits.specs.Exact.{exact_making, exact_part, exact_refuses, exact_stream}
 use Rattle.cut_edits.specs.Exact.{exact_stream_or_none, exact_surveyed_stream, exact_task}
 use Rattle.cut_edits.specs.Exact.{file_span, IsSpanIn, quality_of, row_sealed_part, samples_fault}
@@ -68,7 +69,7 @@ span-there from to head s span e =
     let samples = length_of_played played in
     let a = sample_at s.class samples from in
     let b = sample_at s.class samples to in
-    let ok = unless_ok (samples_fault a b samples)
+    let ok = refusal_or-ok (samples_fault a b samples)
     (span_of s.class (played.start + a) (played.start + b)) span e in
     let there = samples_there a b samples (nat_lt a b && nat_le b samples) refl ok.0 in
     let one : AreLeads (span_of s.class (played.start + a) (played.start + b)) 1 =
@@ -100,20 +101,20 @@ head_long file None = tt
 head_long file (Some head) = head-extension file (Some head)
 
 -- a span stays within the file when the head is set apart
-pub span_apart : (s : SurveyFields) (span : Span) → IsSpanIn s span
+pub span-survey_without_head : (s : SurveyFields) (span : Span) → IsSpanIn s span
     → IsSpanIn (survey_without_head s) span
-span_apart s span is = record {
+span-survey_without_head s span is = record {
   is = is.is;
   some = is.some;
   within =
-      subst (λ (n : ℕ). span.last ≤ n) (sym (apart-length s)) is.within;
+      subst (λ (n : ℕ). span.last ≤ n) (sym (survey_without_head-length s)) is.within;
 }
 
 -- a file without fault can be relaid once its head is set apart
-pub apart_had : (file : List ℕ) (s : SurveyFields) → survey_of file most_frames ≡ Ok s
-    → CanBeRelaid file (survey_without_head s)
-apart_had file s is = let had = survey-had file most_frames s is in
-    apart-had file s had (apart-placed s had.placed)
+pub survey_without_head-relaid : (file : List ℕ) (s : SurveyFields)
+    → survey_of file most_frames ≡ Ok s → CanBeRelaid file (survey_without_head s)
+survey_without_head-relaid file s is = let had = survey-had file most_frames s is in
+    survey_without_head-had file s had (survey_without_head-placed s had.placed)
 
 -- what is laid of a span holds its stream
 module _ (head : Option Info) (long : IfSome head (λ (i : Info). length i.extension ≡ 36))
@@ -169,7 +170,8 @@ module _ (from to : ExactPlace) where
       then_late (exact_part from to file s)
       (λ laid. Ok (file_laid laid file (survey_without_head s)))
       (then_late (file_span from to (fields_of_head file s.head) s) (λ span. Ok
-      (span_piece (fields_of_head file s.head) span file (survey_without_head s))) (unless_late _ _)
+      (span_piece (fields_of_head file s.head) span file (survey_without_head s)))
+      (refusal_or-late _ _)
       (λ span. tt))
       (λ laid. tt)
 
@@ -233,12 +235,12 @@ module _ (from to : ExactPlace) where
   made_stream file s made is by =
       let head = fields_of_head file s.head in
       let piece = span_piece head by.span file (survey_without_head s) in
-      let had = apart_had file s is in
+      let had = survey_without_head-relaid file s is in
       subst (λ (r : Result LaidPart EditFault). HoldsStream made (exact_stream_or_none file s r))
       (sym by.laid)
       (subst (λ (n : List ℕ). HoldsStream n (stream_laid piece file (survey_without_head s))) by.is
       (piece-holds head (head_long file s.head) by.span file (survey_without_head s) had
-      (span_apart s by.span (span-there from to head s by.span by.span_is))))
+      (span-survey_without_head s by.span (span-there from to head s by.span by.span_is))))
 
   proper : IsProperMaking (exact_making from to) (exact_stream from to)
   proper = record {

@@ -4,10 +4,12 @@ use Rattle.std.proofs.Common.{Some, subst, sym, take, true, ℕ, ◌&&◌, ◌+�
 use Rattle.std.proofs.lemmas.Bool.{and_parts, leb-true}
 use Rattle.std.proofs.lemmas.List.{length-drop, length-map, length-take-le}
 use Rattle.std.specs.Prelude.{IfSome, nat_le, nat_lt, slice_get}
-use Rattle.commands.proofs.RefusingLemmas.{unless_ok}
-use Rattle.cut_edits.proofs.{ChosenLemmas.head-extension, HeadLemmas.{apart-had, apart-placed}}
-use Rattle.cut_edits.proofs.PieceLemmas.{head_long, plain-long, samples_there, span-there}
-use Rattle.cut_edits.proofs.{PieceLemmas.{span_apart, span_chosen}, SealedLemmas.for-whole}
+use Rattle.commands.proofs.RefusingLemmas.{refusal_or-ok}
+use Rattle.cut_edits.proofs.ChosenLemmas.{head-extension}
+use Rattle.cut_edits.proofs.HeadLemmas.{survey_without_head-had, survey_without_head-placed}
+use Rattle.cut_edits.proofs.PieceLemmas.{head_long, plain-long, samples_there}
+use Rattle.cut_edits.proofs.PieceLemmas.{span-survey_without_head, span-there, span_chosen}
+use Rattle.cut_edits.proofs.SealedLemmas.{for-whole}
 use Rattle.cut_edits.proofs.SpanLemmas.{with-fitting, with-leads, with-many}
 use Rattle.cut_edits.specs.Exact.{file_span, IsSpanIn, row_sealed_part, samples_fault}
 use Rattle.cut_edits.specs.Exact.{span_lead_ins, span_part, span_piece, survey_without_head}
@@ -140,11 +142,11 @@ pieces-play file s from to span is e =
     let b = sample_at s.class samples to in
     let piece = span_piece head span file (survey_without_head s) in
     let fields = info_laid piece file (survey_without_head s) in
-    let ok = unless_ok (samples_fault a b samples)
+    let ok = refusal_or-ok (samples_fault a b samples)
     (span_of s.class (played.start + a) (played.start + b)) span e in
     let inside = samples_there a b samples (nat_lt a b && nat_le b samples) refl ok.0 in
-    let had = apart-had file s is (apart-placed s is.placed) in
-    let there = span_apart s span (span-there from to head s span e) in
+    let had = survey_without_head-had file s is (survey_without_head-placed s is.placed) in
+    let there = span-survey_without_head s span (span-there from to head s span e) in
     let placed = piece_placed head span file (survey_without_head s) in
     let leads : AreLeads span (span_lead_ins span piece.placed) =
     subst (λ (p : List Placed). AreLeads span (span_lead_ins span p)) (sym placed) (leads-are head

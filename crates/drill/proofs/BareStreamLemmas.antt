@@ -12,17 +12,18 @@ use Rattle.info_header.specs.HeadText.{head_text_of}
 use Rattle.laying.proofs.EntryByteLemmas.{entry_item, length-entry, shaped}
 use Rattle.laying.proofs.LaidDataLemmas.{laid-there, length-laid}
 use Rattle.laying.proofs.LaidFileLemmas.{entries_by, entry_get, HasPayload, payload_there, row_at}
-use Rattle.laying.proofs.LaidFrameLemmas.{areas-all, areas-there, frame_items, framed-stand}
-use Rattle.laying.proofs.LaidFrameLemmas.{framed-whole, frames_at, rows-there, StandFrom}
+use Rattle.laying.proofs.LaidFrameLemmas.{areas-all, areas-there, frame_items, framed_bytes-stand}
+use Rattle.laying.proofs.LaidFrameLemmas.{framed_bytes-whole, frames_at, rows-there, StandFrom}
 use Rattle.laying.proofs.LaidRunLemmas.{front_end-is, not_in_front, some_frames, start_by}
-use Rattle.laying.proofs.LaidSoundLemmas.{laid-sound, none-marked, starts-there}
-use Rattle.laying.proofs.WholeItemLemmas.{placed, whole-run}
+use Rattle.laying.proofs.LaidSoundLemmas.{laid-sound, marked_rows-none, starts-there}
+use Rattle.laying.proofs.WholeItemLemmas.{placed, whole-item_run}
 use Rattle.laying.specs.LaidFiles.{AreStreamEntries, frame_length, rows_from, stream_entry}
 use Rattle.side_info.specs.Frame.{frame_front_bytes}
 use Rattle.sync_survey.proofs.{ItemListLemmas.item_at-known, OneItemLemmas.stands-only_at}
-use Rattle.sync_survey.proofs.RunsLemmas.{item_of-past}
+use Rattle.sync_survey.proofs.RunsLemmas.{whole_item_at-past}
 use Rattle.sync_survey.proofs.SurveyPartsLemmas.{frames_from, IsRead, sound-no_all_faults}
-use Rattle.sync_survey.proofs.SurveyPartsLemmas.{surveyed-stream, surveyed-told, told_from}
+use Rattle.sync_survey.proofs.SurveyPartsLemmas.{survey_fields-stream, survey_fields-told}
+use Rattle.sync_survey.proofs.SurveyPartsLemmas.{told_from}
 use Rattle.sync_survey.specs.Faults.{all_faults, HoldsStream, stream_of_survey, survey_fields}
 use Rattle.sync_survey.specs.{Faults.SurveyFields, Items.{item_at, size_of}}
 use Rattle.sync_survey.specs.MainData.{main_bytes, marked_rows, place, rows_of, start_of_data}
@@ -88,7 +89,7 @@ module _ (c : ClassFields) (f : Frame) (more : List Frame) (is : IsBare c f more
       (take (frame_area f.kept) area_data) rest)
 
   stand : StandFrom file 0 frames area_data
-  stand = framed-stand c file 0 frames area_data [] is.entries many (sym (append-nil file))
+  stand = framed_bytes-stand c file 0 frames area_data [] is.entries many (sym (append-nil file))
 
   long_area : length (take (frame_area f.kept) area_data) ≡ frame_area f.kept
   long_area = length-take-le (frame_area f.kept) area_data (omega (arith, many))
@@ -106,7 +107,7 @@ module _ (c : ClassFields) (f : Frame) (more : List Frame) (is : IsBare c f more
       is.entries.0.header (shaped f.kept.side is.entries.0.pairs) long_area).known rest)
 
   front_run : item_run Front file 0 ≡ record { items = []; stop = 0 }
-  front_run = whole-run Front file 0 [] [] file refl (omega arith) refl
+  front_run = whole-item_run Front file 0 [] [] file refl (omega arith) refl
       (not_in_front file 0 f.kept.header first_item)
 
   start-is : start_of file ≡ Ok begin
@@ -119,9 +120,9 @@ module _ (c : ClassFields) (f : Frame) (more : List Frame) (is : IsBare c f more
   stream : stream_run file begin
       ≡ record { items = placed 0 (frame_items frames); stop = 0 + length file }
   stream =
-      whole-run Stream file 0 (frame_items frames) file []
-      (framed-whole c frames area_data is.entries many) (omega arith) (sym (append-nil file))
-      (item_of-past Stream file (0 + length file) (omega arith))
+      whole-item_run Stream file 0 (frame_items frames) file []
+      (framed_bytes-whole c frames area_data is.entries many) (omega arith) (sym (append-nil file))
+      (whole_item_at-past Stream file (0 + length file) (omega arith))
 
   -- ---- the head
 
@@ -191,7 +192,7 @@ module _ (c : ClassFields) (f : Frame) (more : List Frame) (is : IsBare c f more
 
   marked-are : (told_from file begin).frames ≡ rows
   marked-are = ap₂ marked_rows head-is rows-are
-      ∙ none-marked file c None 0 frames area_data is.entries stand is.fits
+      ∙ marked_rows-none file c None 0 frames area_data is.entries stand is.fits
 
   told : told_from file begin ≡ bare_fields f more
   told = λ i. record {
@@ -207,7 +208,7 @@ module _ (c : ClassFields) (f : Frame) (more : List Frame) (is : IsBare c f more
   -- the survey of the file finds its frames
   pub bare-survey : (allowed : ℕ) → length frames ≤ allowed
       → survey_fields file allowed ≡ Ok (bare_fields f more)
-  bare-survey allowed few = surveyed-told file allowed begin (read allowed few) ∙ ap Ok told
+  bare-survey allowed few = survey_fields-told file allowed begin (read allowed few) ∙ ap Ok told
 
   -- ---- its stream
 
@@ -238,5 +239,5 @@ module _ (c : ClassFields) (f : Frame) (more : List Frame) (is : IsBare c f more
 
   -- the file holds the stream of its frames
   pub bare-holds : HoldsStream file (map stream_entry frames)
-  bare-holds = subst (HoldsStream file) stream-is (surveyed-stream file (length frames)
+  bare-holds = subst (HoldsStream file) stream-is (survey_fields-stream file (length frames)
       (bare_fields f more) (bare-survey (length frames) (omega arith)))

@@ -34,8 +34,9 @@ use Rattle.outside.{proofs.FilesLemmas.with_file_here, specs.{BufferOutput.SentP
 use Rattle.outside.specs.{Files.{Contents, Files, Holds, sent_and_more, Told}, Seen.Heard}
 use Rattle.slot_plan.specs.{LeastPlan.least_plan, Plans.IsPlan, declared.needs.Need.Need}
 use Rattle.slot_plan.specs.declared.needs.Placed.{Placed}
-use Rattle.sync_survey.proofs.PlacedRowLemmas.{surveyed-placed}
-use Rattle.sync_survey.proofs.SurveyPartsLemmas.{stream-length, surveyed-parts, surveyed-stream}
+use Rattle.sync_survey.proofs.PlacedRowLemmas.{survey_fields-placed}
+use Rattle.sync_survey.proofs.SurveyPartsLemmas.{stream-length, survey_fields-parts}
+use Rattle.sync_survey.proofs.SurveyPartsLemmas.{survey_fields-stream}
 use Rattle.sync_survey.proofs.SurveyedFileLemmas.{survey_of-parts}
 use Rattle.sync_survey.specs.Faults.{HoldsStream, stream_of_survey, survey_fields, SurveyFields}
 use Rattle.sync_survey.specs.{MainData.StreamFrame, Row.Row, Survey.{AreWellPlaced, survey_of}}
@@ -76,7 +77,7 @@ same-stream window reach _ _ _ fits none many = absurd (omega (arith, many))
 survey-length : (file : List ℕ) (allowed : ℕ) (s : SurveyFields) → survey_fields file allowed ≡ Ok s
     → s.length ≡ length file
 survey-length file allowed s e =
-    sym (ap (λ (t : SurveyFields). t.length) (surveyed-parts file allowed s e).2)
+    sym (ap (λ (t : SurveyFields). t.length) (survey_fields-parts file allowed s e).2)
 
 -- ---- what the packing chooses
 
@@ -156,7 +157,7 @@ module _ (seed count : ℕ) (some : 0 < count) (few : count ≤ 20000) where
   packed-is = ap file_in made-is
 
   placed : AreWellPlaced told.head told.class told.frames
-  placed = surveyed-placed file most_frames told whole
+  placed = survey_fields-placed file most_frames told whole
 
   rows-whole : chosen_rows all told ≡ told.frames
   rows-whole = range-whole told.frames
@@ -183,7 +184,7 @@ module _ (seed count : ℕ) (some : 0 < count) (few : count ≤ 20000) where
   no-lead_ins = none-counted (packed_plan seed count) none-led
 
   stream-is : stream_of_survey file told ≡ drawn
-  stream-is = sym (surveyed-stream file most_frames told whole).stream_is
+  stream-is = sym (survey_fields-stream file most_frames told whole).stream_is
       ∙ (streams-hold seed count some).stream_is
 
   part-stream : part_stream (chosen_file_part all file told) ≡ drawn
@@ -219,7 +220,8 @@ module _ (seed count : ℕ) (some : 0 < count) (few : count ≤ 20000) where
       → length t.frames ≡ count
   packed-frames t e =
       let packed = packed_file seed count in
-      let found = surveyed-stream packed most_frames t (survey_of-parts packed most_frames t e).1 in
+      let found =
+      survey_fields-stream packed most_frames t (survey_of-parts packed most_frames t e).1 in
       sym (stream-length packed t) ∙ ap length (sym found.stream_is ∙ is-packed.holds.stream_is)
       ∙ drawn-many
 

@@ -13,23 +13,24 @@ use Rattle.info_header.specs.declared.fields.Info.{Info}
 -- ---- what is kept
 
 -- an extension without numbers has 36 bytes
-pub plain-length : length plain_extension ≡ 36
-plain-length = refl
+pub plain_extension-length : length plain_extension ≡ 36
+plain_extension-length = refl
 
-plain-encoder : has_encoder plain_extension ≡ true
+plain_extension-encoder : has_encoder plain_extension ≡ true
 unfolding has_encoder
-plain-encoder = refl
+plain_extension-encoder = refl
 
 kept-if : (extension : List ℕ) (b : Bool) → has_encoder extension ≡ b → length extension ≡ 36 →
     (length (cond b extension plain_extension) ≡ 36)
     × (has_encoder (cond b extension plain_extension) ≡ true)
 kept-if extension true is long = (long, is)
-kept-if extension false is long = (plain-length, plain-encoder)
+kept-if extension false is long = (plain_extension-length, plain_extension-encoder)
 
-kept-is : (info : Option Info) → IfSome info AreInfoFields
+kept_extension-is : (info : Option Info) → IfSome info AreInfoFields
     → (length (kept_extension info) ≡ 36) × (has_encoder (kept_extension info) ≡ true)
-kept-is None whole = (plain-length, plain-encoder)
-kept-is (Some info) whole = kept-if info.extension (has_encoder info.extension) refl whole.extension
+kept_extension-is None whole = (plain_extension-length, plain_extension-encoder)
+kept_extension-is (Some info) whole =
+    kept-if info.extension (has_encoder info.extension) refl whole.extension
 
 -- ---- the numbers
 
@@ -96,12 +97,14 @@ pub extension-says : (info : Option Info) (delay padding : ℕ) → IfSome info 
     SaysNumbers delay padding (extension_of info delay padding)
 unfolding extension_of
 extension-says info delay padding whole short small =
-    let old = kept-is info whole in says-by (kept_extension info) delay padding old.0 old.1 small
+    let old = kept_extension-is info whole in
+    says-by (kept_extension info) delay padding old.0 old.1 small
 
-kept-length : (info : Option Info) → IfSome info (λ (i : Info). length i.extension ≡ 36)
+kept_extension-length : (info : Option Info) → IfSome info (λ (i : Info). length i.extension ≡ 36)
     → length (kept_extension info) ≡ 36
-kept-length None long = plain-length
-kept-length (Some info) long = (kept-if info.extension (has_encoder info.extension) refl long).0
+kept_extension-length None long = plain_extension-length
+kept_extension-length (Some info) long =
+    (kept-if info.extension (has_encoder info.extension) refl long).0
 
 -- an extension that is written has 36 bytes
 pub extension-length : (info : Option Info) (delay padding : ℕ)
@@ -110,7 +113,7 @@ pub extension-length : (info : Option Info) (delay padding : ℕ)
 unfolding extension_of
 extension-length info delay padding long =
     let old = kept_extension info in
-    let many = kept-length info long in
+    let many = kept_extension-length info long in
     let rest : List ℕ = take 4 (drop 24 old) ++ replicate 8 0 in
     omega (
       arith,

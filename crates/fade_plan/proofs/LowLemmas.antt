@@ -55,11 +55,11 @@ short_low (p ∷ q ∷ more) short = absurd (omega (arith, short))
 -- ---- placed points
 
 -- one point more has its frame
-pub placed_more : (class : ClassFields) (frames : ℕ) (xs : List Point) (i : ℕ) (d : Point)
+pub placed_point-more : (class : ClassFields) (frames : ℕ) (xs : List Point) (i : ℕ) (d : Point)
     → i < length xs
     → set (map (placed_point class frames) (take i xs) ++ drop i xs) i (placed_point class
     frames (get_or xs i d)) ≡ map (placed_point class frames) (take (i + 1) xs) ++ drop (i + 1) xs
-placed_more class frames xs i d less =
+placed_point-more class frames xs i d less =
     let f = placed_point class frames in
     let x = get_or xs i d in
     let size : length (map f (take i xs)) ≡ i =
@@ -81,10 +81,10 @@ placed_of class frames (p ∷ q ∷ more) =
     (Some q.line)) (placed_of class frames (q ∷ more))
 
 -- the first line that doesn't rise is the same by the frames of the points and by their positions
-pub low_placed : (class : ClassFields) (frames : ℕ) (xs : List Point)
+pub low-placed_point : (class : ClassFields) (frames : ℕ) (xs : List Point)
     → first_not_rising (map (placed_point class frames) xs)
     ≡ line_not_rising class frames (map envelope_point_of xs)
-low_placed class frames xs = placed_of class frames xs
+low-placed_point class frames xs = placed_of class frames xs
 
 -- ---- the loop over the points, at the point with number m
 
@@ -137,12 +137,12 @@ adjacent_more xs m e within so rises k d less =
 -- ---- the loop that places points
 
 -- giving the point at i its frame places one point more
-pub placed_step : (class : ClassFields) (frames : ℕ) (xs ps : List Point) (i frame : ℕ) (d : Point)
-    → i < length xs → ps ≡ map (placed_point class frames) (take i xs) ++ drop i xs
+pub placed_point-step : (class : ClassFields) (frames : ℕ) (xs ps : List Point) (i frame : ℕ)
+    (d : Point) → i < length xs → ps ≡ map (placed_point class frames) (take i xs) ++ drop i xs
     → frame ≡ frame_at class frames (get_or ps i d).place
     → set ps i (record (get_or ps i d) { frame = frame })
     ≡ map (placed_point class frames) (take (i + 1) xs) ++ drop (i + 1) xs
-placed_step class frames xs ps i frame d less is at =
+placed_point-step class frames xs ps i frame d less is at =
     let size : length (map (placed_point class frames) (take i xs)) ≡ i =
     length-map (take i xs) (placed_point class frames)
     ∙ length-take-le i xs (omega (arith, less)) in
@@ -154,7 +154,7 @@ placed_step class frames xs ps i frame d less is at =
     (placed_point class frames (get_or xs i d)) =
     ap₂ {A = Point} {B = ℕ} (λ p n. record p { frame = n }) here
     (at ∙ ap (λ p. frame_at class frames p.place) here) in
-    ap₂ (λ t x. set t i x) is new ∙ placed_more class frames xs i d less
+    ap₂ (λ t x. set t i x) is new ∙ placed_point-more class frames xs i d less
 
 -- ---- the curve of placed points
 
@@ -165,7 +165,7 @@ pub curve_refused : (class : ClassFields) (frames : ℕ) (xs ys : List Point) (l
 unfolding curve_of
 curve_refused class frames xs ys line is low =
     ap (λ o. line_or_curve o (map (curve_point class frames) (map envelope_point_of xs)))
-    (low ∙ ap first_not_rising is ∙ low_placed class frames xs)
+    (low ∙ ap first_not_rising is ∙ low-placed_point class frames xs)
 
 same_points : (class : ClassFields) (frames : ℕ) (xs : List Point)
     → map curve_point_of (map (placed_point class frames) xs)
@@ -182,7 +182,7 @@ unfolding curve_of
 curve_made class frames xs ys is low =
     ap Ok (ap (map curve_point_of) is ∙ same_points class frames xs)
     ∙ ap (λ o. line_or_curve o (map (curve_point class frames) (map envelope_point_of xs)))
-    (low ∙ ap first_not_rising is ∙ low_placed class frames xs)
+    (low ∙ ap first_not_rising is ∙ low-placed_point class frames xs)
 
 -- what a vector contains after its points were overwritten
 pub whole_again : (n : ℕ) (new old : List Point) → length new ≡ n → length old ≡ n

@@ -80,10 +80,10 @@ are_opposite None points = at_opposed points
 are_opposite (Some line) points = refl
 
 -- opposite points have the opposite curve, and the same fault
-pub opposite-curves : (class : ClassFields) (frames : ℕ) (points : List EnvelopePoint)
+pub opposite_envelope-curves : (class : ClassFields) (frames : ℕ) (points : List EnvelopePoint)
     → AreOpposite (curve_of class frames points) (curve_of class frames (opposite_envelope points))
 unfolding curve_of
-opposite-curves class frames points =
+opposite_envelope-curves class frames points =
     subst (λ c. AreOpposite (line_or_curve (line_not_rising class frames points)
     (map (curve_point class frames) points)) c)
     (ap₂ line_or_curve (sym (rising_opposed class frames points))

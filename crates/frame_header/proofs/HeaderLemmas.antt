@@ -8,8 +8,9 @@ use Rattle.std.proofs.lemmas.{List.drop-drop, Nat.{from_be_bytes-to_be_bytes_4, 
 use Rattle.std.specs.Int.{to_be_bytes, w32}
 use Rattle.bit_fields.proofs.BitsLemmas.{AreBits-bits, bits-be_bytes, bits-injective, length-bits}
 use Rattle.bit_fields.proofs.BitsLemmas.{number-middle_of}
-use Rattle.bit_fields.proofs.GroupsLemmas.{AreBits-spelled, group-below, joined, length-spelled}
-use Rattle.bit_fields.proofs.GroupsLemmas.{numbers_at-spelled, spelled-joined, spelled-numbers_at}
+use Rattle.bit_fields.proofs.GroupsLemmas.{AreBits-group_bits, group-below, group_bits-joined}
+use Rattle.bit_fields.proofs.GroupsLemmas.{group_bits-numbers_at, joined, length-group_bits}
+use Rattle.bit_fields.proofs.GroupsLemmas.{numbers_at-group_bits}
 use Rattle.bit_fields.specs.Bits.{AreBits, AreBytes, bits, bits_of, number}
 use Rattle.bit_fields.specs.Groups.{group, group_bits, numbers_at, NumbersFit}
 use Rattle.frame_header.specs.Fields.{HeaderFields, IsClass, IsHeader, version_number}
@@ -215,10 +216,10 @@ protection-below true = lit< tt
 protection-below false = lit< tt
 
 -- each number is within its bits
-pub Fits-header_numbers : (h : HeaderFields) → IsHeader h
+pub NumbersFit-header_numbers : (h : HeaderFields) → IsHeader h
     → NumbersFit header_widths (header_numbers h)
 unfolding header_numbers
-Fits-header_numbers h is = (
+NumbersFit-header_numbers h is = (
   lit< tt,
   (
     version_number-below h.version,
@@ -256,12 +257,12 @@ Fits-header_numbers h is = (
 -- a header is written as zeros and ones
 pub AreBits-header_bits : (h : HeaderFields) → AreBits (header_bits h)
 unfolding header_bits
-AreBits-header_bits h = AreBits-spelled header_widths (header_numbers h)
+AreBits-header_bits h = AreBits-group_bits header_widths (header_numbers h)
 
 -- a header is written as 32 bits
 pub length-header_bits : (h : HeaderFields) → length (header_bits h) ≡ 32
 unfolding header_bits header_numbers
-length-header_bits h = length-spelled header_widths (header_numbers h) refl
+length-header_bits h = length-group_bits header_widths (header_numbers h) refl
 
 protection-not : (protected : Bool) → protection_of protected ≡ bool_byte (not protected)
 protection-not true = refl
@@ -296,13 +297,13 @@ pub bits_of-header_number : (h : HeaderFields) → IsHeader h
     → bits_of 32 (header_number h) ≡ header_bits h
 unfolding header_bits
 bits_of-header_number h is = ap (bits_of 32) (header_number-joined h)
-    ∙ sym (spelled-joined header_widths (header_numbers h) (Fits-header_numbers h is))
+    ∙ sym (group_bits-joined header_widths (header_numbers h) (NumbersFit-header_numbers h is))
 
 groups_written : (h : HeaderFields) → IsHeader h
     → groups_from 0 header_widths (header_bits h) ≡ header_numbers h
 unfolding header_bits
 groups_written h is = sym (numbers_at-groups 0 header_widths (header_bits h))
-    ∙ numbers_at-spelled header_widths (header_numbers h) (Fits-header_numbers h is)
+    ∙ numbers_at-group_bits header_widths (header_numbers h) (NumbersFit-header_numbers h is)
 
 version_back : (v : Version)
     → v ≡ cond (eqb (version_number v) 3) One (cond (eqb (version_number v) 2) Two TwoFive)
@@ -380,7 +381,7 @@ header_bits-header_in bs fields all l is =
     ap header_bits (sym ok.2)
     ∙ ap (group_bits header_widths)
     (numbers_read bs all (readable bs ok.0) ∙ sym (numbers_at-groups 0 header_widths bs))
-    ∙ spelled-numbers_at header_widths bs all l
+    ∙ group_bits-numbers_at header_widths bs all l
 
 -- ---- the four bytes
 -- the bytes of a header are read as that header

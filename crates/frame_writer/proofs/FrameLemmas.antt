@@ -14,7 +14,7 @@ use Rattle.frame_header.specs.Fields.{ClassFields, IsClass, IsHeader, IsSlot, Sl
 use Rattle.frame_header.specs.Tables.{area_of, class_of, overhead_of, side_bytes_of, side_size_of}
 use Rattle.frame_header.specs.{Tables.window_of, declared.version.Version.Version}
 use Rattle.frame_header.specs.declared.version.Version.TheVariants.{One, Two, TwoFive}
-use Rattle.frame_writer.proofs.LaidLemmas.{laid-later}
+use Rattle.frame_writer.proofs.LaidLemmas.{laid_data-later}
 use Rattle.frame_writer.specs.Frames.{all_frame_data, areas_length, AreFieldsOfClass}
 use Rattle.frame_writer.specs.Frames.{AreFramesWritten, bytes_of_frames, fields_of_frames}
 use Rattle.frame_writer.specs.Frames.{first_bytes, Frame, frame_area, frame_data, framed_bytes}
@@ -26,11 +26,11 @@ use Rattle.side_info.specs.{Frame.frame_front_bytes, FrameFields.FrameFields, Si
 -- ---- areas cut in order
 
 -- frames and then others are framed in order
-pub framed-more : (ks js : List FrameFields) (xs ys : List ℕ) → length xs ≡ areas_length ks
+pub framed_bytes-more : (ks js : List FrameFields) (xs ys : List ℕ) → length xs ≡ areas_length ks
     → framed_bytes (ks ++ js) (xs ++ ys) ≡ framed_bytes ks xs ++ framed_bytes js ys
-framed-more [] js [] ys long = refl
-framed-more [] js (x ∷ xs) ys long = absurd (omega (arith, long))
-framed-more (k ∷ ks) js xs ys long =
+framed_bytes-more [] js [] ys long = refl
+framed_bytes-more [] js (x ∷ xs) ys long = absurd (omega (arith, long))
+framed_bytes-more (k ∷ ks) js xs ys long =
     let n = frame_area k in
     let front = frame_front_bytes k.header k.side in
     let within : n ≤ length xs = omega (arith, long) in
@@ -38,21 +38,21 @@ framed-more (k ∷ ks) js xs ys long =
     ap₂ (λ (ps qs : List ℕ). front ++ (ps ++ framed_bytes (ks ++ js) qs))
     (take-append-le n xs ys within)
     (drop-append-le n xs ys within)
-    ∙ ap (λ (qs : List ℕ). front ++ (take n xs ++ qs)) (framed-more ks js (drop n xs) ys rest)
+    ∙ ap (λ (qs : List ℕ). front ++ (take n xs ++ qs)) (framed_bytes-more ks js (drop n xs) ys rest)
     ∙ ap (λ (qs : List ℕ). front ++ qs)
     (sym (append_assoc (take n xs) (framed_bytes ks (drop n xs)) (framed_bytes js ys)))
     ∙ sym (append_assoc front (take n xs ++ framed_bytes ks (drop n xs)) (framed_bytes js ys))
 
-areas_in-more : (xs : List FrameFields) (k : FrameFields)
+areas_length-more : (xs : List FrameFields) (k : FrameFields)
     → areas_length (xs ++ k ∷ []) ≡ areas_length xs + frame_area k
-areas_in-more [] k = omega arith
-areas_in-more (x ∷ xs) k = omega (arith, areas_in-more xs k)
+areas_length-more [] k = omega arith
+areas_length-more (x ∷ xs) k = omega (arith, areas_length-more xs k)
 
 -- what was taken, and then what waits, are the bytes of all frames that were given
 pub laid-steps : LaidSteps
 laid-steps taken held fs are =
     ap (λ (xs : List ℕ). xs ++ held_bytes held) are.bytes
-    ∙ sym (framed-more are.done held.kept are.given held.waiting.bytes are.long)
+    ∙ sym (framed_bytes-more are.done held.kept are.given held.waiting.bytes are.long)
     ∙ ap₂ framed_bytes are.all are.laid.same
 
 -- if no frame was given, none was taken
@@ -113,10 +113,10 @@ first-written taken area_bytes c k ks waiting less fs long step are =
       given = are.given ++ area_bytes;
       all = append_assoc are.done (k ∷ []) ks ∙ are.all;
       long = omega
-          (arith, length-append are.given area_bytes, are.long, long, areas_in-more are.done k);
+          (arith, length-append are.given area_bytes, are.long, long, areas_length-more are.done k);
       laid = step are.given (all_frame_data fs) are.laid;
       bytes = ap₂ (λ (xs ys : List ℕ). xs ++ ys) are.bytes cut
-          ∙ sym (framed-more are.done (k ∷ []) are.given area_bytes are.long);
+          ∙ sym (framed_bytes-more are.done (k ∷ []) are.given area_bytes are.long);
     }
 
 -- what was taken stays whatever frames follow, if the first of them begins within what is free
@@ -125,14 +125,16 @@ pub later-frames : (taken : List ℕ) (held : WaitingFrames) (fs more : List Fra
     → (rest : List ℕ) × (bytes_of_frames (fs ++ more) ≡ taken ++ rest)
 later-frames taken held fs more are within =
     let found =
-    laid-later are.given held.waiting (all_frame_data fs) (all_frame_data more) are.laid within in
+    laid_data-later are.given held.waiting (all_frame_data fs)
+    (all_frame_data more) are.laid within in
     let all : fields_of_frames (fs ++ more) ≡ are.done ++ (held.kept ++ fields_of_frames more) =
     map-append (λ (f : Frame). f.kept) fs more
     ∙ ap (λ (ks : List FrameFields). ks ++ fields_of_frames more)
     (sym are.all) ∙ append_assoc are.done held.kept (fields_of_frames more) in (
       framed_bytes (held.kept ++ fields_of_frames more) found.0,
       ap₂ framed_bytes all (ap laid_data (map-append frame_data fs more) ∙ found.1)
-          ∙ framed-more are.done (held.kept ++ fields_of_frames more) are.given found.0 are.long
+          ∙ framed_bytes-more are.done (held.kept ++ fields_of_frames more)
+          are.given found.0 are.long
           ∙ ap (λ (xs : List ℕ). xs ++ framed_bytes (held.kept ++ fields_of_frames more) found.0)
           (sym are.bytes),
     )
@@ -140,18 +142,18 @@ later-frames taken held fs more are within =
 -- ---- frames in their queue
 
 -- frames of a class and one more of it are of the class
-pub AreOf-more : (c : ClassFields) (ks : List FrameFields) (k : FrameFields) → AreFieldsOfClass c ks
-    → IsHeader k.header → class_of k.header ≡ c → SideFits c k.side
+pub AreFieldsOfClass-more : (c : ClassFields) (ks : List FrameFields) (k : FrameFields)
+    → AreFieldsOfClass c ks → IsHeader k.header → class_of k.header ≡ c → SideFits c k.side
     → AreFieldsOfClass c (ks ++ k ∷ [])
-AreOf-more c [] k are is same fits = (is, same, fits, tt)
-AreOf-more c (j ∷ ks) k are is same fits =
-    (are.0, are.1, are.2, AreOf-more c ks k are.3 is same fits)
+AreFieldsOfClass-more c [] k are is same fits = (is, same, fits, tt)
+AreFieldsOfClass-more c (j ∷ ks) k are is same fits =
+    (are.0, are.1, are.2, AreFieldsOfClass-more c ks k are.3 is same fits)
 
 -- if areas are as long as bytes, they still are with one more area and its bytes
-pub areas_in-pushed : (ks : List FrameFields) (k : FrameFields) (bytes more : List ℕ)
+pub areas_length-pushed : (ks : List FrameFields) (k : FrameFields) (bytes more : List ℕ)
     → areas_length ks ≡ length bytes → length more ≡ length bytes + frame_area k →
     areas_length (ks ++ k ∷ []) ≡ length more
-areas_in-pushed ks k bytes more same long = omega (arith, areas_in-more ks k, same, long)
+areas_length-pushed ks k bytes more same long = omega (arith, areas_length-more ks k, same, long)
 
 -- a frame that is added where there is room is the last of the queue
 pub pushed-kept : {R : Type 0} (old new : Buffer FrameFields) (k : FrameFields)
@@ -183,10 +185,10 @@ area-range k is =
     )
 
 -- framed bytes are the bytes of the first frame and then of the frames after it
-pub first-framed : (k : FrameFields) (ks : List FrameFields) (bytes : List ℕ)
+pub first-framed_bytes : (k : FrameFields) (ks : List FrameFields) (bytes : List ℕ)
     → first_bytes k bytes ++ framed_bytes ks (drop (frame_area k) bytes)
     ≡ framed_bytes (k ∷ ks) bytes
-first-framed k ks bytes =
+first-framed_bytes k ks bytes =
     append_assoc (frame_front_bytes k.header k.side) (take (frame_area k) bytes)
     (framed_bytes ks (drop (frame_area k) bytes))
 

@@ -234,18 +234,18 @@ taken-laid given bytes taken left n free less ps takes leaves fewer some are = r
 
 -- ---- frames that follow
 
-laid_from-append : (end area_start : ℕ) (ps qs : List FrameData)
+laid_data_from-append : (end area_start : ℕ) (ps qs : List FrameData)
     → laid_data_from end area_start (ps ++ qs)
     ≡ up_to end area_start ps
     ++ laid_data_from (data_end end area_start ps) (areas_end area_start ps) qs
-laid_from-append end area_start [] qs = refl
-laid_from-append end area_start (p ∷ ps) qs =
+laid_data_from-append end area_start [] qs = refl
+laid_data_from-append end area_start (p ∷ ps) qs =
     let gap = zeros (frame_data_start area_start p - end) in
     let more = up_to (frame_data_end area_start p) (area_start + p.area) ps in
     let rest = laid_data_from (data_end (frame_data_end area_start p) (area_start + p.area) ps)
     (areas_end (area_start + p.area) ps) qs in
     ap (λ (xs : List ℕ). gap ++ (p.payload ++ xs))
-    (laid_from-append (frame_data_end area_start p) (area_start + p.area) ps qs)
+    (laid_data_from-append (frame_data_end area_start p) (area_start + p.area) ps qs)
     ∙ ap (λ (xs : List ℕ). gap ++ xs) (sym (append_assoc p.payload more rest))
     ∙ sym (append_assoc gap (p.payload ++ more) rest)
 
@@ -292,10 +292,10 @@ front_of_zeros given bytes front rest n m same few many =
     )
 
 -- what was forwarded stays, whatever is laid after it within what is free
-pub laid-later : (given : List ℕ) (waiting : WaitingAreas) (ps qs : List FrameData)
+pub laid_data-later : (given : List ℕ) (waiting : WaitingAreas) (ps qs : List FrameData)
     → AreAreasLaid given waiting ps → BeginsWithin waiting.free qs
     → (rest : List ℕ) × (laid_data (ps ++ qs) ≡ given ++ rest)
-laid-later given waiting ps qs are within =
+laid_data-later given waiting ps qs are within =
     let end = data_end 0 0 ps in
     let all = areas_end 0 ps in
     let first = zeros_first end all waiting.free qs within in
@@ -303,7 +303,7 @@ laid-later given waiting ps qs are within =
     front_of_zeros given waiting.bytes (up_to 0 0 ps) first.2 (all - end) (all - first.0 - end)
     (are.same ∙ laid_up_to 0 0 ps) (omega arith) (omega (arith, first.1, are.free, are.room)) in (
       found.0,
-      laid_from-append 0 0 ps qs ∙ ap (λ (xs : List ℕ). up_to 0 0 ps ++ xs) first.3 ∙ found.1,
+      laid_data_from-append 0 0 ps qs ∙ ap (λ (xs : List ℕ). up_to 0 0 ps ++ xs) first.3 ∙ found.1,
     )
 
 -- ---- the queue

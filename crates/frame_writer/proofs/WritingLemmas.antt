@@ -5,7 +5,7 @@ use Rattle.std.proofs.Common.{ℕ, [], ◌++◌, ◌∙◌, ◌∷◌, ◌≡◌
 use Rattle.std.proofs.lemmas.List.{append_cancel_right, length-take-le, nil_from_length}
 use Rattle.std.proofs.lemmas.List.{take-append-le}
 use Rattle.frame_header.specs.Fields.{ClassFields}
-use Rattle.frame_writer.proofs.FrameLemmas.{first-framed, first-written}
+use Rattle.frame_writer.proofs.FrameLemmas.{first-framed_bytes, first-written}
 use Rattle.frame_writer.specs.Frames.{AreFramesWritten, first_bytes, Frame, frame_area}
 use Rattle.frame_writer.specs.Frames.{framed_bytes, held_bytes, IsNextSettled, WaitingFrames}
 use Rattle.frame_writer.specs.{Laid.{AreAreasLaid, FrameData, WaitingAreas}, Writer.IsWriterSettled}
@@ -92,7 +92,7 @@ module _ (old : WaitingFrames) (c : ClassFields) (k : FrameFields) (ks left : Li
         ap₂ (λ (js : List FrameFields) (xs : List ℕ). first_bytes k waiting.bytes
         ++ framed_bytes js xs)
         rest drops
-        ∙ first-framed k (drop 1 ks) waiting.bytes
+        ∙ first-framed_bytes k (drop 1 ks) waiting.bytes
         ∙ ap (λ (js : List FrameFields). framed_bytes js waiting.bytes) (sym is)
         ∙ ap held_bytes view;
     class = ap (λ (h : WaitingFrames). h.class) view;

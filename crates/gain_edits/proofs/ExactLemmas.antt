@@ -29,9 +29,9 @@ use Rattle.gain_edits.specs.GainRange.{out_of_range_refusal, range_fault, row_ra
 use Rattle.gain_edits.specs.UndoItem.{next_undo, no_undo, noted_undo, number_fault, output_fault}
 use Rattle.gain_edits.specs.UndoItem.{output_length, size_fault, tag_result, tag_with_undo}
 use Rattle.gain_edits.specs.UndoItem.{undo_fault}
-use Rattle.moved_gains.proofs.ExtremesLemmas.{joined-extremes}
-use Rattle.moved_gains.proofs.TakenStepLemmas.{stuck-cons, stuck-nil, take_steps, takes-joined}
-use Rattle.moved_gains.specs.Change.{FileChange}
+use Rattle.moved_gains.proofs.ExtremesLemmas.{joined_extremes-append}
+use Rattle.moved_gains.proofs.TakenStepLemmas.{stuck-cons, stuck-nil, take_steps}
+use Rattle.moved_gains.{proofs.TakenStepLemmas.takes_steps-joined_extremes, specs.Change.FileChange}
 use Rattle.moved_gains.specs.Course.{constant_steps, equal_steps, number_at, steps_at_offset}
 use Rattle.moved_gains.specs.Edited.{row_out_of_range}
 use Rattle.moved_gains.specs.GainExtremes.{extremes_of, extremes_of_both, moving_gains, takes_steps}
@@ -48,7 +48,8 @@ use Rattle.requests.specs.Shifts.{left_steps_of, right_steps_of, steps_of}
 use Rattle.requests.specs.declared.shift.Channels.{Channels, TheVariants.{Both, Left, Right}}
 use Rattle.requests.specs.declared.shift.{Shift.Shift, Steps.Steps}
 use Rattle.side_info.specs.Side.{SideFits}
-use Rattle.sync_survey.proofs.{PlacedRowLemmas.surveyed-placed, SurveyedFileLemmas.survey_of-parts}
+use Rattle.sync_survey.proofs.PlacedRowLemmas.{survey_fields-placed}
+use Rattle.sync_survey.proofs.SurveyedFileLemmas.{survey_of-parts}
 use Rattle.sync_survey.specs.{Faults.{longest_file, SurveyFields}, Row.Row}
 use Rattle.sync_survey.specs.Survey.{AreWellPlaced, survey_of}
 use Rattle.tag_blocks.specs.{Tags.{tag_bytes, TagFields}, UndoItems.undo_from}
@@ -61,11 +62,11 @@ is_range : Option Refusal → Bool
 is_range None = false
 is_range (Some refusal) = is_range_refusal refusal
 
-range-unless : {A : Type 0} (o : Option Refusal) (a : A)
+range-refusal_or : {A : Type 0} (o : Option Refusal) (a : A)
     → leaves_range (refusal_or o a) ≡ is_range o
 unfolding is_range
-range-unless None a = refl
-range-unless (Some refusal) a = refl
+range-refusal_or None a = refl
+range-refusal_or (Some refusal) a = refl
 
 range-or : (o later : Option Refusal) → is_range o ≡ false → is_range (or_else o later) ≡ true
     → (o ≡ None) × (is_range later ≡ true)
@@ -151,18 +152,18 @@ ok-changed file s (Ok change) = refl
 ok-changed file s (Err fault) = refl
 
 -- a file is made exactly if no gain leaves the range
-made-unless : (of : Changing) (file : List ℕ) (s : SurveyFields) (steps : ℕ → Steps)
+made-refusal_or : (of : Changing) (file : List ℕ) (s : SurveyFields) (steps : ℕ → Steps)
     (change : FileChange) (taken : Bool) → survey_of file most_frames ≡ Ok s
     → of file s ≡ refusal_or (range_fault steps s.frames) change
     → is_some_out_of_range steps s.frames ≡ not taken → IsMadeIfTaken taken (change_result of file)
-made-unless of file s steps change taken is made stuck =
+made-refusal_or of file s steps change taken is made stuck =
     let o = range_fault steps s.frames in
     let whole : change_result of file ≡ changed_or_fault file s (refusal_or o change) =
     changed-as of file s is ∙ ap (changed_or_fault file s) made in
     let range : is_range o ≡ not taken = range-some steps s.frames ∙ stuck in
     record {
       refused = ap leaves_range whole ∙ range-changed file s (refusal_or o change)
-          ∙ range-unless o change ∙ range;
+          ∙ range-refusal_or o change ∙ range;
       accepted = ap (λ (r : Result (List ℕ) EditFault). is_ok r) whole
           ∙ ok-changed file s (refusal_or o change)
           ∙ made-where o change (range-free steps s.frames)
@@ -264,13 +265,13 @@ noted-plain shift s tag undo is =
     let change : FileChange =
     record { steps = constant_steps (steps_of shift); tag = Some bytes } in
     let first = range-or (channel_fault shift s) later (range-channel shift s)
-    (sym (range-unless (or_else (channel_fault shift s) later) change) ∙ is) in
+    (sym (range-refusal_or (or_else (channel_fault shift s) later) change) ∙ is) in
     let second = range-or (undo_fault next)
     (or_else (size_fault bytes) (or_else (output_fault s bytes) range)) (range-undo next) first.1 in
     let third = range-or (size_fault bytes) (or_else (output_fault s bytes) range)
     (range-size bytes) second.1 in
     let last = range-or (output_fault s bytes) range (range-output s bytes) third.1 in
-    range-unless (or_else (channel_fault shift s) range)
+    range-refusal_or (or_else (channel_fault shift s) range)
     (record { steps = constant_steps (steps_of shift); tag = None })
     ∙ ap (λ o. is_range (or_else o range)) first.0 ∙ last.1
 
@@ -290,19 +291,21 @@ tag-plain shift s (Err (BadBlock at)) is = absurd cc
 tag-plain shift s (Err (Read fault)) is = absurd cc
 tag-plain shift s (Err NoRoom) is = absurd cc
 
-range-gained : (shift : Shift) (tags : Bool) (file : List ℕ) (s : SurveyFields)
+range-gain_result : (shift : Shift) (tags : Bool) (file : List ℕ) (s : SurveyFields)
     → survey_of file most_frames ≡ Ok s
     → leaves_range (gain_result shift tags file) ≡ leaves_range (gain_change shift tags file s)
-range-gained shift tags file s is = ap leaves_range (changed-as (gain_change shift tags) file s is)
+range-gain_result shift tags file s is =
+    ap leaves_range (changed-as (gain_change shift tags) file s is)
     ∙ range-changed file s (gain_change shift tags file s)
 
 noted-only : (shift : Shift) (file : List ℕ) (s : SurveyFields) → survey_of file most_frames ≡ Ok s
     → leaves_range (gain_result shift true file) ≡ true
     → leaves_range (gain_result shift false file) ≡ true
 noted-only shift file s is refused =
-    range-gained shift false file s is ∙ ap leaves_range (plain-as shift file s)
+    range-gain_result shift false file s is ∙ ap leaves_range (plain-as shift file s)
     ∙ tag-plain shift s (file_tag file s)
-    (sym (range-gained shift true file s is ∙ ap leaves_range (noted-as shift file s)) ∙ refused)
+    (sym (range-gain_result shift true file s is ∙ ap leaves_range (noted-as shift file s))
+    ∙ refused)
 
 -- if no gain leaves the range, no change is refused for it, noted or not
 never : (shift : Shift) (tags : Bool) (file : List ℕ) (s : SurveyFields)
@@ -313,8 +316,8 @@ never shift tags file s is free = by_tags tags
   where
     plain : leaves_range (gain_result shift false file) ≡ false
     plain =
-        range-gained shift false file s is ∙ ap leaves_range (plain-as shift file s)
-        ∙ range-unless (or_else (channel_fault shift s)
+        range-gain_result shift false file s is ∙ ap leaves_range (plain-as shift file s)
+        ∙ range-refusal_or (or_else (channel_fault shift s)
         (range_fault (constant_steps (steps_of shift))
         s.frames)) (record { steps = constant_steps (steps_of shift); tag = None })
         ∙ range-none (channel_fault shift s)
@@ -329,12 +332,12 @@ never shift tags file s is free = by_tags tags
 
 -- ---- files in which no gain moves
 
-takes-each : (rows : List Row) (steps : ℤ) → takes_steps (extremes_of_both rows) steps
+takes_steps-each : (rows : List Row) (steps : ℤ) → takes_steps (extremes_of_both rows) steps
     ≡ (takes_steps (extremes_of 0 rows) steps && takes_steps (extremes_of 1 rows) steps)
-takes-each rows steps =
+takes_steps-each rows steps =
     ap (λ g. takes_steps g steps)
-    (sym (joined-extremes (moving_gains 0 rows) (moving_gains 1 rows)))
-    ∙ takes-joined (extremes_of 0 rows) (extremes_of 1 rows) steps
+    (sym (joined_extremes-append (moving_gains 0 rows) (moving_gains 1 rows)))
+    ∙ takes_steps-joined_extremes (extremes_of 0 rows) (extremes_of 1 rows) steps
 
 still-stuck : (rows : List Row) → TakeSteps rows → extremes_of_both rows ≡ None → (shift : Shift)
     → is_some_out_of_range (constant_steps (steps_of shift)) rows ≡ false
@@ -344,7 +347,7 @@ still-stuck rows law none shift = by_wrap shift.wrap refl
         × (takes_steps (extremes_of 1 rows) steps ≡ true)
     parts steps =
         and_parts (takes_steps (extremes_of 0 rows) steps) (takes_steps (extremes_of 1 rows) steps)
-        (sym (takes-each rows steps) ∙ ap (λ g. takes_steps g steps) none)
+        (sym (takes_steps-each rows steps) ∙ ap (λ g. takes_steps g steps) none)
 
     by_wrap : (b : Bool) → shift.wrap ≡ b
         → is_some_out_of_range (constant_steps (steps_of shift)) rows ≡ false
@@ -432,7 +435,7 @@ fade-free file s is law sheet back points read all =
     let taken : All (λ p. IsTrue (takes_point gains back p.steps)) curve =
     subst (All (λ p. IsTrue (takes_point gains back p.steps))) (sym placed) (all-mapped (λ p.
     IsTrue (takes_point gains back p.steps)) (curve_point s.class (length s.frames)) points all) in
-    range-unless (range_fault (steps_at_offset (Along curve back) s.frames) s.frames)
+    range-refusal_or (range_fault (steps_at_offset (Along curve back) s.frames) s.frames)
     (record { steps = steps_at_offset (Along curve back) s.frames; tag = None })
     ∙ range-some (steps_at_offset (Along curve back) s.frames) s.frames
     ∙ law.each (λ at. steps_back back (steps_at curve (number_at s.frames at)))
@@ -465,7 +468,8 @@ fade-one file s is law sheet back point few read =
     (steps_of_one (curve_point s.class (length s.frames) point) (number_at s.frames at)) in
     let whole : steps ≡ constant_steps (equal_steps (steps_back back point.steps)) =
     λ i at. same at i in
-    made-unless (fade_change (Some sheet) back) file s steps (record { steps = steps; tag = None })
+    made-refusal_or (fade_change (Some sheet) back) file s steps
+    (record { steps = steps; tag = None })
     (takes_point gains back point.steps) is
     (one-as sheet back s point few read)
     (ap (λ f. is_some_out_of_range f s.frames) whole
@@ -483,18 +487,18 @@ fitting (row ∷ rows) fits = (fits 0 row refl, fitting rows (λ i r there. fits
 -- which steps every well-formed file accepts
 pub exact-steps : StepsAreExact
 exact-steps file s is = record {
-  both = λ steps. made-unless (gain_change (strict_shift Both steps) false) file s
+  both = λ steps. made-refusal_or (gain_change (strict_shift Both steps) false) file s
       (constant_steps (equal_steps steps))
       (record { steps = constant_steps (equal_steps steps); tag = None })
       (takes_steps (extremes_of_both s.frames) steps) is (alone Both steps file s refl)
       (law.both steps);
   mono = law.mono s.class (λ i row there. (placed i row there).class_is);
-  left = λ may steps. made-unless (gain_change (strict_shift Left steps) false) file s
+  left = λ may steps. made-refusal_or (gain_change (strict_shift Left steps) false) file s
       (constant_steps (separate_steps steps (pos 0)))
       (record { steps = constant_steps (separate_steps steps (pos 0)); tag = None })
       (takes_steps (extremes_of 0 s.frames) steps) is (alone Left steps file s may)
       (law.left steps);
-  right = λ may steps. made-unless (gain_change (strict_shift Right steps) false) file s
+  right = λ may steps. made-refusal_or (gain_change (strict_shift Right steps) false) file s
       (constant_steps (separate_steps (pos 0) steps))
       (record { steps = constant_steps (separate_steps (pos 0) steps); tag = None })
       (takes_steps (extremes_of 1 s.frames) steps) is (alone Right steps file s may)
@@ -508,7 +512,7 @@ exact-steps file s is = record {
 }
   where
     placed : AreWellPlaced s.head s.class s.frames
-    placed = surveyed-placed file most_frames s (survey_of-parts file most_frames s is).1
+    placed = survey_fields-placed file most_frames s (survey_of-parts file most_frames s is).1
 
     law : TakeSteps s.frames
     law = take_steps s.frames (fitting s.frames (λ i row there. subst (λ (c : ClassFields).

@@ -5,7 +5,7 @@ use Rattle.std.specs.Prelude.{IfErr, IfSome, length, MatchResult, ◌⊎◌}
 use Rattle.bit_fields.specs.Bits.{AreBytes}
 use Rattle.commands.proofs.InputLemmas.{input_is_early, made-survey}
 use Rattle.commands.proofs.NamedLemmas.{lost_name, missed_name, unread_name}
-use Rattle.commands.proofs.{RefusingLemmas.{then_all, unless_all}, SheetLemmas.sheet-all}
+use Rattle.commands.proofs.{RefusingLemmas.{refusal_or-all, then_all}, SheetLemmas.sheet-all}
 use Rattle.commands.proofs.WhyLemmas.{each_why, each_why_of}
 use Rattle.commands.specs.AfterCall.{HasInputNumbers, IsEditRefusal, IsNotBefore, why_of}
 use Rattle.commands.specs.{Refusing.{refusal_or, then_made}, Sheet.sheet_in}
@@ -59,10 +59,10 @@ curve_fault sheet back s fault (inr is) =
     inr (is.0, ap (λ r. then_made r (curve_change back s)) is.1)
 
 -- with a curve, the fade is the change along it
-pub fade_in-curve : (sheet : List ℕ) (back : Bool) (s : SurveyFields) (curve : List CurvePoint)
+pub sheet_change-curve : (sheet : List ℕ) (back : Bool) (s : SurveyFields) (curve : List CurvePoint)
     → sheet_curve s sheet ≡ Ok curve → sheet_change sheet back s ≡ curve_change back s curve
 unfolding sheet_change
-fade_in-curve sheet back s curve is = ap (λ r. then_made r (curve_change back s)) is
+sheet_change-curve sheet back s curve is = ap (λ r. then_made r (curve_change back s)) is
 
 -- with a curve, the result of the fade is the result of the change along it
 pub along_answer : (sheet : List ℕ) (back : Bool) (s : SurveyFields) (curve : List CurvePoint)
@@ -73,9 +73,10 @@ pub along_answer : (sheet : List ℕ) (back : Bool) (s : SurveyFields) (curve : 
     → MatchResult r (λ change. sheet_change sheet back s ≡ Ok (change_in change s)) (λ fault.
     (fault ≡ Memory)
     ⊎ (IsEditRefusal choice_refuses fault × (sheet_change sheet back s ≡ Err fault)))
-along_answer sheet back s curve is (Ok change) made = fade_in-curve sheet back s curve is ∙ made
+along_answer sheet back s curve is (Ok change) made =
+    sheet_change-curve sheet back s curve is ∙ made
 along_answer sheet back s curve is (Err fault) refused =
-    inr (refused.0, fade_in-curve sheet back s curve is ∙ refused.1)
+    inr (refused.0, sheet_change-curve sheet back s curve is ∙ refused.1)
 
 -- ---- no fault comes before the sheet is read
 
@@ -107,12 +108,12 @@ in_before bytes back s =
     then_all (IsNotBefore (Input 1 Read)) (sheet_curve s bytes) (curve_change back s)
     (then_all (IsNotBefore (Input 1 Read)) (points_in bytes) (points_curve s) (points_before
     (envelope_of bytes)) (λ points. curve_before (curve_of s.class (length s.frames) points)))
-    (λ curve. unless_all (IsNotBefore (Input 1 Read)) _ _
+    (λ curve. refusal_or-all (IsNotBefore (Input 1 Read)) _ _
     (range_before _ (range_may choice_refuses (λ offset granule channel gain. refl) _ s.frames)))
 
-fade_of-before : (sheet : Option (List ℕ)) (back : Bool) (s : SurveyFields)
+input_sheet_change-before : (sheet : Option (List ℕ)) (back : Bool) (s : SurveyFields)
     → IfErr (input_sheet_change sheet back s) (IsNotBefore (Input 1 Read))
-fade_of-before sheet back s =
+input_sheet_change-before sheet back s =
     then_all (IsNotBefore (Input 1 Read)) (sheet_in sheet) (λ bytes. sheet_change bytes back s)
     (sheet-all (IsNotBefore (Input 1 Read)) (omega arith) (λ size. tt) sheet)
     (λ bytes. in_before bytes back s)
@@ -210,7 +211,7 @@ module _ (sheet : List ℕ) (back : Bool) (input : List ℕ) where
         (subst (λ r. IfErr r (IsNotBefore (Input 1 Read)))
         (sym (makes_by f held.0 held.1 (is held.0 held.1))) (changed_all (IsNotBefore
         (Input 1 Read)) held.0 s (input_sheet_change (f sheet) back s)
-        (fade_of-before (f sheet) back s)))
+        (input_sheet_change-before (f sheet) back s)))
 
     with_sheet : (files : Files) (r : Result FileChange EditFault) → IsFileThere files sheet
         → ((bytes : List ℕ) → Holds files sheet bytes → input_sheet_change (Some bytes) back s ≡ r)

@@ -5,7 +5,7 @@ use Rattle.std.proofs.Common.{Result, Some, subst, suc, sym, zero-add, ℕ, [], 
 use Rattle.std.specs.{List.enumerate_from, Prelude.{IfErr, IfSome, slice_get}}
 use Rattle.bit_fields.specs.Bits.{AreBytes}
 use Rattle.commands.proofs.InputLemmas.{file_proper, IsProperMaking}
-use Rattle.commands.proofs.RefusingLemmas.{then_late, then_ok, unless_late, unless_ok}
+use Rattle.commands.proofs.RefusingLemmas.{refusal_or-late, refusal_or-ok, then_late, then_ok}
 use Rattle.commands.{proofs.SheetLemmas.sheet-late, specs.AfterCall.IsLateFault}
 use Rattle.commands.specs.{Refusing.then_made, Sheet.sheet_in}
 use Rattle.commands.specs.SingleOutput.{IsProperTask, most_frames}
@@ -23,7 +23,7 @@ use Rattle.moved_gains.specs.Course.{AreRowsNumbered, course_steps, steps_at_off
 use Rattle.moved_gains.specs.{Streams.{moved_stream_frame, moved_stream_of}, TagPlace.IsTagBytes}
 use Rattle.moved_gains.specs.declared.course.Course.{Course, TheVariants.Along}
 use Rattle.requests.specs.declared.shift.Steps.{Steps}
-use Rattle.sync_survey.proofs.SurveyPartsLemmas.{surveyed-allowed}
+use Rattle.sync_survey.proofs.SurveyPartsLemmas.{survey_fields-allowed}
 use Rattle.sync_survey.proofs.SurveyedFileLemmas.{survey_of-parts}
 use Rattle.sync_survey.specs.Faults.{HoldsStream, stream_of, stream_of_survey, survey_fields}
 use Rattle.sync_survey.specs.Faults.{SurveyFields}
@@ -49,12 +49,13 @@ in-late bytes back s =
     then_late (sheet_curve s bytes) (curve_change back s)
     (then_late (points_in bytes) (points_curve s) (points-late (envelope_of bytes))
     (λ points. curve-late (curve_of s.class (length s.frames) points)))
-    (λ curve. unless_late _ _)
+    (λ curve. refusal_or-late _ _)
 
 -- the refusals of a fade are late
-pub fade_of-late : (sheet : Option (List ℕ)) (back : Bool) (s : SurveyFields)
+pub input_sheet_change-late : (sheet : Option (List ℕ)) (back : Bool) (s : SurveyFields)
     → IfErr (input_sheet_change sheet back s) IsLateFault
-fade_of-late sheet back s = then_late (sheet_in sheet) (λ bytes. sheet_change bytes back s)
+input_sheet_change-late sheet back s =
+    then_late (sheet_in sheet) (λ bytes. sheet_change bytes back s)
     (sheet-late sheet) (λ bytes. in-late bytes back s)
 
 -- ---- the curve of what is made
@@ -75,7 +76,8 @@ faded-parts sheet back s change e =
     let one = then_ok (sheet_in sheet) (λ bytes. sheet_change bytes back s) change e in
     let two = then_ok (sheet_curve s one.0) (curve_change back s) change one.2 in
     let three =
-    unless_ok (range_fault (steps_at_offset (Along two.0 back) s.frames) s.frames) _ change two.2 in
+    refusal_or-ok (range_fault (steps_at_offset (Along two.0 back) s.frames) s.frames) _ change
+    two.2 in
     record {
       curve = two.0;
       is = ap (λ r. then_made r (sheet_curve s)) one.1 ∙ two.1;
@@ -125,7 +127,7 @@ module _ (sheet : Option (List ℕ)) (back : Bool) where
       let none : IfSome c.change.tag IsTagBytes =
       subst (λ (d : FileChange). IfSome d.tag IsTagBytes) parts.made tt in
       let moved = changed-stream (fade_change sheet back) file new s c all is none in
-      let full = surveyed-allowed file most_frames (length file + 1) s (omega arith)
+      let full = survey_fields-allowed file most_frames (length file + 1) s (omega arith)
       (survey_of-parts file most_frames s is).1 in
       let same : moved.before.0 ≡ s =
       same_survey moved.before.0 s (survey_fields file (length file + 1)) moved.before.1 full in
@@ -148,7 +150,7 @@ module _ (sheet : Option (List ℕ)) (back : Bool) where
       (faded_stream sheet back)
   fade_making = record {
     late = λ file s. changed_all IsLateFault file s (input_sheet_change sheet back s)
-        (fade_of-late sheet back s);
+        (input_sheet_change-late sheet back s);
     streams = fade_stream;
   }
 

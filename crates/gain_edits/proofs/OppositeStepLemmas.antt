@@ -7,23 +7,25 @@ use Rattle.std.proofs.{Common.{◌∷◌, ◌≡◌, ◌≤◌}, Math.IntN.+ℤ_
 use Rattle.std.proofs.lemmas.List.{drop_at, length-take-le, take_all, take_at}
 use Rattle.std.specs.{List.enumerate_from, Prelude.{IfSome, ◌⊎◌}}
 use Rattle.bit_fields.specs.Bits.{AreBytes}
-use Rattle.commands.proofs.RefusingLemmas.{first-cons, first-nil, none_both, none_first, unless_ok}
-use Rattle.commands.specs.{Refusing.{or_else, refusal_or}, SingleOutput.most_frames}
-use Rattle.commands.specs.declared.fault.Refusal.{Refusal, TheVariants.{Joint, Mono}}
-use Rattle.gain_edits.proofs.ProperLemmas.{changed-ok, changed_survey, even_stream, made_of}
-use Rattle.gain_edits.proofs.ProperLemmas.{stream-changed, surveyed-changed}
-use Rattle.gain_edits.proofs.RangeAgainLemmas.{even_opposite, range_back, row_fits, still}
+use Rattle.commands.proofs.RefusingLemmas.{first-cons, first-nil, none_both, none_first}
+use Rattle.commands.{proofs.RefusingLemmas.refusal_or-ok, specs.Refusing.{or_else, refusal_or}}
+use Rattle.commands.specs.{SingleOutput.most_frames, declared.fault.Refusal.Refusal}
+use Rattle.commands.specs.declared.fault.Refusal.TheVariants.{Joint, Mono}
+use Rattle.gain_edits.proofs.ProperLemmas.{changed_survey, constant_steps-stream}
+use Rattle.gain_edits.proofs.ProperLemmas.{file_with_change-ok, made_of, stream-file_with_change}
+use Rattle.gain_edits.proofs.ProperLemmas.{survey_fields-file_with_change}
+use Rattle.gain_edits.proofs.RangeAgainLemmas.{constant_steps-opposite, range_back, row_fits, still}
 use Rattle.gain_edits.{proofs.RefusalLemmas.not_there, specs.Change.change_result}
 use Rattle.gain_edits.specs.Channels.{are_both, channel_fault, is_joint, joint_fault, joint_refusal}
 use Rattle.gain_edits.specs.{Channels.single_channel_fault, Gain.gain_change, GainRange.range_fault}
 use Rattle.gain_edits.specs.GivenBack.{opposite_shift, OppositeGivesBack}
-use Rattle.moved_gains.proofs.EditedSurveyLemmas.{surveyed-edited}
+use Rattle.moved_gains.proofs.EditedSurveyLemmas.{survey_fields-edited_file}
 use Rattle.moved_gains.proofs.LostOffsetLemmas.{end_rises, EndBy}
 use Rattle.moved_gains.proofs.MovedAgainLemmas.{AllTogether, AreMovedBy, AreTogether, even_together}
 use Rattle.moved_gains.proofs.{MovedAgainLemmas.{moved_again, stood}, MovedFrameLemmas.frame_none}
 use Rattle.moved_gains.proofs.MovedGainLemmas.{GainsFit, IsNoStep, side_none}
 use Rattle.moved_gains.proofs.MovedStreamLemmas.{counts_shaped}
-use Rattle.moved_gains.proofs.MovingLemmas.{moved_from, moved_to, written-edited}
+use Rattle.moved_gains.proofs.MovingLemmas.{moved_from, moved_to, written-edited_file}
 use Rattle.moved_gains.proofs.TagPlaceLemmas.{IsAmong, IsInFront, stands_somewhere, StandsSomewhere}
 use Rattle.moved_gains.proofs.WholeFrameLemmas.{AreFramesOf, frame_of, frames_there, IsFrameOf}
 use Rattle.moved_gains.proofs.WholeFrameLemmas.{row_shaped}
@@ -39,7 +41,8 @@ use Rattle.requests.specs.Shifts.{left_steps_of, right_steps_of, steps_of}
 use Rattle.requests.specs.declared.shift.Channels.{Channels, TheVariants.{Left, Right}}
 use Rattle.requests.specs.declared.shift.{Shift.Shift, Steps.Steps}
 use Rattle.side_info.specs.{Frame.frame_with_side, Side.no_side, declared.side.Side.Side}
-use Rattle.sync_survey.proofs.{FoldersLemmas.survey_of-short, SurveyPartsLemmas.surveyed-stream}
+use Rattle.sync_survey.proofs.FoldersLemmas.{survey_of-short}
+use Rattle.sync_survey.proofs.SurveyPartsLemmas.{survey_fields-stream}
 use Rattle.sync_survey.proofs.SurveyedFileLemmas.{survey_of-parts}
 use Rattle.sync_survey.specs.Faults.{HoldsStream, longest_file, stream_of, stream_of_survey}
 use Rattle.sync_survey.specs.Faults.{survey_fields, SurveyFields}
@@ -85,12 +88,12 @@ still_to steps none file at to (row ∷ rows) frames ends =
     ∙ join file at row.offset to ends.0 (omega (arith, ends.1, up))
 
 -- with 0 steps the edited file is the file without its junk
-pub edited_still : (steps : Steps) → IsNoStep steps → (file : List ℕ) (allowed : ℕ)
+pub edited_file-still : (steps : Steps) → IsNoStep steps → (file : List ℕ) (allowed : ℕ)
     (s : SurveyFields) → AreBytes file → survey_fields file allowed ≡ Ok s
     → edited_file (constant_steps steps) file s ≡ file_without_junk s file
-edited_still steps none file allowed s are is =
+edited_file-still steps none file allowed s are is =
     let known = stands_somewhere (constant_steps steps) file allowed s is in
-    sym (written-edited (constant_steps steps) file allowed s is)
+    sym (written-edited_file (constant_steps steps) file allowed s is)
     ∙ ap (λ (l : List ℕ). take s.junk file ++ l)
     (still_to steps none file s.first (length file) s.frames (frames_there file allowed s are is)
     (subst (EndBy s.first s.frames) (sym known.size) known.ends)
@@ -164,13 +167,13 @@ still_holds steps none o tags file allowed s are is =
     let change : FileChange = record { steps = constant_steps steps; tag = o } in
     let same : stream_of_survey (file_with_change change file s) (changed_survey change s)
     ≡ stream_of file =
-    stream-changed file allowed s are is change tags
-    ∙ even_stream steps file s
+    stream-file_with_change file allowed s are is change tags
+    ∙ constant_steps-stream steps file s
     ∙ stream_still steps none file allowed s are is
-    ∙ sym (surveyed-stream file allowed s is).stream_is in
+    ∙ sym (survey_fields-stream file allowed s is).stream_is in
     subst (HoldsStream (file_with_change change file s)) same
-    (surveyed-stream (file_with_change change file s) allowed (changed_survey change s)
-    (surveyed-changed file allowed s are is change tags))
+    (survey_fields-stream (file_with_change change file s) allowed (changed_survey change s)
+    (survey_fields-file_with_change file allowed s are is change tags))
 
 -- ---- the steps
 
@@ -238,7 +241,7 @@ pub plain-parts : (shift : Shift) (file : List ℕ) (s : SurveyFields) (change :
     × (record { steps = constant_steps (steps_of shift); tag = None } ≡ change)
 unfolding gain_change
 plain-parts shift file s change e =
-    let parts = unless_ok (or_else (channel_fault shift s)
+    let parts = refusal_or-ok (or_else (channel_fault shift s)
     (range_fault (constant_steps (steps_of shift)) s.frames)) _ change e in
     let nones =
     none_first (channel_fault shift s)
@@ -256,10 +259,10 @@ plain-ok shift file s apart free =
     (range_fault (constant_steps (steps_of shift)) s.frames) apart free)
 
 -- without a new tag the changed file is the edited file
-pub plain-changed : (steps : ℕ → Steps) (file : List ℕ) (s : SurveyFields)
+pub plain-file_with_change : (steps : ℕ → Steps) (file : List ℕ) (s : SurveyFields)
     → file_with_change (record { steps = steps; tag = None }) file s ≡ edited_file steps file s
 unfolding file_with_change
-plain-changed steps file s = refl
+plain-file_with_change steps file s = refl
 
 -- ---- the file back
 
@@ -287,7 +290,7 @@ module _ (one two : ℕ → Steps) (file : List ℕ) (s : SurveyFields)
   is = (survey_of-parts file most_frames s short).1
 
   new_is : survey_fields moved most_frames ≡ Ok m
-  new_is = surveyed-edited one file most_frames s are is
+  new_is = survey_fields-edited_file one file most_frames s are is
 
   here : StandsSomewhere one file s
   here = stands_somewhere one file most_frames s is
@@ -322,7 +325,7 @@ module _ (one two : ℕ → Steps) (file : List ℕ) (s : SurveyFields)
   rows = moved_to one file s.first (length file) s.frames
 
   stands : moved ≡ junk ++ rows
-  stands = sym (written-edited one file most_frames s is)
+  stands = sym (written-edited_file one file most_frames s is)
 
   junk_long : length junk ≡ s.junk
   junk_long = length-take-le s.junk file (omega (arith, here.size, here.junk, here.first))
@@ -352,18 +355,18 @@ module _ (one two : ℕ → Steps) (file : List ℕ) (s : SurveyFields)
   -- moved back, the file is the first one without its junk
   pub bytes_again : edited_file two moved m ≡ file_without_junk s file
   bytes_again =
-      sym (written-edited two moved most_frames m new_is)
+      sym (written-edited_file two moved most_frames m new_is)
       ∙ ap₂ (λ (k l : List ℕ). k ++ l) junk_again rows_again
-      ∙ written-edited (constant_steps still) file most_frames s is
-      ∙ edited_still still (refl, refl) file most_frames s are is
+      ∙ written-edited_file (constant_steps still) file most_frames s is
+      ∙ edited_file-still still (refl, refl) file most_frames s are is
 
-edited_back : (shift : Shift) (file : List ℕ) (s : SurveyFields) → AreBytes file
+edited_file-back : (shift : Shift) (file : List ℕ) (s : SurveyFields) → AreBytes file
     → survey_of file most_frames ≡ Ok s → channel_fault shift s ≡ None
     → range_fault (constant_steps (steps_of shift)) s.frames ≡ None
     → change_result (gain_change (opposite_shift shift) false)
     (edited_file (constant_steps (steps_of shift)) file s)
     ≡ Ok (file_without_junk s file)
-edited_back shift file s are short apart free =
+edited_file-back shift file s are short apart free =
     let first : ℕ → Steps = constant_steps (steps_of shift) in
     let second : ℕ → Steps = constant_steps (steps_of (opposite_shift shift)) in
     let nearer : ℕ → ℕ = λ x. x - junk_length s in
@@ -374,17 +377,17 @@ edited_back shift file s are short apart free =
     let range : range_fault second m.frames ≡ None =
     ap (range_fault second) (new_frames first second file s both are short)
     ∙ range_back first second file nearer s.frames
-    (even_opposite (steps_of shift) (steps_of (opposite_shift shift)) (record {
+    (constant_steps-opposite (steps_of shift) (steps_of (opposite_shift shift)) (record {
       wraps = refl;
       left = left_back shift.channels shift.steps;
       right = right_back shift.channels shift.steps;
     }) nearer s.frames)
     (frames first second file s both are short) free in
-    changed-ok (gain_change (opposite_shift shift) false) moved m
+    file_with_change-ok (gain_change (opposite_shift shift) false) moved m
     (record { steps = second; tag = None })
     (new_survey first second file s both are short)
     (plain-ok (opposite_shift shift) moved m (channel_back shift s apart) range)
-    ∙ ap Ok (plain-changed second moved m ∙ bytes_again first second file s both are short)
+    ∙ ap Ok (plain-file_with_change second moved m ∙ bytes_again first second file s both are short)
 
 -- after a change without a note the opposite change makes the file again, except its junk
 pub steps_back : OppositeGivesBack
@@ -392,7 +395,7 @@ steps_back shift file new s are short e =
     let made = made_of (gain_change shift false) file new s short e in
     let parts = plain-parts shift file s made.change made.made in
     let there : edited_file (constant_steps (steps_of shift)) file s ≡ new =
-    sym (plain-changed (constant_steps (steps_of shift)) file s)
+    sym (plain-file_with_change (constant_steps (steps_of shift)) file s)
     ∙ ap (λ (c : FileChange). file_with_change c file s) parts.2 ∙ made.bytes in
     ap (change_result (gain_change (opposite_shift shift) false)) (sym there)
-    ∙ edited_back shift file s are short parts.0 parts.1
+    ∙ edited_file-back shift file s are short parts.0 parts.1

@@ -5,7 +5,7 @@ use Rattle.std.proofs.Common.{Option, refl, Result, Some, subst, sym, true, ℕ,
 use Rattle.std.{proofs.Common.{◌∷◌, ◌≡◌}, specs.{List.enumerate_from, Prelude.{IfErr, IfSome}}}
 use Rattle.bit_fields.specs.Bits.{AreBytes}
 use Rattle.commands.proofs.InputLemmas.{file_makes, file_proper, IsProperMaking}
-use Rattle.commands.{proofs.RefusingLemmas.{then_ok, unless_ok}, specs.AfterCall.IsLateFault}
+use Rattle.commands.{proofs.RefusingLemmas.{refusal_or-ok, then_ok}, specs.AfterCall.IsLateFault}
 use Rattle.commands.specs.Refusing.{or_else, then_made}
 use Rattle.commands.specs.SingleOutput.{IsMaking, IsProperTask, made_file, most_frames}
 use Rattle.commands.specs.{SingleOutput.surveyed_result, declared.fault.EditFault.EditFault}
@@ -21,9 +21,10 @@ use Rattle.gain_edits.specs.UndoItem.{bytes_unless_empty, found_undo, next_undo,
 use Rattle.gain_edits.specs.UndoItem.{output_fault, size_fault, tag_result, tag_with_undo}
 use Rattle.gain_edits.specs.UndoItem.{tag_without_undo, undo_fault, undo_steps}
 use Rattle.gain_edits.specs.declared.changes.Changes.{Changes, TheVariants.{Move, Undo as UndoAll}}
-use Rattle.moved_gains.proofs.{EditedSurveyLemmas.surveyed-edited, MovedStreamLemmas.stream-edited}
-use Rattle.moved_gains.proofs.NewTagLemmas.{own-tag}
-use Rattle.moved_gains.proofs.RetaggedFileLemmas.{stream-retagged, surveyed-retagged}
+use Rattle.moved_gains.proofs.EditedSurveyLemmas.{survey_fields-edited_file}
+use Rattle.moved_gains.proofs.{MovedStreamLemmas.stream-edited_file, NewTagLemmas.own-tag}
+use Rattle.moved_gains.proofs.RetaggedFileLemmas.{stream-retagged_fields}
+use Rattle.moved_gains.proofs.RetaggedFileLemmas.{survey_fields-retagged_fields}
 use Rattle.moved_gains.proofs.TagReadingLemmas.{file_tag-none}
 use Rattle.moved_gains.specs.Change.{file_with_change, FileChange, retagged_file}
 use Rattle.moved_gains.specs.{Course.constant_steps, Edited.edited_file}
@@ -34,7 +35,7 @@ use Rattle.moved_gains.specs.TagReading.{empty_tag, file_tag}
 use Rattle.moved_gains.specs.declared.tag_fault.FileTagFault.{FileTagFault}
 use Rattle.outside.specs.Files.{Files, Holds, IsFileThere}
 use Rattle.requests.specs.{Shifts.steps_of, declared.shift.{Shift.Shift, Steps.Steps}}
-use Rattle.sync_survey.proofs.SurveyPartsLemmas.{surveyed-allowed}
+use Rattle.sync_survey.proofs.SurveyPartsLemmas.{survey_fields-allowed}
 use Rattle.sync_survey.proofs.SurveyedFileLemmas.{survey_of-parts}
 use Rattle.sync_survey.specs.Faults.{HoldsStream, stream_of, stream_of_survey, survey_fields}
 use Rattle.sync_survey.specs.Faults.{surveyed_stream, SurveyFields}
@@ -98,11 +99,11 @@ made_of of file new s is e =
     (ap (surveyed_result (change_making of) file) (sym is) ∙ e)
 
 -- a change of a surveyed file makes the changed file
-pub changed-ok : (of : Changing) (file : List ℕ) (s : SurveyFields) (change : FileChange)
+pub file_with_change-ok : (of : Changing) (file : List ℕ) (s : SurveyFields) (change : FileChange)
     → survey_of file most_frames ≡ Ok s → of file s ≡ Ok change
     → change_result of file ≡ Ok (file_with_change change file s)
 unfolding made_file
-changed-ok of file s change is made =
+file_with_change-ok of file s change is made =
     ap (surveyed_result (change_making of) file) is ∙ ap (changed_or_fault file s) made
 
 -- ---- the stream
@@ -122,51 +123,52 @@ no_junk steps s = refl
 
 module _ (file : List ℕ) (allowed : ℕ) (s : SurveyFields) (all : AreBytes file)
     (is : survey_fields file allowed ≡ Ok s) where
-  edited_is : (steps : ℕ → Steps)
+  edited_file-survey : (steps : ℕ → Steps)
       → survey_fields (edited_file steps file s) allowed ≡ Ok (edited_survey steps s)
-  edited_is steps = surveyed-edited steps file allowed s all is
+  edited_file-survey steps = survey_fields-edited_file steps file allowed s all is
 
   tagged_is : (steps : ℕ → Steps) (o : Option (List ℕ)) → IfSome o IsTagBytes
       → survey_fields (retagged_file o (edited_survey steps s) (edited_file steps file s)) allowed
       ≡ Ok (survey_with o (edited_survey steps s))
-  tagged_is steps None tags = edited_is steps
-  tagged_is steps (Some tag) tags = surveyed-retagged (edited_file steps file s) tag allowed
-      (edited_survey steps s) (edited_is steps) (no_junk steps s) tags
+  tagged_is steps None tags = edited_file-survey steps
+  tagged_is steps (Some tag) tags =
+      survey_fields-retagged_fields (edited_file steps file s) tag allowed
+      (edited_survey steps s) (edited_file-survey steps) (no_junk steps s) tags
 
   -- the changed file has the survey of the file, changed
-  pub surveyed-changed : (change : FileChange) → IfSome change.tag IsTagBytes
+  pub survey_fields-file_with_change : (change : FileChange) → IfSome change.tag IsTagBytes
       → survey_fields (file_with_change change file s) allowed ≡ Ok (changed_survey change s)
   unfolding file_with_change
-  surveyed-changed change tags = tagged_is change.steps change.tag tags
+  survey_fields-file_with_change change tags = tagged_is change.steps change.tag tags
 
   stream_is : (steps : ℕ → Steps) (o : Option (List ℕ)) → IfSome o IsTagBytes
       → stream_of_survey (retagged_file o (edited_survey steps s) (edited_file steps file s))
       (survey_with o (edited_survey steps s)) ≡ moved_stream_of steps file s
-  stream_is steps None tags = stream-edited steps file allowed s all is
+  stream_is steps None tags = stream-edited_file steps file allowed s all is
   stream_is steps (Some tag) tags =
-      stream-retagged (edited_file steps file s) tag allowed (edited_survey steps s)
-      (edited_is steps)
-      (no_junk steps s) tags ∙ stream-edited steps file allowed s all is
+      stream-retagged_fields (edited_file steps file s) tag allowed (edited_survey steps s)
+      (edited_file-survey steps)
+      (no_junk steps s) tags ∙ stream-edited_file steps file allowed s all is
 
   -- the stream of the changed file is the stream of the file with its gains moved
-  pub stream-changed : (change : FileChange) → IfSome change.tag IsTagBytes
+  pub stream-file_with_change : (change : FileChange) → IfSome change.tag IsTagBytes
       → stream_of_survey (file_with_change change file s) (changed_survey change s)
       ≡ moved_stream_of change.steps file s
   unfolding file_with_change
-  stream-changed change tags = stream_is change.steps change.tag tags
+  stream-file_with_change change tags = stream_is change.steps change.tag tags
 
-  changed-moved : (change : FileChange) → IfSome change.tag IsTagBytes
+  file_with_change-moved : (change : FileChange) → IfSome change.tag IsTagBytes
       → IsStreamMoved change.steps file (file_with_change change file s)
-  changed-moved change tags =
+  file_with_change-moved change tags =
       let new = file_with_change change file s in
       record {
-        before = (s, surveyed-allowed file allowed (length file + 1) s (omega arith) is);
+        before = (s, survey_fields-allowed file allowed (length file + 1) s (omega arith) is);
         after = (
           changed_survey change s,
-          surveyed-allowed new allowed (length new + 1) (changed_survey change s) (omega arith)
-              (surveyed-changed change tags),
+          survey_fields-allowed new allowed (length new + 1) (changed_survey change s) (omega arith)
+              (survey_fields-file_with_change change tags),
         );
-        stream = stream-changed change tags;
+        stream = stream-file_with_change change tags;
       }
 
 -- What a command makes of a file is as well-formed as the file, and its stream is the file's with
@@ -175,7 +177,8 @@ pub changed-stream : (of : Changing) (file new : List ℕ) (s : SurveyFields)
     (c : IsMadeBy of file new s) → AreBytes file → survey_of file most_frames ≡ Ok s
     → IfSome c.change.tag IsTagBytes → IsStreamMoved c.change.steps file new
 changed-stream of file new s c all is tags = subst (IsStreamMoved c.change.steps file) c.bytes
-    (changed-moved file most_frames s all (survey_of-parts file most_frames s is).1 c.change tags)
+    (file_with_change-moved file most_frames s all
+    (survey_of-parts file most_frames s is).1 c.change tags)
 
 -- the stream of a file is the stream of its survey
 pub stream_of-survey : (file : List ℕ) (s : SurveyFields)
@@ -193,11 +196,11 @@ each_even steps main o rows (p ∷ more) =
     (each_even steps main o rows more)
 
 -- the moved stream, if all frames have the same steps
-pub even_stream : (steps : Steps) (file : List ℕ) (s : SurveyFields)
+pub constant_steps-stream : (steps : Steps) (file : List ℕ) (s : SurveyFields)
     → moved_stream_of (constant_steps steps) file s
     ≡ map (moved_stream_frame steps) (stream_of_survey file s)
 unfolding moved_stream_of stream_of_survey stream_frames
-even_stream steps file s =
+constant_steps-stream steps file s =
     each_even steps (main_bytes file s.head s.frames) s.head s.frames (enumerate_from 0 s.frames)
 
 -- the new file holds the moved stream
@@ -213,7 +216,8 @@ pub moved_holds : (steps : Steps) (file new : List ℕ)
     → IsStreamMoved (constant_steps steps) file new
     → HoldsStream new (map (moved_stream_frame steps) (stream_of file))
 moved_holds steps file new h =
-    subst (HoldsStream new) (even_stream steps file h.before.0 ∙ ap (map (moved_stream_frame steps))
+    subst (HoldsStream new)
+    (constant_steps-stream steps file h.before.0 ∙ ap (map (moved_stream_frame steps))
     (sym (stream_of-survey file h.before.0 h.before.1)))
     (holds_moved (constant_steps steps) file new h)
 
@@ -242,7 +246,7 @@ tagged-parts shift file s change e =
     let one = then_ok (tag_result (file_tag file s)) _ change e in
     let two = then_ok (noted_undo (tag_offset s) (undo_from 32 one.0.items))
     (noted_change shift s one.0) change one.2 in
-    let three = unless_ok _ _ change two.2 in
+    let three = refusal_or-ok _ _ change two.2 in
     record { tag = one.0; undo = two.0; read = one.1; item = two.1; free = three.0; is = three.1 }
 
 -- the tag, the undo in it, and the change with that undo, by which no gain leaves its range
@@ -266,7 +270,7 @@ undone-parts file s change e =
     let two = then_ok (found_undo (tag_offset s) (undo_from 32 one.0.items))
     (undone_change s one.0) change one.2 in
     let three =
-    unless_ok (range_fault (constant_steps (undo_steps two.0)) s.frames) _ change two.2 in
+    refusal_or-ok (range_fault (constant_steps (undo_steps two.0)) s.frames) _ change two.2 in
     record { tag = one.0; undo = two.0; read = one.1; item = two.1; free = three.0; is = three.1 }
 
 -- ---- the new tag
@@ -322,7 +326,7 @@ change_is (Move shift true) file s change all is e =
     let parts = tagged-parts shift.now file s change e in
     (ap (λ (c : FileChange). c.steps) (sym parts.is), noted-tag shift.now file s change all is e)
 change_is (Move shift false) file s change all is e =
-    let parts = unless_ok (or_else (channel_fault shift.now s)
+    let parts = refusal_or-ok (or_else (channel_fault shift.now s)
     (range_fault (constant_steps (steps_of shift.now)) s.frames)) _ change e in
     subst (IsChangeOf (Move shift false) file) parts.1 (refl, tt)
 change_is UndoAll file s change all is e =

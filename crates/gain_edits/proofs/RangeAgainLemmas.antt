@@ -9,7 +9,7 @@ use Rattle.gain_edits.specs.GainRange.{out_of_range_refusal, range_fault, row_ra
 use Rattle.moved_gains.proofs.MovedAgainLemmas.{AreTogether, stood}
 use Rattle.moved_gains.proofs.MovedFrameLemmas.{gains_fit, whole_class}
 use Rattle.moved_gains.proofs.MovedGainLemmas.{free-parts, free-whole, GainsFit, granule_next}
-use Rattle.moved_gains.proofs.MovedGainLemmas.{is_stuck, IsNoStep, moved_with, side_then}
+use Rattle.moved_gains.proofs.MovedGainLemmas.{is_stuck, IsNoStep, moved_granule-with, side_then}
 use Rattle.moved_gains.proofs.MovedGainLemmas.{wrapped-free}
 use Rattle.moved_gains.proofs.WholeFrameLemmas.{AreFramesOf, frame_of, IsFrameOf, row_shaped}
 use Rattle.moved_gains.specs.{Course.constant_steps, Edited.row_out_of_range}
@@ -38,7 +38,7 @@ both-with one two all strict_one strict_two strict_all sum m p a b g h k l first
     free-parts two m p a b (moved_granule one.left g) (moved_granule one.right h)
     (moved_granule one.left k)
     (moved_granule one.right l) strict_two
-    (sym (ap (side_out_of_range two) (moved_with one m p a b g h k l)) ∙ second) in
+    (sym (ap (side_out_of_range two) (moved_granule-with one m p a b g h k l)) ∙ second) in
     let on_left = granule_next one.left two.left all.left sum.left in
     let on_right = granule_next one.right two.right all.right sum.right in
     free-whole all m p a b g h k l
@@ -173,10 +173,11 @@ AllOpposite one two to (row ∷ rows) =
     AreOpposite (one row.offset) (two (to row.offset)) × AllOpposite one two to rows
 
 -- opposite steps for all frames are opposite for each
-pub even_opposite : (one two : Steps) → AreOpposite one two → (to : ℕ → ℕ) (rows : List Row)
-    → AllOpposite (constant_steps one) (constant_steps two) to rows
-even_opposite one two opposite to [] = tt
-even_opposite one two opposite to (row ∷ rows) = (opposite, even_opposite one two opposite to rows)
+pub constant_steps-opposite : (one two : Steps) → AreOpposite one two
+    → (to : ℕ → ℕ) (rows : List Row) → AllOpposite (constant_steps one) (constant_steps two) to rows
+constant_steps-opposite one two opposite to [] = tt
+constant_steps-opposite one two opposite to (row ∷ rows) =
+    (opposite, constant_steps-opposite one two opposite to rows)
 
 -- if both together are no step, no gain that the first moved leaves its range by the second
 pub range_back : (one two : ℕ → Steps) (file : List ℕ) (to : ℕ → ℕ) (rows : List Row)

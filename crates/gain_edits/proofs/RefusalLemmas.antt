@@ -4,7 +4,7 @@ use Rattle.std.proofs.Common.{Option, refl, Result, Some, subst, sym, true, ℕ,
 use Rattle.std.proofs.{Common.{◌∷◌, ◌≡◌, ◌≤◌}, lemmas.{List.Sums.sum_by-cons, Result.IfErr-weaker}}
 use Rattle.std.specs.Prelude.{IfErr, IfSome, is_some, nat_lt, unsigned_abs, ◌⊎◌}
 use Rattle.commands.proofs.InputLemmas.{memory_is_input, refusal_numbers, refused_is_input}
-use Rattle.commands.proofs.RefusingLemmas.{of_err, then_all, then_late, unless_late}
+use Rattle.commands.proofs.RefusingLemmas.{of_err, refusal_or-late, then_all, then_late}
 use Rattle.commands.specs.AfterCall.{HasInputNumbers, IsEditRefusal, IsLateFault}
 use Rattle.commands.specs.Refusing.{first_refusal, or_else, refusal_or, then_made}
 use Rattle.commands.specs.SingleOutput.{IsInputFault, most_frames}
@@ -82,10 +82,10 @@ or_may : (may : Refusal → Bool) (o later : Option Refusal) → May may o → M
 or_may may None later first rest = rest
 or_may may (Some refusal) later first rest = first
 
-unless_may : {A : Type 0} (may : Refusal → Bool) (o : Option Refusal) (a : A) → May may o
+refusal_or-may : {A : Type 0} (may : Refusal → Bool) (o : Option Refusal) (a : A) → May may o
     → IfErr (refusal_or o a) (IsEditRefusal may)
-unless_may may None a is = tt
-unless_may may (Some refusal) a is = is
+refusal_or-may may None a is = tt
+refusal_or-may may (Some refusal) a is = is
 
 where_may : (may : Refusal → Bool) (b : Bool) (refusal : Refusal) → may refusal ≡ true
     → May may (cond b (Some refusal) None)
@@ -128,7 +128,7 @@ channel_may tags shift s = elim (are_both shift.channels) as (λ b. May (gain_re
 pub plain_may : (tags : Bool) (shift : Shift) (s : SurveyFields)
     → IfErr (plain_change shift s) (IsEditRefusal (gain_refuses tags))
 plain_may tags shift s =
-    unless_may (gain_refuses tags) _ _
+    refusal_or-may (gain_refuses tags) _ _
     (or_may (gain_refuses tags) (channel_fault shift s) _ (channel_may tags shift s)
     (range_may (gain_refuses tags) (λ o g c n. refl) (constant_steps (steps_of shift)) s.frames))
 
@@ -138,7 +138,7 @@ noted_may shift s tag undo =
     let next = next_undo shift undo in
     let bytes = tag_bytes (tag_with_undo next tag) in
     let may = gain_refuses true in
-    unless_may may _ _
+    refusal_or-may may _ _
     (or_may may (channel_fault shift s) _ (channel_may true shift s)
     (or_may may (undo_fault next) _
     (or_may may (number_fault next.left) (number_fault next.right)
@@ -152,7 +152,7 @@ noted_may shift s tag undo =
 undone_may : (s : SurveyFields) (tag : TagFields) (undo : Undo)
     → IfErr (undone_change s tag undo) (IsEditRefusal undo_refuses)
 undone_may s tag undo =
-    unless_may undo_refuses _ _ (range_may undo_refuses (λ o g c n. refl) _ s.frames)
+    refusal_or-may undo_refuses _ _ (range_may undo_refuses (λ o g c n. refl) _ s.frames)
 
 noted_item_may : (at : ℕ) (item : UndoItem)
     → IfErr (noted_undo at item) (IsEditRefusal (gain_refuses true))
@@ -165,18 +165,18 @@ found_item_may at (Found undo) = tt
 found_item_may at _ = refl
 
 -- a change with a note is refused only with its refusals
-pub noted_in_may : (shift : Shift) (s : SurveyFields) (tag : TagFields)
+pub noted_tag_change-may : (shift : Shift) (s : SurveyFields) (tag : TagFields)
     → IfErr (noted_tag_change shift s tag) (IsEditRefusal (gain_refuses true))
-noted_in_may shift s tag =
+noted_tag_change-may shift s tag =
     then_all (IsEditRefusal (gain_refuses true))
     (noted_undo (tag_offset s) (undo_from 32 tag.items))
     (noted_change shift s tag) (noted_item_may (tag_offset s) (undo_from 32 tag.items))
     (noted_may shift s tag)
 
 -- an undo is refused only with its refusals
-pub undone_in_may : (s : SurveyFields) (tag : TagFields)
+pub undone_tag_change-may : (s : SurveyFields) (tag : TagFields)
     → IfErr (undone_tag_change s tag) (IsEditRefusal undo_refuses)
-undone_in_may s tag =
+undone_tag_change-may s tag =
     then_all (IsEditRefusal undo_refuses) (found_undo (tag_offset s) (undo_from 32 tag.items))
     (undone_change s tag) (found_item_may (tag_offset s) (undo_from 32 tag.items))
     (undone_may s tag)
@@ -203,12 +203,12 @@ change_late (Move shift true) file s =
     then_late (tag_result (file_tag file s)) (noted_tag_change shift.now s)
     (tag_late (file_tag file s))
     (λ tag. IfErr-weaker (noted_tag_change shift.now s tag) _ _ (refusal_late (gain_refuses true))
-    (noted_in_may shift.now s tag))
-change_late (Move shift false) file s = unless_late _ _
+    (noted_tag_change-may shift.now s tag))
+change_late (Move shift false) file s = refusal_or-late _ _
 change_late UndoAll file s =
     then_late (tag_result (file_tag file s)) (undone_tag_change s) (tag_late (file_tag file s))
     (λ tag. IfErr-weaker (undone_tag_change s tag) _ _ (refusal_late undo_refuses)
-    (undone_in_may s tag))
+    (undone_tag_change-may s tag))
 
 -- ---- what the definition says
 
@@ -237,10 +237,10 @@ noted-is UndoAll bytes s r noted is =
 pub decided-may : (changes : Changes) (s : SurveyFields) (o : Option TagFields) → are_noted changes
     ≡ is_some o → IfErr (decided_change changes s o) (IsEditRefusal (refuses_of_changes changes))
 decided-may (Move shift tags) s None asks = plain_may tags shift.now s
-decided-may (Move shift true) s (Some tag) asks = noted_in_may shift.now s tag
+decided-may (Move shift true) s (Some tag) asks = noted_tag_change-may shift.now s tag
 decided-may (Move shift false) s (Some tag) asks = absurd cc
 decided-may UndoAll s None asks = refl
-decided-may UndoAll s (Some tag) asks = undone_in_may s tag
+decided-may UndoAll s (Some tag) asks = undone_tag_change-may s tag
 
 -- ---- what the code returns
 

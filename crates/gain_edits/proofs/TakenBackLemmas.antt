@@ -16,15 +16,16 @@ use Rattle.commands.specs.declared.fault.Refusal.{Refusal}
 use Rattle.fade_plan.specs.Curves.{curve_of, CurvePoint, steps_at, steps_back}
 use Rattle.frame_header.specs.Fields.{ClassFields}
 use Rattle.gain_edits.proofs.FadeProperLemmas.{faded-parts}
-use Rattle.gain_edits.proofs.OppositeStepLemmas.{bytes_again, edited_still, frames, new_survey}
-use Rattle.gain_edits.proofs.OppositeStepLemmas.{plain-changed, still_holds}
-use Rattle.gain_edits.proofs.ProperLemmas.{changed-ok, made_of}
+use Rattle.gain_edits.proofs.OppositeStepLemmas.{bytes_again, edited_file-still, frames, new_survey}
+use Rattle.gain_edits.proofs.OppositeStepLemmas.{plain-file_with_change, still_holds}
+use Rattle.gain_edits.proofs.ProperLemmas.{file_with_change-ok, made_of}
 use Rattle.gain_edits.proofs.RangeAgainLemmas.{AllOpposite, AreOpposite, range_back, still}
 use Rattle.gain_edits.specs.Change.{change_making, change_result}
 use Rattle.gain_edits.specs.Fade.{curve_change, curve_result, fade_change, fade_command, fade_task}
 use Rattle.gain_edits.specs.Fade.{input_sheet_change, points_in, sheet_change, sheet_curve}
 use Rattle.gain_edits.specs.{GainRange.range_fault, TakenBack.{FadeGivesBack, FadeIsTakenBack}}
-use Rattle.moved_gains.proofs.{CourseLemmas.survey_numbered, EditedSurveyLemmas.surveyed-edited}
+use Rattle.moved_gains.proofs.CourseLemmas.{survey_numbered}
+use Rattle.moved_gains.proofs.EditedSurveyLemmas.{survey_fields-edited_file}
 use Rattle.moved_gains.proofs.MovedAgainLemmas.{AllTogether, stood}
 use Rattle.moved_gains.specs.Change.{file_with_change, FileChange}
 use Rattle.moved_gains.specs.Course.{constant_steps, course_steps, equal_steps, number_at}
@@ -40,10 +41,12 @@ use Rattle.sync_survey.specs.Survey.{survey_of}
 
 -- ---- the steps
 
-alike_opposite : (back : Bool) (steps : ℤ)
+equal_steps-opposite : (back : Bool) (steps : ℤ)
     → AreOpposite (equal_steps (steps_back back steps)) (equal_steps (steps_back (not back) steps))
-alike_opposite true steps = record { wraps = refl; left = +ℤ_invl steps; right = +ℤ_invl steps }
-alike_opposite false steps = record { wraps = refl; left = +ℤ_invr steps; right = +ℤ_invr steps }
+equal_steps-opposite true steps =
+    record { wraps = refl; left = +ℤ_invl steps; right = +ℤ_invl steps }
+equal_steps-opposite false steps =
+    record { wraps = refl; left = +ℤ_invr steps; right = +ℤ_invr steps }
 
 each_opposite : (one two : ℕ → Steps) (to : ℕ → ℕ) (rows : List Row) → ((i : ℕ) (row : Row)
     → slice_get rows i ≡ Some row → AreOpposite (one row.offset) (two (to row.offset)))
@@ -112,7 +115,8 @@ module _ (curve : List CurvePoint) (back : Bool) (file : List ℕ) (s : SurveyFi
   moved_number : (i : ℕ) (row : Row) → slice_get s.frames i ≡ Some row
       → number_at m.frames (nearer row.offset) ≡ i
   moved_number i row there =
-      survey_numbered moved most_frames m (surveyed-edited one file most_frames s are is) i
+      survey_numbered moved most_frames m
+      (survey_fields-edited_file one file most_frames s are is) i
       (stood nearer one row)
       (ap (λ (l : List Row). slice_get l i) moved_frames
       ∙ slice_get-map (stood nearer one) s.frames i ∙ ap (option_map (stood nearer one)) there)
@@ -124,7 +128,7 @@ module _ (curve : List CurvePoint) (back : Bool) (file : List ℕ) (s : SurveyFi
       survey_numbered file most_frames s is i row there in
       subst (λ (n : ℕ). AreOpposite (one row.offset) (course_steps (Along curve (not back)) n))
       (here ∙ sym (moved_number i row there))
-      (alike_opposite back (steps_at curve (number_at s.frames row.offset)))
+      (equal_steps-opposite back (steps_at curve (number_at s.frames row.offset)))
 
   opposites : AllOpposite one two nearer s.frames
   opposites = each_opposite one two nearer s.frames opposite_there
@@ -147,11 +151,12 @@ module _ (curve : List CurvePoint) (back : Bool) (file : List ℕ) (s : SurveyFi
       let range : range_fault two m.frames ≡ None =
       ap (range_fault two) moved_frames ∙ range_back one two file nearer s.frames opposites
       (frames one two file s sum are short) free in
-      changed-ok (fade_change sheet (not back)) moved m (record { steps = two; tag = None })
+      file_with_change-ok (fade_change sheet (not back)) moved m
+      (record { steps = two; tag = None })
       (new_survey one two file s sum are short)
       (fade-ok sheet (not back) m curve
       (ap (then_made (sheet_in sheet)) (λ i bytes. same_curve bytes i) ∙ by) range)
-      ∙ ap Ok (plain-changed two moved m ∙ bytes_again one two file s sum are short)
+      ∙ ap Ok (plain-file_with_change two moved m ∙ bytes_again one two file s sum are short)
 
 -- a fade and the fade the other way with the same sheet give back all bytes except the junk
 pub back_again : FadeGivesBack
@@ -160,15 +165,15 @@ back_again sheet back file new s are short e =
     let made = made_of (fade_change sheet back) file new s short e in
     let parts = faded-parts sheet back s made.change made.made in
     let steps : ℕ → Steps = steps_at_offset (Along parts.curve back) s.frames in
-    let there : edited_file steps file s ≡ new = sym (plain-changed steps file s)
+    let there : edited_file steps file s ≡ new = sym (plain-file_with_change steps file s)
     ∙ ap (λ (c : FileChange). file_with_change c file s) parts.made ∙ made.bytes in
     let again : change_result (fade_change sheet (not back)) new ≡ Ok (file_without_junk s file) =
     ap (change_result (fade_change sheet (not back))) (sym there)
     ∙ faded_back parts.curve back file s are short sheet parts.is parts.free in
     let kept : file_with_change (record { steps = constant_steps still; tag = None }) file s
     ≡ file_without_junk s file =
-    plain-changed (constant_steps still) file s
-    ∙ edited_still still (refl, refl) file most_frames s are is in
+    plain-file_with_change (constant_steps still) file s
+    ∙ edited_file-still still (refl, refl) file most_frames s are is in
     record {
       made = again;
       same = λ clean. again ∙ ap Ok

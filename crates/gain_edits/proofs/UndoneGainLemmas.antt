@@ -5,16 +5,16 @@ use Rattle.std.proofs.Common.{take-append-drop, true, ℕ, ℤ, ◌+ℤ◌, [], 
 use Rattle.std.proofs.{Common.{◌∙◌, ◌∷◌, ◌≡◌, ◌≤◌}, Math.IntN.{+ℤ_assoc, +ℤ_comm, -ℤ-+ℤ_cancel}}
 use Rattle.std.{proofs.lemmas.Bool.{le-ltb, ltb-false, ne_eqb}, specs.Prelude.{unsigned_abs, ◌-ℤ◌}}
 use Rattle.bit_fields.specs.Bits.{AreBytes}
-use Rattle.commands.proofs.RefusingLemmas.{none_first, then_ok, unless_ok}
+use Rattle.commands.proofs.RefusingLemmas.{none_first, refusal_or-ok, then_ok}
 use Rattle.commands.specs.{Refusing.{or_else, refusal_or, then_made}, SingleOutput.most_frames}
 use Rattle.commands.specs.declared.fault.{EditFault.EditFault, Refusal.Refusal}
 use Rattle.commands.specs.declared.fault.Refusal.TheVariants.{UndoRange}
-use Rattle.gain_edits.proofs.OppositeStepLemmas.{edited_still, own_again, still_holds}
-use Rattle.gain_edits.proofs.ProperLemmas.{changed-ok, file_tag-is, made_of, same_tag}
+use Rattle.gain_edits.proofs.OppositeStepLemmas.{edited_file-still, own_again, still_holds}
+use Rattle.gain_edits.proofs.ProperLemmas.{file_tag-is, file_with_change-ok, made_of, same_tag}
 use Rattle.gain_edits.proofs.ProperLemmas.{unless_empty-are}
-use Rattle.gain_edits.proofs.RangeAgainLemmas.{even_opposite, range_back, range_both, still}
-use Rattle.gain_edits.{proofs.RefusalLemmas.not_there, specs.Change.change_result}
-use Rattle.gain_edits.specs.Channels.{channel_fault}
+use Rattle.gain_edits.proofs.RangeAgainLemmas.{constant_steps-opposite, range_back, range_both}
+use Rattle.gain_edits.proofs.{RangeAgainLemmas.still, RefusalLemmas.not_there}
+use Rattle.gain_edits.specs.{Change.change_result, Channels.channel_fault}
 use Rattle.gain_edits.specs.Gain.{gain_change, noted_change, noted_tag_change}
 use Rattle.gain_edits.specs.GainRange.{range_fault}
 use Rattle.gain_edits.specs.GivenBack.{gains_result, HasNoEmptyTag, IsGivenBack, tidied_file}
@@ -24,7 +24,7 @@ use Rattle.gain_edits.specs.UndoItem.{bytes_unless_empty, found_undo, next_undo,
 use Rattle.gain_edits.specs.UndoItem.{noted_undo, number_fault, output_fault, output_length}
 use Rattle.gain_edits.specs.UndoItem.{size_fault, tag_result, tag_with_undo, tag_without_undo}
 use Rattle.gain_edits.specs.UndoItem.{undo_fault, undo_steps}
-use Rattle.moved_gains.proofs.FoundTagLemmas.{surveyed-length}
+use Rattle.moved_gains.proofs.FoundTagLemmas.{survey_fields-length}
 use Rattle.moved_gains.proofs.MovedAgainLemmas.{AreTogether, even_together, stood}
 use Rattle.moved_gains.proofs.{MovedGainLemmas.sum_of, NewTagLemmas.own-tag}
 use Rattle.moved_gains.proofs.{TagPlaceLemmas.tag_none, TagReadingLemmas.file_tag-none}
@@ -84,15 +84,15 @@ without_none place (item ∷ items) e =
     (λ none. without_none (place + item_length item) items none)
 
 -- a tag without an undo item stays the same when it is removed
-pub tag_without_none : (tag : TagFields) → undo_from 32 tag.items ≡ Missing
+pub tag_without_undo-none : (tag : TagFields) → undo_from 32 tag.items ≡ Missing
     → tag_without_undo tag ≡ tag
-tag_without_none tag e =
+tag_without_undo-none tag e =
     ap (λ (l : List TagItem). record tag { items = l }) (without_none 32 tag.items e)
 
 -- an undo that was put in doesn't change what is left when it is removed
-pub tag_without_with : (undo : Undo) (tag : TagFields)
+pub tag_without_undo-with : (undo : Undo) (tag : TagFields)
     → tag_without_undo (tag_with_undo undo tag) ≡ tag_without_undo tag
-tag_without_with undo tag =
+tag_without_undo-with undo tag =
     ap (λ (l : List TagItem). record tag { items = l }) (without_undo-with_undo undo tag.items)
 
 -- an undo that was put in is found
@@ -136,7 +136,7 @@ noted_parts : (shift : Shift) (s : SurveyFields) (tag : TagFields) (undo : Undo)
 noted_parts shift s tag undo change e =
     let next = next_undo shift undo in
     let bytes = tag_bytes (tag_with_undo next tag) in
-    let all = unless_ok _ _ change e in
+    let all = refusal_or-ok _ _ change e in
     let apart =
     none_first (channel_fault shift s) (or_else (undo_fault next) (or_else (size_fault bytes)
     (or_else (output_fault s bytes) (range_fault (constant_steps (steps_of shift)) s.frames))))
@@ -193,12 +193,12 @@ pub record IsGained (file : List ℕ) (s : SurveyFields) (tag : TagFields)
   pub free : range_fault (constant_steps steps) s.frames ≡ None
   pub few : length last ≤ longest_file
 
-changed-with : (steps : Steps) (bytes file : List ℕ) (s : SurveyFields)
+file_with_change-with : (steps : Steps) (bytes file : List ℕ) (s : SurveyFields)
     → file_with_change (record { steps = constant_steps steps; tag = Some bytes }) file s
     ≡ file_with_tag bytes (edited_survey (constant_steps steps) s)
     (edited_file (constant_steps steps) file s)
 unfolding file_with_change
-changed-with steps bytes file s = refl
+file_with_change-with steps bytes file s = refl
 
 undo_made : (file : List ℕ) (s : SurveyFields) (tag : TagFields) (undo : Undo)
     → tag_result (file_tag file s) ≡ Ok tag
@@ -229,7 +229,7 @@ module _ (file : List ℕ) (s : SurveyFields) (tag : TagFields) (are : AreBytes 
       (edited_survey (constant_steps steps) s) (edited_file (constant_steps steps) file s))
       ≡ s.length - junk_length s - tag_length s + length block
   new_length steps block front =
-      surveyed-length (file_with_tag block (edited_survey (constant_steps steps) s)
+      survey_fields-length (file_with_tag block (edited_survey (constant_steps steps) s)
       (edited_file (constant_steps steps) file s))
       most_frames (new_survey (constant_steps steps) file most_frames s are is block front)
       (new_is (constant_steps steps) file most_frames s are is block front)
@@ -256,7 +256,7 @@ module _ (file : List ℕ) (s : SurveyFields) (tag : TagFields) (are : AreBytes 
         ≡ file_with_tag (tag_bytes new_tag) (edited_survey (constant_steps steps) s)
         (edited_file (constant_steps steps) file s) =
         sym made.bytes ∙ ap (λ (c : FileChange). file_with_change c file s) (sym noted.is)
-        ∙ changed-with steps (tag_bytes new_tag) file s in
+        ∙ file_with_change-with steps (tag_bytes new_tag) file s in
         record {
           steps = steps;
           noted = new_tag;
@@ -264,7 +264,7 @@ module _ (file : List ℕ) (s : SurveyFields) (tag : TagFields) (are : AreBytes 
           are = new_own;
           small = noted.small;
           item = found_with next tag noted.fits;
-          others = tag_without_with next tag;
+          others = tag_without_undo-with next tag;
           is = there;
           left = sum_first steps.left;
           right = sum_first steps.right;
@@ -328,7 +328,7 @@ module _ (file : List ℕ) (s : SurveyFields) (tag : TagFields) (are : AreBytes 
         (edited_file (constant_steps steps) file s) =
         sym made.bytes
         ∙ ap (λ (c : FileChange). file_with_change c here n) (sym noted.is)
-        ∙ changed-with step (tag_bytes new_tag) here n
+        ∙ file_with_change-with step (tag_bytes new_tag) here n
         ∙ changed_again (constant_steps g.steps) file most_frames s are is block front
         (constant_steps step)
         (constant_steps steps) (even_together g.steps step steps together by s.frames)
@@ -340,7 +340,7 @@ module _ (file : List ℕ) (s : SurveyFields) (tag : TagFields) (are : AreBytes 
           are = new_own;
           small = noted.small;
           item = found_with next g.noted noted.fits;
-          others = tag_without_with next g.noted ∙ g.others;
+          others = tag_without_undo-with next g.noted ∙ g.others;
           is = there;
           left = sum_again g.steps.left step.left g.undo.left ∙ g.left;
           right = sum_again g.steps.right step.right g.undo.right ∙ g.right;
@@ -370,17 +370,17 @@ module _ (file : List ℕ) (s : SurveyFields) (tag : TagFields) (are : AreBytes 
         let free : range_fault (constant_steps back) n.frames ≡ None =
         ap (range_fault (constant_steps back)) here_frames
         ∙ range_back (constant_steps g.steps)
-        (constant_steps back) file by s.frames (even_opposite g.steps back
+        (constant_steps back) file by s.frames (constant_steps-opposite g.steps back
         (record { wraps = g.wraps; left = g.left; right = g.right }) by s.frames) frames g.free in
         let made =
         undo_made here n g.noted g.undo here_read (ap (found_undo (tag_offset n)) g.item) free in
         let together : AreTogether g.steps back still =
         record { left = sym g.left; right = sym g.right } in
         ap (change_result undo_change) g.is
-        ∙ changed-ok undo_change here n
+        ∙ file_with_change-ok undo_change here n
         (record { steps = constant_steps back; tag = Some bytes }) here_survey made
         ∙ ap Ok
-        (changed-with back bytes here n
+        (file_with_change-with back bytes here n
         ∙ changed_again (constant_steps g.steps) file most_frames s are is block front
         (constant_steps back)
         (constant_steps still) (even_together g.steps back still together by s.frames) bytes
@@ -404,14 +404,15 @@ module _ (file : List ℕ) (s : SurveyFields) (tag : TagFields) (are : AreBytes 
   abbrev bytes : List ℕ
   bytes = bytes_unless_empty tag
 
-  edited_is : edited_file (constant_steps still) file s ≡ file_without_junk s file
-  edited_is = edited_still still (refl, refl) file most_frames s are is
+  edited_file-is : edited_file (constant_steps still) file s ≡ file_without_junk s file
+  edited_file-is = edited_file-still still (refl, refl) file most_frames s are is
 
-  undone_tidied : file_with_tag bytes (edited_survey (constant_steps still) s)
+  undone-tidied_file : file_with_tag bytes (edited_survey (constant_steps still) s)
       (edited_file (constant_steps still) file s)
       ≡ tidied_file tag s file
   unfolding tidied_file
-  undone_tidied = ap (file_with_tag bytes (edited_survey (constant_steps still) s)) edited_is
+  undone-tidied_file =
+      ap (file_with_tag bytes (edited_survey (constant_steps still) s)) edited_file-is
 
   -- the bytes of its tag, written again, are the bytes in the file
   own_cases : (read : file_tag file s ≡ Ok tag) (o : Option Piece) → tag_block s ≡ o
@@ -428,20 +429,20 @@ module _ (file : List ℕ) (s : SurveyFields) (tag : TagFields) (are : AreBytes 
       ap (λ (c : Bool). cond c [] (tag_bytes tag)) full
       ∙ ((own-tag file most_frames s is).tag tag b are some read).1
 
-  tidied_kept : file_tag file s ≡ Ok tag → HasNoEmptyTag tag s
+  tidied_file-kept : file_tag file s ≡ Ok tag → HasNoEmptyTag tag s
       → tidied_file tag s file ≡ file_without_junk s file
-  tidied_kept read has =
-      sym undone_tidied
+  tidied_file-kept read has =
+      sym undone-tidied_file
       ∙ ap (λ (l : List ℕ). file_with_tag l (edited_survey (constant_steps still) s)
       (edited_file (constant_steps still) file s))
       (own_cases read (tag_block s) refl has)
       ∙ own_again (constant_steps still) file most_frames s is
-      ∙ edited_is
+      ∙ edited_file-is
 
-  tidied_stream : IsTag tag → HoldsStream (tidied_file tag s file) (stream_of file)
-  tidied_stream own =
+  tidied_file-stream : IsTag tag → HoldsStream (tidied_file tag s file) (stream_of file)
+  tidied_file-stream own =
       let made : file_with_change (record { steps = constant_steps still; tag = Some bytes }) file s
-      ≡ tidied_file tag s file = changed-with still bytes file s ∙ undone_tidied in
+      ≡ tidied_file tag s file = file_with_change-with still bytes file s ∙ undone-tidied_file in
       subst (λ (l : List ℕ). HoldsStream l (stream_of file)) made (still_holds still (refl, refl)
       (Some bytes) (unless_empty-are tag own) file most_frames s are is)
 
@@ -452,13 +453,14 @@ module _ (file : List ℕ) (s : SurveyFields) (tag : TagFields) (are : AreBytes 
       undone last g
       ∙ ap Ok (ap (λ (t : TagFields). file_with_tag (bytes_unless_empty t)
       (edited_survey (constant_steps still) s)
-      (edited_file (constant_steps still) file s)) (tag_without_none tag none) ∙ undone_tidied) in
+      (edited_file (constant_steps still) file s)) (tag_without_undo-none tag none)
+      ∙ undone-tidied_file) in
       record {
         back = back;
-        kept = λ has. back ∙ ap Ok (tidied_kept read has);
-        same = λ has clean. back ∙ ap Ok (tidied_kept read has
+        kept = λ has. back ∙ ap Ok (tidied_file-kept read has);
+        same = λ has clean. back ∙ ap Ok (tidied_file-kept read has
             ∙ ap (λ n. take s.junk file ++ drop n file) (sym clean) ∙ take-append-drop s.junk file);
-        stream = tidied_stream own;
+        stream = tidied_file-stream own;
       }
 
 -- one undo takes back one or more changes

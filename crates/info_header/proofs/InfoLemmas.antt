@@ -22,10 +22,10 @@ place-set flags field at is set =
 
 -- ---- the extension
 
-padded_cases : (n : ℕ) (bytes : List ℕ) → (length bytes < n) ⊎ (n ≤ length bytes)
+padded_bytes-cases : (n : ℕ) (bytes : List ℕ) → (length bytes < n) ⊎ (n ≤ length bytes)
     → take (min (length bytes) n) bytes ++ drop (min (length bytes) n) (replicate n 0)
     ≡ padded_bytes n bytes
-padded_cases n bytes (inl few) =
+padded_bytes-cases n bytes (inl few) =
     let least : min (length bytes) n ≡ length bytes = min-eq_left (omega arith) in
     let split : n ≡ length bytes + (n - length bytes) = omega arith in
     rw (least, take-length bytes)
@@ -33,7 +33,7 @@ padded_cases n bytes (inl few) =
     (drop-replicate (length bytes) n 0 ∙ sym (take-replicate (n - length bytes) n 0 (omega arith)))
     ∙ sym (ap (λ k. take k (bytes ++ replicate n 0)) split
     ∙ take-append-add bytes (replicate n 0) (n - length bytes)))
-padded_cases n bytes (inr many) =
+padded_bytes-cases n bytes (inr many) =
     let least : min (length bytes) n ≡ n = min-eq_right many in
     let nothing : n - n ≡ 0 = omega arith in
     let none : drop {A = ℕ} n (replicate n 0) ≡ [] =
@@ -41,10 +41,10 @@ padded_cases n bytes (inr many) =
     rw (least, none) (append-nil (take n bytes) ∙ sym (take-append-le n bytes (replicate n 0) many))
 
 -- as many bytes as there are, up to n, and zeros after them
-pub padded-parts : (n : ℕ) (bytes : List ℕ)
+pub padded_bytes-parts : (n : ℕ) (bytes : List ℕ)
     → take (min (length bytes) n) bytes ++ drop (min (length bytes) n) (replicate n 0)
     ≡ padded_bytes n bytes
-padded-parts n bytes = padded_cases n bytes (cases_lt (length bytes) n)
+padded_bytes-parts n bytes = padded_bytes-cases n bytes (cases_lt (length bytes) n)
 
 -- ---- bytes added in order
 

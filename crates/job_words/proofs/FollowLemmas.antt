@@ -8,9 +8,9 @@ use Rattle.job_words.specs.Forms.{Form, form_kinds}
 use Rattle.job_words.specs.Kinds.{fits_kind, Kind, Said, said_first, values_of, word_value}
 
 -- words that may be repeated add kinds, as many as words are left for them
-pub length-kinds_behind : (form : Form) (count : ℕ) → length (form_kinds form count)
+pub length-form_kinds : (form : Form) (count : ℕ) → length (form_kinds form count)
     ≡ length form.kinds + min form.more (count - length form.kinds)
-length-kinds_behind form count = rw (length-append, length-replicate) refl
+length-form_kinds form count = rw (length-append, length-replicate) refl
 
 -- what is made of one thing repeated is repeated
 pub map-replicate : {X Y : Type 0} (f : X → Y) (n : ℕ) (x : X)

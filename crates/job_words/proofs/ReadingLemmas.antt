@@ -10,7 +10,7 @@ use Rattle.std.proofs.lemmas.List.{Elements.{All-contains, All-map, All-weaker},
 use Rattle.std.proofs.lemmas.List.Sums.{AllPass-from_list_all, common_prefix_len-le}
 use Rattle.std.{proofs.lemmas.Slice.Eq.bytes_eq-Decides, specs.List.{All, common_prefix_len}}
 use Rattle.std.specs.{Option.option_or, Prelude.Contains}
-use Rattle.job_words.proofs.FollowLemmas.{length-kinds_behind, length-values_of}
+use Rattle.job_words.proofs.FollowLemmas.{length-form_kinds, length-values_of}
 use Rattle.job_words.proofs.ListLemmas.{all_flat_map, contains_map, greatest_append, greatest_is}
 use Rattle.job_words.proofs.ListLemmas.{only_one, whole}
 use Rattle.job_words.proofs.OrderLemmas.{after_same, given_is_order, IsClear, IsNoBetter, IsNowhere}
@@ -45,10 +45,10 @@ clear_flags form clear = λ k d lt word begins n words.
     no_first form.kinds (min form.more (n - length form.kinds)) word words
     (rw word-is (not-true _ (AllPass-from_list_all _ form.flags clear k d lt)))
 
-kinds_in-cons : (form : Form) (given : List Flag) (word : List ℕ) (words : List (List ℕ))
+shape_kinds-cons : (form : Form) (given : List Flag) (word : List ℕ) (words : List (List ℕ))
     → shape_kinds (word ∷ words) (shape_with form given)
     ≡ Fixed form.command ∷ kinds_by (form_kinds form) given words
-kinds_in-cons form given word words =
+shape_kinds-cons form given word words =
     let left : length (word ∷ words) - length (Fixed form.command ∷ given_kinds given)
     ≡ length words - length (given_kinds given) = omega arith in
     rw left refl
@@ -68,18 +68,18 @@ no_better_with form clear (word ∷ words) given is =
     let Only : Type 0 = shape_with form given ≡ shape_with form best in
     let h = no_better (form_kinds form) (length form.flags) form.flags words
     (clear_flags form clear) given is in
-    of_equal Only _ _ _ _ (word ∷ words) (kinds_in-cons form best word words)
-    (kinds_in-cons form given word words)
+    of_equal Only _ _ _ _ (word ∷ words) (shape_kinds-cons form best word words)
+    (shape_kinds-cons form given word words)
     (after_same Only (Fixed form.command ∷ []) (kinds_by (form_kinds form) best words) (kinds_by
     (form_kinds form) given words) (word ∷ words) (h.0, λ all. ap (shape_with form) (h.1 all)))
 
 -- the words are read by the best shape
-reading_of : (form : Form) → has_clear_flags form ≡ true → (words : List (List ℕ)) (b : Bool)
+table_reading-of : (form : Form) → has_clear_flags form ≡ true → (words : List (List ℕ)) (b : Bool)
     → have_kinds (shape_kinds words (best_of form words)) words ≡ b
     → table_reading (shapes_of form) words
     ≡ shape_reading (cond b (Some (best_of form words)) None) words
     (fitting_count words (best_of form words))
-reading_of form clear words b is =
+table_reading-of form clear words b is =
     let best = best_of form words in
     let n = length form.flags in
     let none_better : All (IsNoBetterShape form words) (shapes_of form) =
@@ -129,7 +129,7 @@ module _ (form : Form) (readable : IsReadable form) (words : List (List ℕ)) (g
         f.front-is,
         ap length f.kinds-is,
         length-append (front_kinds form.command given) behind,
-        length-kinds_behind form (length words - front),
+        length-form_kinds form (length words - front),
         readable.words,
       )
 
@@ -146,7 +146,7 @@ module _ (form : Form) (readable : IsReadable form) (words : List (List ℕ)) (g
       f.front-is ∙ ap (λ (given : List Flag). length (front_kinds form.command given)) f.given-is in
       let asked-is : asked ≡ shape_request (best_of form words) words =
       is ∙ rw (f.values-is, kinds-are, front-are, f.given-is) refl in
-      ap Ok asked-is ∙ sym (reading_of form readable.clear words true
+      ap Ok asked-is ∙ sym (table_reading-of form readable.clear words true
       (subst (λ kinds. have_kinds kinds words ≡ true) kinds-are all))
 
   -- otherwise the first word without a value is the bad one
@@ -158,7 +158,7 @@ module _ (form : Form) (readable : IsReadable form) (words : List (List ℕ)) (g
       omega (arith, both.0, both.1, count-is, short)) in
       let longest : length values + 1 ≡ 1 + fitting_count words (best_of form words) =
       omega (arith, count-is, ap (λ kinds. common_prefix_len fits_kind kinds words) kinds-are) in
-      ap Err longest ∙ sym (reading_of form readable.clear words false
+      ap Err longest ∙ sym (table_reading-of form readable.clear words false
       (subst (λ kinds. have_kinds kinds words ≡ false) kinds-are not_all))
 
 -- ---- the forms in order
@@ -169,9 +169,9 @@ first_of (Ok asked) second = Ok asked
 first_of (Err place) (Ok asked) = Ok asked
 first_of (Err place) (Err bad) = Err (max place bad)
 
-reading-append : (xs ys : List Shape) (words : List (List ℕ))
+table_reading-append : (xs ys : List Shape) (words : List (List ℕ))
     → table_reading (xs ++ ys) words ≡ first_of (table_reading xs words) (table_reading ys words)
-reading-append xs ys words =
+table_reading-append xs ys words =
     let shape-is : shape_in (xs ++ ys) words ≡ option_or (shape_in xs words) (shape_in ys words) =
     find-append (λ shape. have_kinds (shape_kinds words shape) words) xs ys in
     let far-is : longest_fit (xs ++ ys) words ≡ max (longest_fit xs words) (longest_fit ys words) =
@@ -194,16 +194,16 @@ reading-append xs ys words =
 module _ (table : List Form) (words : List (List ℕ)) (i : ℕ) (d : Form) (place : ℕ)
     (lt : i < length table) (before : table_reading (shapes (take i table)) words ≡ Err place) where
   -- one more form is tried after those before it
-  pub reading_more : (here : Result Request ℕ)
+  pub table_reading-more : (here : Result Request ℕ)
       → here ≡ table_reading (shapes_of (get_or table i d)) words
       → table_reading (shapes (take (i + 1) table)) words ≡ first_of (Err place) here
-  reading_more here is =
+  table_reading-more here is =
       let more : shapes (take (i + 1) table)
       ≡ shapes (take i table) ++ shapes_of (get_or table i d) =
       rw (take_more table i d lt, flat_map-append shapes_of (take i table) (get_or table i d ∷ []))
       (ap (λ (last : List Shape). shapes (take i table) ++ last)
       (append-nil (shapes_of (get_or table i d)))) in
-      ap (λ table. table_reading table words) more ∙ reading-append (shapes (take i table))
+      ap (λ table. table_reading table words) more ∙ table_reading-append (shapes (take i table))
       (shapes_of (get_or table i d)) words ∙ rw (before, ← is) refl
 
   -- words that this form takes are accepted
@@ -214,8 +214,8 @@ module _ (table : List Form) (words : List (List ℕ)) (i : ℕ) (d : Form) (pla
       ap shapes (sym (take-append-drop (i + 1) table))
       ∙ flat_map-append shapes_of (take (i + 1) table) (drop (i + 1) table) in
       sym (ap (λ table. table_reading table words) split
-      ∙ reading-append (shapes (take (i + 1) table))
-      (shapes (drop (i + 1) table)) words ∙ rw (reading_more (Ok asked) here) refl)
+      ∙ table_reading-append (shapes (take (i + 1) table))
+      (shapes (drop (i + 1) table)) words ∙ rw (table_reading-more (Ok asked) here) refl)
 
 -- ---- the table
 

@@ -19,7 +19,7 @@ use Rattle.exact_span.specs.declared.exact_place.ExactPlace.{ExactPlace}
 use Rattle.exact_span.specs.declared.exact_place.ExactPlace.TheVariants.{Back, Millis}
 use Rattle.exact_span.specs.declared.exact_place.ExactPlace.TheVariants.{Place as OfPosition}
 use Rattle.exact_span.specs.declared.exact_place.ExactPlace.TheVariants.{Sample}
-use Rattle.job_words.proofs.FollowLemmas.{length-kinds_behind}
+use Rattle.job_words.proofs.FollowLemmas.{length-form_kinds}
 use Rattle.job_words.proofs.ListLemmas.{zip_drop, zip_replicate, zipped}
 use Rattle.job_words.specs.Forms.{best_form, channel_form, constant_form, cut_form, drill_form}
 use Rattle.job_words.specs.Forms.{exact_form, exact_sheet_form, exact_split_form, fade_form}
@@ -133,20 +133,21 @@ IsRight Seed value = IsSeed (seed_said value)
 IsRight Count value = IsCount (count_said value)
 IsRight _ value = Unit {0}
 
-said_right : (kind : Kind) (word : List ℕ) → IfSome (word_value kind word) (IsRight kind)
-said_right Name word = cond_both (is_name word) (Some (NameSaid word)) None
+word_value-right : (kind : Kind) (word : List ℕ) → IfSome (word_value kind word) (IsRight kind)
+word_value-right Name word = cond_both (is_name word) (Some (NameSaid word)) None
     (λ o. IfSome o (IsRight Name)) (λ is. is) (λ other. tt)
-said_right Steps word = mapped StepsSaid (IsRight Steps) (steps_in word) (steps_in_range word)
-said_right Place word = mapped PlaceSaid (IsRight Place) (place_of word) (place_in_range word)
-said_right Exact word = mapped ExactSaid (IsRight Exact) (exact_place_of word) (exact_in_range word)
-said_right Seed word = mapped SeedSaid (IsRight Seed) (seed_in word)
+word_value-right Steps word = mapped StepsSaid (IsRight Steps) (steps_in word) (steps_in_range word)
+word_value-right Place word = mapped PlaceSaid (IsRight Place) (place_of word) (place_in_range word)
+word_value-right Exact word =
+    mapped ExactSaid (IsRight Exact) (exact_place_of word) (exact_in_range word)
+word_value-right Seed word = mapped SeedSaid (IsRight Seed) (seed_in word)
     (number_within 1 10 2147483647 word IsSeed (λ seed le. omega arith))
-said_right Count word =
+word_value-right Count word =
     mapped CountSaid (IsRight Count) (count_in word) (count_in_range (number_in 1 5 20000 word)
     (number_within 1 5 20000 word (λ count. count ≤ 20000) (λ count le. le)))
-said_right (Fixed text) word = anything (word_value (Fixed text) word)
-said_right Channel word = anything (word_value Channel word)
-said_right Rate word = anything (word_value Rate word)
+word_value-right (Fixed text) word = anything (word_value (Fixed text) word)
+word_value-right Channel word = anything (word_value Channel word)
+word_value-right Rate word = anything (word_value Rate word)
 
 abbrev Fits : Kind → List ℕ → Type 0
 Fits kind word = fits_kind kind word ≡ true
@@ -161,7 +162,7 @@ values_right (kind ∷ kinds) (word ∷ words) fits =
     → AllZip IsRight (kind ∷ kinds) (said_first o (values_of kinds words))) [
       | Some value ↦ λ there right. (right, values_right kinds words fits.1)
       | None ↦ λ none right. absurd cc
-    ] fits.0 (said_right kind word)
+    ] fits.0 (word_value-right kind word)
 
 -- the value at a place, counted from 0
 at_place : (kinds : List Kind) (values : List Said) → AllZip IsRight kinds values → (k : ℕ)
@@ -206,8 +207,8 @@ split_is_sound count given values words right fits =
       at 0,
       at 1,
       record {
-        some = omega (arith, many, length-kinds_behind split_form count);
-        few = omega (arith, many, length-kinds_behind split_form count);
+        some = omega (arith, many, length-form_kinds split_form count);
+        few = omega (arith, many, length-form_kinds split_form count);
         each = All-map IsPlace place_said (drop 2 values) each;
       },
     )
@@ -223,8 +224,8 @@ exact_split_is_sound count given values words right fits =
       at 1,
       at 2,
       record {
-        some = omega (arith, many, length-kinds_behind exact_split_form count);
-        few = omega (arith, many, length-kinds_behind exact_split_form count);
+        some = omega (arith, many, length-form_kinds exact_split_form count);
+        few = omega (arith, many, length-form_kinds exact_split_form count);
         each = All-map IsExactPlace exact_said (drop 3 values) each;
       },
     )
@@ -238,8 +239,8 @@ join_is_sound count given values words right fits =
     (zip_drop Fits 1 kinds words fits) in (
       at_place kinds values right 0,
       record {
-        some = omega (arith, many, length-kinds_behind join_form count);
-        few = omega (arith, many, length-kinds_behind join_form count);
+        some = omega (arith, many, length-form_kinds join_form count);
+        few = omega (arith, many, length-form_kinds join_form count);
         names = λ k d lt. name_fits (get_or (drop 1 words) k d) (each k d lt);
       },
     )

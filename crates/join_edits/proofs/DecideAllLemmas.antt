@@ -342,8 +342,8 @@ all-decided (Told f) names s ss b bs d can is front known = record {
   told = all-told f names s ss b bs d can is front known;
 }
 
--- what is known when all inputs are decided: the needs of the run are of the first input's class and
--- fit after a whole window, those of the first input come first, and the front decides the join
+-- what is known when all inputs are decided: the needs of the run are of the first input's class
+-- and fit after a whole window, those of the first input come first, and the front decides the join
 pub record AreAllDecided (files : Files) (names : List (List ℕ)) (ss : List SurveyFields)
     (bs : List Beginning) (s : SurveyFields) (b : Beginning) (d : Deciding) : Type 0 where
   pub same : AreNeedsOfClass s.class d.needs.items

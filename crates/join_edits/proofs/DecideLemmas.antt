@@ -188,8 +188,8 @@ module _ (class : ClassFields) (lists : List (List RunFrame)) (number : ℕ) (fr
   abbrev count : ℕ
   count = overlap.frames - overlap.first_alike
 
-  compared-length : length (compared_frames overlap brought) ≡ count
-  compared-length =
+  length-compared_frames : length (compared_frames overlap brought) ≡ count
+  length-compared_frames =
       let behind = drop overlap.first_alike brought.frames in
       length-take-le count behind
       (omega (arith, within, length-drop overlap.first_alike brought.frames))
@@ -210,7 +210,8 @@ module _ (class : ClassFields) (lists : List (List RunFrame)) (number : ℕ) (fr
 
       fewer : nat_le (length (compared_frames overlap brought)) (length frames) ≡ false
       fewer =
-          ap₂ nat_le compared-length (sym same) ∙ none-some (nat_le count (length places)) refl few
+          ap₂ nat_le length-compared_frames (sym same)
+          ∙ none-some (nat_le count (length places)) refl few
 
       at : (b : Bool) → nat_le (length (compared_frames overlap brought)) (length frames) ≡ b
           → cond (nat_le (length (compared_frames overlap brought)) (length frames)
@@ -251,7 +252,7 @@ module _ (class : ClassFields) (lists : List (List RunFrame)) (number : ℕ) (fr
     tested =
         ap (λ m. nat_le m (length frames)
         && are_frames_alike (drop (length frames - m) frames) (compared_frames overlap brought))
-        compared-length
+        length-compared_frames
         ∙ ap (λ (b : Bool). b && are_frames_alike (drop (length frames - count) frames)
         (compared_frames overlap brought)) (ap (nat_le count) (sym same) ∙ enough.0)
         ∙ ap (λ n. are_frames_alike (drop (length frames - count) frames)

@@ -21,7 +21,7 @@ use Rattle.join_edits.specs.Sounds.{all_run_frames, AreFramePlaces, IsFramePlace
 use Rattle.join_edits.specs.declared.{beginnings.Beginning.Beginning, decided.Deciding.Deciding}
 use Rattle.laying.specs.Needs.{need_of, needs_of_parts}
 use Rattle.outside.specs.Files.{Contents, Files, IfTold, Told, Untold}
-use Rattle.seam_plan.proofs.{FollowLemmas.joining-sounds, RunSoundLemmas.class-append}
+use Rattle.seam_plan.proofs.{FollowLemmas.joining_frames-sounds, RunSoundLemmas.class-append}
 use Rattle.seam_plan.proofs.SeamLemmas.{joint-adds, joint-by, length-moved}
 use Rattle.seam_plan.specs.Decisions.{alike_overlap, frame_place, frame_places, IsBroughtInput}
 use Rattle.seam_plan.specs.Decisions.{IsJoint, IsRun, IsSoundRun, joined_needs, JoinsRun}
@@ -102,7 +102,7 @@ joint-keeps : (class : ClassFields) (run : List RunFrame) (before brought : Brou
 joint-keeps class run before brought =
     joint-by class run before brought (Keeps brought)
     (λ seam frames is.
-    joining-sounds (window_of class.version) run
+    joining_frames-sounds (window_of class.version) run
     (drop (left_out_count seam) brought.frames) frames is)
     refl
 

@@ -20,8 +20,8 @@ use Rattle.join_edits.specs.Join.{may_join, surveyed_part, whole_part}
 use Rattle.laying.{proofs.LaidFrameLemmas.same-class, specs.Relaid.FilePart}
 use Rattle.outside.proofs.FilesLemmas.{there_holds}
 use Rattle.outside.specs.{Files.{Contents, Files, IfTold, Told, Untold}, Seen.Seen}
-use Rattle.sync_survey.proofs.{BytesFaultLemmas.surveyed_of_bytes, FoldersLemmas.survey_of-short}
-use Rattle.sync_survey.proofs.SurveyedFileLemmas.{survey_of-parts}
+use Rattle.sync_survey.proofs.BytesFaultLemmas.{survey_fields-of_bytes}
+use Rattle.sync_survey.proofs.{FoldersLemmas.survey_of-short, SurveyedFileLemmas.survey_of-parts}
 use Rattle.sync_survey.specs.{Faults.{longest_file, survey_fields, SurveyFields}, Survey.survey_of}
 use Rattle.sync_survey.specs.declared.survey_fault.SurveyFault.{SurveyFault}
 use Rattle.sync_survey.specs.declared.survey_fault.SurveyFault.TheVariants.{Absent, Read, TooLong}
@@ -210,7 +210,7 @@ join-late (name ∷ rest) f bytes held few =
     (then_all IsLateFault _ (λ parts. Ok (joined_file parts))
     (then_all IsLateFault (surveyed_part 0 None bytes (survey_fields bytes most_frames)) _
     (by-all IsLateFault 0 None bytes (survey_fields bytes most_frames)
-    (λ fault is. of_bytes_behind fault (surveyed_of_bytes bytes most_frames fault is)) refl)
+    (λ fault is. of_bytes_behind fault (survey_fields-of_bytes bytes most_frames fault is)) refl)
     (λ p. then_all IsLateFault (join_parts_from (0 + 1) _ _ f rest) (λ parts. Ok (p ∷ parts))
     (from-all IsLateFault
     1 later-late (λ at behind. refl) (0 + 1) _ _ f rest (omega arith)) (λ parts. tt)))

@@ -117,10 +117,11 @@ zeros-not (x ∷ xs) (suc i) within few some =
 -- ---- one more survey whose head is set apart
 
 -- when one more head is set apart, all up to it are, and the surveys after it are as they were
-pub apart-next : (xs now : List SurveyFields) (i : ℕ) (d new : SurveyFields) → i < length xs → now
+pub survey_without_head-next : (xs now : List SurveyFields) (i : ℕ) (d new : SurveyFields)
+    → i < length xs → now
     ≡ map survey_without_head (take i xs) ++ drop i xs → new ≡ survey_without_head (get_or now i d)
     → set now i new ≡ map survey_without_head (take (i + 1) xs) ++ drop (i + 1) xs
-apart-next xs now i d new within is one =
+survey_without_head-next xs now i d new within is one =
     subst (λ (l : List SurveyFields). set l i new
     ≡ map survey_without_head (take (i + 1) xs) ++ drop (i + 1) xs)
     (sym is)

@@ -7,8 +7,8 @@ use Rattle.std.proofs.{Common.{◌∷◌, ◌≡◌, ◌≤◌, ◌⊎◌}, lemm
 use Rattle.std.proofs.lemmas.List.{drop-map, length-map, map-append, take_all}
 use Rattle.std.{proofs.lemmas.List.Elements.{All-cons, All-nil}, specs.List.All}
 use Rattle.std.specs.Prelude.{Contains, nat_lt, zip}
-use Rattle.cut_edits.proofs.HeadLemmas.{apart-had, apart-length, apart-placed}
-use Rattle.cut_edits.specs.Exact.{survey_without_head}
+use Rattle.cut_edits.proofs.HeadLemmas.{survey_without_head-had, survey_without_head-length}
+use Rattle.cut_edits.{proofs.HeadLemmas.survey_without_head-placed, specs.Exact.survey_without_head}
 use Rattle.frame_header.proofs.HeaderLemmas.{IsClass-class_of}
 use Rattle.frame_header.specs.Fields.{ClassFields, HeaderFields, IsHeader, IsSlot}
 use Rattle.frame_header.specs.{Slots.all_slots, Tables.{area_of, class_of, window_of}}
@@ -21,7 +21,8 @@ use Rattle.laying.proofs.HoldLemmas.{part-some, parts-entries, parts-needs, part
 use Rattle.laying.proofs.{NeedsFitLemmas.rows-alone, PlacesLemmas.range-whole}
 use Rattle.laying.proofs.PlannedFrameLemmas.{AreLaidFrom, AreNeedsOf, laid_more, next-entries}
 use Rattle.laying.proofs.PlannedFrameLemmas.{next-map, none_laid, one, one-entry, one-stream}
-use Rattle.laying.proofs.PlannedFrameLemmas.{one_in_stream, relaid-cons, slot_among, stream-cons}
+use Rattle.laying.proofs.PlannedFrameLemmas.{one_in_stream, relaid_frames-cons, slot_among}
+use Rattle.laying.proofs.PlannedFrameLemmas.{stream-cons}
 use Rattle.laying.specs.Fits.{AreInSlots, FitsFromReach, IsFittingPlan, placed_area, placed_bytes}
 use Rattle.laying.specs.{Fits.reach_behind, LaidFiles.{AreStreamEntries, stream_entry}}
 use Rattle.laying.specs.{Laws.AreFramesOfStream, Needs.need_of, NeedsFit.own_choice}
@@ -104,7 +105,8 @@ laid-from c (need ∷ needs) (f ∷ fs) (p ∷ placed) reach end before are give
     (next-map stream_entry p.lead_in f fs) behind in
     let is = one-entry c p f slots.0 (omega (arith, fits.0, near)) are.0 p.lead_in in
     let all : List StreamFrame = stream_with_lead_ins (p ∷ placed) (map stream_entry (f ∷ fs)) in
-    subst (λ (l : List Frame). AreLaidFrom c end before l all) (sym (relaid-cons p placed f fs))
+    subst (λ (l : List Frame). AreLaidFrom c end before l all)
+    (sym (relaid_frames-cons p placed f fs))
     (subst (λ (l : List StreamFrame). AreLaidFrom c end before (g ∷ relaid_frames left placed) l)
     (sym (stream-cons p placed (stream_entry f) (map stream_entry fs)))
     (laid_more c end before bytes area g (relaid_frames left placed)
@@ -121,7 +123,7 @@ some-from window reach needs [] placed given fits some = absurd (omega (arith, s
 some-from window reach [] (f ∷ fs) placed given fits some = absurd given
 some-from window reach (need ∷ needs) (f ∷ fs) [] given fits some = absurd fits
 some-from window reach (need ∷ needs) (f ∷ fs) (p ∷ placed) given fits some =
-    omega (arith, ap length (relaid-cons p placed f fs))
+    omega (arith, ap length (relaid_frames-cons p placed f fs))
 
 -- ---- frames in other slots
 
@@ -219,10 +221,11 @@ module _ (c : ClassFields) (p : FilePart) (is : IsWholeFile c p) where
   own = survey_without_head p.survey
 
   has : CanBeRelaid p.file own
-  has = apart-had p.file p.survey is.had (apart-placed p.survey is.had.placed)
+  has = survey_without_head-had p.file p.survey is.had
+      (survey_without_head-placed p.survey is.had.placed)
 
   end : p.to ≡ length own.frames
-  end = is.to ∙ sym (apart-length p.survey)
+  end = is.to ∙ sym (survey_without_head-length p.survey)
 
   range-is : {X : Type 0} (xs : List X) → length xs ≡ length own.frames
       → slice_range xs p.from p.to ≡ xs
@@ -249,7 +252,7 @@ module _ (c : ClassFields) (p : FilePart) (is : IsWholeFile c p) where
   pub brought-many : length (part_brought p).frames ≡ length p.survey.frames
   brought-many =
       sym (length-map (part_brought p).frames (λ (f : RunFrame). f.need)) ∙ ap length needs-are
-      ∙ length-map own.frames need_of ∙ apart-length p.survey
+      ∙ length-map own.frames need_of ∙ survey_without_head-length p.survey
 
   -- its frames fit after 0 free bytes
   pub brought-alone : FitsAlone c (part_brought p)

@@ -5,7 +5,8 @@ use Rattle.std.proofs.{Common.{◌++◌, ◌+◌, ◌-◌, ◌<◌, ◌∙◌, �
 use Rattle.std.{proofs.lemmas.Slice.Zip.AllZip-long, specs.List.{AllZip, concat}}
 use Rattle.std.specs.Prelude.{flat_map, IfErr, IfSome, true}
 use Rattle.commands.proofs.MakeLemmas.{all_left, clash_left, early_left, one_done, one_streams}
-use Rattle.commands.proofs.TellingLemmas.{telling-done, telling-left, telling-streams, telling-text}
+use Rattle.commands.proofs.TellingLemmas.{telling_command-done, telling_command-left}
+use Rattle.commands.proofs.TellingLemmas.{telling_command-streams, telling_command-text}
 use Rattle.commands.specs.AfterCall.{HasNumbers, IsCommandDone, IsCommandFault, IsLateFault}
 use Rattle.commands.specs.AfterCall.{IsNotBefore}
 use Rattle.commands.specs.Command.{AreSoundFiles, clash_from, Command, HoldsStreams}
@@ -15,8 +16,8 @@ use Rattle.commands.specs.SingleOutput.{IsMaking, IsPassFault, most_frames, Need
 use Rattle.commands.specs.{SingleOutput.one_command, declared.fault.EditFault.EditFault}
 use Rattle.commands.specs.declared.fault.EditFault.TheVariants.{EqualNames, Input, Memory, Refused}
 use Rattle.commands.specs.declared.fault.EditFault.TheVariants.{Write}
-use Rattle.cut_edits.proofs.HeadLemmas.{apart-had, apart-length, apart-placed}
-use Rattle.cut_edits.specs.Exact.{survey_without_head}
+use Rattle.cut_edits.proofs.HeadLemmas.{survey_without_head-had, survey_without_head-length}
+use Rattle.cut_edits.{proofs.HeadLemmas.survey_without_head-placed, specs.Exact.survey_without_head}
 use Rattle.frame_header.specs.Fields.{ClassFields}
 use Rattle.frame_writer.specs.Frames.{bytes_of_frames}
 use Rattle.join_edits.proofs.InputLemmas.{found-input, join-late, parts-all}
@@ -63,11 +64,11 @@ apart-exact : (files : Files) (name : List ℕ) (s : SurveyFields) → IsSurveyL
     → ((file : List ℕ) → Holds files name file → CanBeRelaid file s) → (file : List ℕ)
     → Holds files name file → CanBeRelaid file (survey_without_head s)
 apart-exact files name s laid exact file holds =
-    apart-had file s (exact file holds) (apart-placed s laid.placed)
+    survey_without_head-had file s (exact file holds) (survey_without_head-placed s laid.placed)
 
-apart-held : (files : Files) (name : List ℕ) (s : SurveyFields) → IsHeld files name s
+survey_without_head-held : (files : Files) (name : List ℕ) (s : SurveyFields) → IsHeld files name s
     → IsHeld files name (survey_without_head s)
-apart-held files name s is = record {
+survey_without_head-held files name s is = record {
   there = is.there;
   exact = apart-exact files name s is.laid is.exact;
   laid = apart-laid s is.laid;
@@ -97,36 +98,42 @@ inputs-known first allowed files (name ∷ names) (s ∷ ss) are = (
 )
 inputs-known first allowed files _ _ are = absurd are
 
-apart-alike : (class : ClassFields) (ss : List SurveyFields) → AreInputsOfClass class ss
-    → AreInputsOfClass class (map survey_without_head ss)
-apart-alike class [] are = tt
-apart-alike class (s ∷ ss) are =
-    (omega (arith, are.0, apart-length s), apart-laid s are.1, are.2, apart-alike class ss are.3)
+survey_without_head-alike : (class : ClassFields) (ss : List SurveyFields)
+    → AreInputsOfClass class ss → AreInputsOfClass class (map survey_without_head ss)
+survey_without_head-alike class [] are = tt
+survey_without_head-alike class (s ∷ ss) are = (
+  omega (arith, are.0, survey_without_head-length s),
+  apart-laid s are.1,
+  are.2,
+  survey_without_head-alike class ss are.3,
+)
 
-apart-frames : (ss : List SurveyFields)
+survey_without_head-frames : (ss : List SurveyFields)
     → frames_together (map survey_without_head ss) ≡ frames_together ss
 unfolding frames_together
-apart-frames [] = refl
-apart-frames (s ∷ ss) = ap₂ (λ m n. m + n) (apart-length s) (apart-frames ss)
+survey_without_head-frames [] = refl
+survey_without_head-frames (s ∷ ss) =
+    ap₂ (λ m n. m + n) (survey_without_head-length s) (survey_without_head-frames ss)
 
-apart-class : (ss : List SurveyFields)
+survey_without_head-class : (ss : List SurveyFields)
     → class_of_first (map survey_without_head ss) ≡ class_of_first ss
-apart-class [] = refl
-apart-class (s ∷ ss) = refl
+survey_without_head-class [] = refl
+survey_without_head-class (s ∷ ss) = refl
 
 -- inputs that can be joined can be joined when their heads are set apart
-pub apart-join : (ss : List SurveyFields) → CanInputsBeJoined ss
+pub survey_without_head-join : (ss : List SurveyFields) → CanInputsBeJoined ss
     → CanInputsBeJoined (map survey_without_head ss)
-apart-join ss can = record {
+survey_without_head-join ss can = record {
   class = can.class;
-  first = apart-class ss ∙ can.first;
-  alike = apart-alike can.class ss can.alike;
+  first = survey_without_head-class ss ∙ can.first;
+  alike = survey_without_head-alike can.class ss can.alike;
   few = omega (arith, length-map ss survey_without_head, can.few);
-  frames = omega (arith, apart-frames ss, can.frames);
+  frames = omega (arith, survey_without_head-frames ss, can.frames);
 }
 
-apart-alone : (s : SurveyFields) → IsSurveyLaidOut s → FitsAlone (survey_without_head s)
-apart-alone s laid =
+survey_without_head-alone : (s : SurveyFields) → IsSurveyLaidOut s
+    → FitsAlone (survey_without_head s)
+survey_without_head-alone s laid =
     let none = placed-apart s.head s.class s.frames laid.placed in
     rows-alone s.class (survey_without_head s).frames
     (placed-emptied None s.class (rows_set_apart s.head s.frames) none)
@@ -134,15 +141,15 @@ apart-alone s laid =
 all-alone : (class : ClassFields) (ss : List SurveyFields) → AreInputsOfClass class ss
     → FitAlone (map survey_without_head ss)
 all-alone class [] are = tt
-all-alone class (s ∷ ss) are = (apart-alone s are.1, all-alone class ss are.3)
+all-alone class (s ∷ ss) are = (survey_without_head-alone s are.1, all-alone class ss are.3)
 
 -- it can be decided what becomes of inputs whose heads are set apart
-pub apart-decided : (files : Files) (names : List (List ℕ)) (ss : List SurveyFields)
+pub survey_without_head-decided : (files : Files) (names : List (List ℕ)) (ss : List SurveyFields)
     (bs : List Beginning) → AreJoinInputs None most_frames files names ss → CanInputsBeJoined ss
     → AreBeginnings files names ss bs → CanBeDecided files names (map survey_without_head ss) bs
-apart-decided files names ss bs are can begun = record {
-  joined = apart-join ss can;
-  known = all-apart (IsHeld files) (apart-held files) names ss
+survey_without_head-decided files names ss bs are can begun = record {
+  joined = survey_without_head-join ss can;
+  known = all-apart (IsHeld files) (survey_without_head-held files) names ss
       (inputs-known None most_frames files names ss are);
   fit = all-alone can.class ss can.alike;
   begun = begun-long files names ss bs begun ∙ sym (length-map ss survey_without_head);
@@ -177,7 +184,7 @@ pub made-written : (output : List ℕ) (files : Files) (names : List (List ℕ))
     (left_out_of made.decided) made.work
 made-written output files names ss bs made free are can is =
     let class = can.class in
-    let first = apart-class ss ∙ can.first in
+    let first = survey_without_head-class ss ∙ can.first in
     record {
       class = class;
       first = first;
@@ -231,7 +238,8 @@ module _ (f : Contents) (name : List ℕ) (names : List (List ℕ)) (s : SurveyF
       let many : length ss ≤ length names =
       omega (arith, names-many (Told f) (name ∷ names) (s ∷ ss) are) in
       let within : made.decided.front < length s.frames =
-      omega (arith, is.decided.run.behind (survey_without_head s) refl, apart-length s) in
+      omega
+      (arith, is.decided.run.behind (survey_without_head s) refl, survey_without_head-length s) in
       ap (λ (l : List ℕ). (concat (front_blocks l s) ++ made.work.info.items)
       ++ bytes_of_frames (relaid_frames (flat_map part_frames
       (rest_parts f (name ∷ names) (map survey_without_head (s ∷ ss))
@@ -326,7 +334,7 @@ module _ (names : List (List ℕ)) (some : 1 ≤ length names) where
       → IsSeamlessReady names files ready → IsCommandText (seamless_command output names) files all
       → joint_lines (drop 1 names) ready.made.decided.joints.items ≡ all
   ready-text files ready output all is text =
-      let told = telling-text (λ f. seamless_text_or_none names (join_parts f names))
+      let told = telling_command-text (λ f. seamless_text_or_none names (join_parts f names))
       (one_command (seamless_task names) output) files all text in
       at files told.1 names is.ss is.bs some is.inputs is.joined is.begun is.made ∙ sym told.2
     where
@@ -393,7 +401,7 @@ pub left-clash : (output : List ℕ) (names : List (List ℕ)) (place : ℕ) (no
     → clash_in (seamless_task names) output ≡ Some place
     → IsCommandFault (seamless_command output names) now now (EqualNames place)
 left-clash output names place now clash =
-    telling-left (λ f. seamless_text_or_none names (join_parts f names))
+    telling_command-left (λ f. seamless_text_or_none names (join_parts f names))
     (one_command (seamless_task names) output)
     now now (EqualNames place) (clash_left (seamless_task names) output place now clash)
 
@@ -409,7 +417,7 @@ module _ (output : List ℕ) (names : List (List ℕ))
   pub left-early : (old new : Seen) (fault : EditFault)
       → IsEarlyFault (seamless_task names) old new fault
       → IsCommandFault (seamless_command output names) old new fault
-  left-early old new fault h = telling-left text silent old new fault
+  left-early old new fault h = telling_command-left text silent old new fault
       (early_left (seamless_task names) output free (seamless-late names) old new fault h)
 
   module _ (some : 1 ≤ length names) (old new : Seen) (ready : Ready) (is : IsSeamlessReady names
@@ -421,7 +429,8 @@ module _ (output : List ℕ) (names : List (List ℕ))
     pub left-done : ((bytes : List ℕ) → Holds old.files (first_input names) bytes
         → new.files ≡ files_holding old.files output (made_of names some old.files ready bytes))
         → new.counts ≡ old.counts → IsCommandDone (seamless_command output names) old new
-    left-done wrote counts = telling-done text silent old new (one_done (seamless_task names) output
+    left-done wrote counts =
+        telling_command-done text silent old new (one_done (seamless_task names) output
         free (made_of names some old.files ready) old old new refl making touches done wrote counts)
       where
         done : Result (Unit {0}) EditFault
@@ -432,7 +441,7 @@ module _ (output : List ℕ) (names : List (List ℕ))
         → IsPassFault (made_of names some old.files ready) names output old new fault
         → IsCommandFault (seamless_command output names) old new fault
     left-part fault h =
-        telling-left text silent old new fault (all_left (seamless_task names) output free
+        telling_command-left text silent old new fault (all_left (seamless_task names) output free
         (made_of names some old.files ready) old old new refl making touches refl failed h)
       where
         failed : Result (Unit {0}) EditFault
@@ -442,7 +451,7 @@ module _ (output : List ℕ) (names : List (List ℕ))
   pub left-streams : (some : 1 ≤ length names) (files : Files) (ready : Ready)
       → IsSeamlessReady names files ready → HoldsStreams (seamless_command output names) files
   left-streams some files ready is =
-      telling-streams text silent files
+      telling_command-streams text silent files
       (one_streams (seamless_task names) output free (made_of names some files ready) files
       (ready-making names some files ready is) (ready-holds names some files ready is) done)
     where

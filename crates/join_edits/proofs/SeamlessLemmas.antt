@@ -6,7 +6,8 @@ use Rattle.std.proofs.Common.{slice_get, slice_range, Some, subst, suc, sym, tak
 use Rattle.std.proofs.Common.{zero, ℕ, [], ◌&&◌, ◌*◌, ◌++◌, ◌+◌, ◌-◌, ◌<◌, ◌∙◌, ◌∷◌, ◌≡◌, ◌≤◌}
 use Rattle.std.proofs.lemmas.List.{drop-map, length-drop, length-map, length-take}
 use Rattle.std.specs.List.{AllZip, concat, enumerate_from, list_all}
-use Rattle.cut_edits.{proofs.HeadLemmas.apart-length, specs.Exact.{quality_of, survey_without_head}}
+use Rattle.cut_edits.proofs.HeadLemmas.{survey_without_head-length}
+use Rattle.cut_edits.specs.Exact.{quality_of, survey_without_head}
 use Rattle.exact_span.specs.Extensions.{counts_of, extension_of}
 use Rattle.exact_span.specs.PlayedPositions.{counted_played, counted_positions, decoder_delay}
 use Rattle.exact_span.specs.{PlayedPositions.samples_in, TagWord.sealed_info}
@@ -48,11 +49,11 @@ use Rattle.sync_survey.specs.{Row.Row, declared.places.Head.Head}
 
 -- ---- what the inputs bring
 
-apart-part : (file : List ℕ) (s : SurveyFields)
+survey_without_head-part : (file : List ℕ) (s : SurveyFields)
     → part_without_head (whole_part file s) ≡ whole_part file (survey_without_head s)
-apart-part file s =
+survey_without_head-part file s =
     ap (λ n. record { file = file; survey = survey_without_head s; from = 0; to = n })
-    (sym (apart-length s))
+    (sym (survey_without_head-length s))
 
 brought-same : (file : List ℕ) (s : SurveyFields) (b : Beginning)
     → b.head ≡ fields_of_head file s.head → b.blank ≡ begins_blank s.frames
@@ -60,8 +61,8 @@ brought-same : (file : List ℕ) (s : SurveyFields) (b : Beginning)
 brought-same file s b head blank =
     ap₂ (λ (frames : List RunFrame) (played : Option Played).
     record { frames = frames; blank = b.blank; played = played })
-    (sym (ap run_frames (apart-part file s)))
-    (ap₂ (λ (h : Option Info) n. counted_positions h s.class n) head (apart-length s))
+    (sym (ap run_frames (survey_without_head-part file s)))
+    (ap₂ (λ (h : Option Info) n. counted_positions h s.class n) head (survey_without_head-length s))
     ∙ ap (λ blank. record (part_brought (whole_part file s)) { blank = blank }) blank
 
 -- how the inputs begin, where the contents of the files are known
@@ -89,7 +90,7 @@ part-same : (from : ℕ) (file : List ℕ) (s : SurveyFields)
     → part_from from (whole_part file s) ≡ rest_part from file (survey_without_head s)
 part-same from file s =
     ap (λ n. record { file = file; survey = survey_without_head s; from = from; to = n })
-    (sym (apart-length s))
+    (sym (survey_without_head-length s))
 
 parts-same : (f : Contents) (names : List (List ℕ)) (ss : List SurveyFields)
     (joints : List JointFrames)
@@ -123,18 +124,18 @@ behind-length true x y xs ys same = omega (arith, same)
 behind-length false x y xs ys same = same
 
 -- the frames are in the slots of the plan
-pub relaid-slots : (window reach : ℕ) (needs : List Need) (fs : List Frame) (placed : List Placed)
-    → length fs ≡ length needs → FitsFromReach window reach needs placed
+pub relaid_frames-slots : (window reach : ℕ) (needs : List Need) (fs : List Frame)
+    (placed : List Placed) → length fs ≡ length needs → FitsFromReach window reach needs placed
     → map slot_in (relaid_frames fs placed) ≡ map (λ (p : Placed). p.slot) placed
 unfolding relaid_frames FitsFromReach
-relaid-slots window reach [] [] [] same fits = refl
-relaid-slots window reach [] [] (p ∷ placed) same fits = absurd fits
-relaid-slots window reach [] (f ∷ fs) placed same fits = absurd (omega (arith, same))
-relaid-slots window reach (n ∷ needs) [] placed same fits = absurd (omega (arith, same))
-relaid-slots window reach (n ∷ needs) (f ∷ fs) [] same fits = absurd fits
-relaid-slots window reach (n ∷ needs) (f ∷ fs) (p ∷ placed) same fits =
+relaid_frames-slots window reach [] [] [] same fits = refl
+relaid_frames-slots window reach [] [] (p ∷ placed) same fits = absurd fits
+relaid_frames-slots window reach [] (f ∷ fs) placed same fits = absurd (omega (arith, same))
+relaid_frames-slots window reach (n ∷ needs) [] placed same fits = absurd (omega (arith, same))
+relaid_frames-slots window reach (n ∷ needs) (f ∷ fs) [] same fits = absurd fits
+relaid_frames-slots window reach (n ∷ needs) (f ∷ fs) (p ∷ placed) same fits =
     ap₂ (λ s l. s ∷ l) (slot-placed p.lead_in p f)
-    (relaid-slots window (reach_behind window p n) (rest_behind p.lead_in n needs)
+    (relaid_frames-slots window (reach_behind window p n) (rest_behind p.lead_in n needs)
     (rest_behind p.lead_in f fs) placed
     (behind-length p.lead_in f n fs needs (omega (arith, same))) fits.2)
 
@@ -197,9 +198,10 @@ set-header None rows i r is = map-header rows i r is
 set-header (Some head) rows i r is = rows-header rows 0 rows i r is
 
 -- a frame keeps its header when the head is set apart
-pub apart-header : (s : SurveyFields) (i : ℕ) (r : Row) → slice_get s.frames i ≡ Some r
+pub survey_without_head-header : (s : SurveyFields) (i : ℕ) (r : Row)
+    → slice_get s.frames i ≡ Some r
     → (q : Row) × (slice_get (survey_without_head s).frames i ≡ Some q) × (q.header ≡ r.header)
-apart-header s i r is = set-header s.head s.frames i r is
+survey_without_head-header s i r is = set-header s.head s.frames i r is
 
 -- ---- the numbers
 
@@ -240,7 +242,8 @@ unfolding parts_in
 padding-same class f name [] s [] b [] of are =
     ap (λ (k : ClassFields). ends_padding k (fields_of_head (unwrap_or (f name) []) s.head)
     (length s.frames)) of.0
-    ∙ ap₂ (λ (h : Option Info) n. ends_padding class h n) (sym are.0.0) (sym (apart-length s))
+    ∙ ap₂ (λ (h : Option Info) n. ends_padding class h n) (sym are.0.0)
+    (sym (survey_without_head-length s))
 padding-same class f name (other ∷ names) s (t ∷ ss) b (c ∷ bs) of are =
     padding-same class f other names t ss c bs of.1 are.1
 padding-same class f name _ s _ b _ of are = absurd are.1
@@ -321,7 +324,7 @@ module _ (f : Contents) (name : List ℕ) (names : List (List ℕ)) (s : SurveyF
   delay-same =
       ap₂ (λ (h : Option Info) n. option_and_then (λ (p : Played).
       short_delay (delay_after s.class moved p))
-      (counted_positions h s.class n)) heads.0.0 (apart-length s)
+      (counted_positions h s.class n)) heads.0.0 (survey_without_head-length s)
       ∙ ap₂ (λ l o. option_and_then (λ (p : Played). short_delay (p.start + l * samples_in s.class
       - o * samples_in s.class - decoder_delay)) (part_brought first).played) leads-same is.front
 
@@ -365,11 +368,11 @@ module _ (f : Contents) (name : List ℕ) (names : List (List ℕ)) (s : SurveyF
   seamless-written info many fits is_info within =
       let frames = seamless_frames first parts in
       let row = first-there s.frames d.front within in
-      let other = apart-header s d.front row.0 row.1 in
+      let other = survey_without_head-header s d.front row.0 row.1 in
       let laid = rest_parts f (name ∷ names) (map survey_without_head (s ∷ ss)) (left_out_of d) in
       let slots : map slot_in frames ≡ map (λ (p : Placed). p.slot) placed =
       ap (map slot_in) (sym frames-same)
-      ∙ relaid-slots (window_of s.class.version) 0
+      ∙ relaid_frames-slots (window_of s.class.version) 0
       (needs_of_parts (rest_rows (map survey_without_head (s ∷ ss))
       (left_out_of d))) (flat_map part_frames laid) placed
       (behind-long f (name ∷ names) (map survey_without_head (s ∷ ss)) (left_out_of d)

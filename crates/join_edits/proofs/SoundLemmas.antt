@@ -97,9 +97,9 @@ index-map f [] i d = refl
 index-map f (x ∷ xs) zero d = refl
 index-map f (x ∷ xs) (suc i) d = index-map f xs i d
 
-bare-granule : (s : Side) (granule channel : ℕ)
+compared_side-granule : (s : Side) (granule channel : ℕ)
     → granule_in (compared_side s) granule channel ≡ without_gain (granule_in s granule channel)
-bare-granule s granule channel =
+compared_side-granule s granule channel =
     ap (λ (gs : List Granule). slice_index_or gs channel no_granule)
     (index-map (map without_gain) s.granules granule [])
     ∙ index-map without_gain (slice_index_or s.granules granule []) channel no_granule
@@ -118,15 +118,15 @@ fits-bare c true g fits = record {
 fits-bare c false g none = ap without_gain none
 
 -- side information without gains and main_data_begin fits, too
-pub bare-fits : (c : ClassFields) (s : Side) → SideFits c s → SideFits c (compared_side s)
-bare-fits c s fits = record {
+pub compared_side-fits : (c : ClassFields) (s : Side) → SideFits c s → SideFits c (compared_side s)
+compared_side-fits c s fits = record {
   main_data_begin = omega (arith, fits.main_data_begin);
   private_bits = fits.private_bits;
   scfsi = fits.scfsi;
   granules = λ granule channel.
       subst (λ (g : Granule). MatchBool (has_granule c granule channel) (GranuleFits c.version g)
       (g ≡ no_granule))
-      (sym (bare-granule s granule channel)) (fits-bare c (has_granule c granule channel)
+      (sym (compared_side-granule s granule channel)) (fits-bare c (has_granule c granule channel)
       (granule_in s granule channel) (fits.granules granule channel));
 }
 
@@ -139,8 +139,8 @@ pairs-shaped s pairs =
       second = pairs.second;
     }
 
-bare-shaped : (s : Side) → HasPairs s → IsShaped (compared_side s)
-bare-shaped s pairs = record {
+compared_side-shaped : (s : Side) → HasPairs s → IsShaped (compared_side s)
+compared_side-shaped s pairs = record {
   scfsi = pairs.scfsi;
   granules = length-map s.granules (map without_gain) ∙ pairs.granules;
   first = ap length (index-map (map without_gain) s.granules 0 []) ∙ length-map
@@ -168,9 +168,9 @@ sums-bare (hs ∷ gs) =
     ∙ ap₂ (λ m n. m + n) (sum-bare hs) (sums-bare gs)
     ∙ sym (sum_by-cons (sum_by length_of) hs gs)
 
-payload-bare : (s : Side) → payload_bits (compared_side s) ≡ payload_bits s
+payload-compared_side : (s : Side) → payload_bits (compared_side s) ≡ payload_bits s
 unfolding payload_bits
-payload-bare s = sums-bare s.granules
+payload-compared_side s = sums-bare s.granules
 
 -- the granules and channels that the class has hold all bits of main data
 abbrev LengthsAre : ClassFields → Side → Type 0
@@ -284,9 +284,9 @@ module _ (c : ClassFields) (f g : Frame) (first : IsStreamEntry c f)
       ≡ length (side_bits c (compared_side g.kept.side))
   side-long =
       length-side_bits c (known c f first) (compared_side f.kept.side)
-      (bare-shaped f.kept.side first.pairs)
+      (compared_side-shaped f.kept.side first.pairs)
       ∙ sym (length-side_bits c (known c f first) (compared_side g.kept.side)
-      (bare-shaped g.kept.side second.pairs))
+      (compared_side-shaped g.kept.side second.pairs))
 
   header-long : length (header_bits (without_slot f.kept.header)) ≡ length
       (header_bits (without_slot g.kept.header))
@@ -299,12 +299,13 @@ module _ (c : ClassFields) (f g : Frame) (first : IsStreamEntry c f)
   sides-many same =
       let back = side_at-side_bits c (known c f first) in
       let sides : compared_side f.kept.side ≡ compared_side g.kept.side =
-      sym (back (compared_side f.kept.side) (bare-shaped f.kept.side first.pairs)
-      (bare-fits c f.kept.side first.fits))
+      sym (back (compared_side f.kept.side) (compared_side-shaped f.kept.side first.pairs)
+      (compared_side-fits c f.kept.side first.fits))
       ∙ ap (side_at c) same
-      ∙ back (compared_side g.kept.side) (bare-shaped g.kept.side second.pairs)
-      (bare-fits c g.kept.side second.fits) in
-      sym (payload-bare f.kept.side) ∙ ap payload_bits sides ∙ payload-bare g.kept.side
+      ∙ back (compared_side g.kept.side) (compared_side-shaped g.kept.side second.pairs)
+      (compared_side-fits c g.kept.side second.fits) in
+      sym (payload-compared_side f.kept.side) ∙ ap payload_bits sides
+      ∙ payload-compared_side g.kept.side
 
   abbrev Sounds : Type 0
   Sounds = sound_of c (stream_entry f) ≡ sound_of c (stream_entry g)

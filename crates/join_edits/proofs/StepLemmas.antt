@@ -12,9 +12,10 @@ use Rattle.join_edits.specs.RestOfInputs.{AreCountsWithin, rest_part, rest_parts
 use Rattle.join_edits.specs.RestOfInputs.{told_rest_parts}
 use Rattle.laying.proofs.{FramesFromLemmas.{from-length, needs-length}, HoldLemmas.needs-range}
 use Rattle.laying.proofs.PassLemmas.{lays_none, lays_then, part_then}
-use Rattle.laying.proofs.{PlacesLemmas.{fits-append, relaid-append}, PlannedFrameLemmas.AreNeedsOf}
+use Rattle.laying.proofs.PlacesLemmas.{fits-append, relaid_frames-append}
+use Rattle.laying.proofs.PlannedFrameLemmas.{AreNeedsOf}
 use Rattle.laying.proofs.RelayLemmas.{begins-left, item-next, lays-all, LaysUpTo, part_more}
-use Rattle.laying.{proofs.RelayLemmas.relaid-none, specs.Fits.{FitsFromReach, last_reach}}
+use Rattle.laying.{proofs.RelayLemmas.relaid_frames-none, specs.Fits.{FitsFromReach, last_reach}}
 use Rattle.laying.specs.Needs.{needs_of_parts}
 use Rattle.laying.specs.Passing.{IsRelayReady, LaysFrames, LaysPart, needs_from}
 use Rattle.laying.specs.Places.{own_places, places_for}
@@ -109,15 +110,15 @@ own-split f name s from names ss froms placed =
     let file = unwrap_or (f name) [] in
     let own = frames_behind from s placed file in
     let rest = flat_map part_frames (rest_parts f names ss froms) in
-    relaid-append (slice_range (all_frames file s) from (length s.frames)) rest placed
+    relaid_frames-append (slice_range (all_frames file s) from (length s.frames)) rest placed
     ∙ ap (λ n. own ++ relaid_frames rest (drop (places_for n placed) placed))
     (from-length file from s)
 
 told-none : (f : Contents) (ss : List SurveyFields) (froms : List ℕ) (placed : List Placed)
     → relaid_frames (flat_map part_frames (rest_parts f [] ss froms)) placed ≡ []
 unfolding rest_parts
-told-none f [] froms placed = relaid-none placed
-told-none f (s ∷ ss) froms placed = relaid-none placed
+told-none f [] froms placed = relaid_frames-none placed
+told-none f (s ∷ ss) froms placed = relaid_frames-none placed
 
 -- the plan fits the input, and then the inputs after it
 fits-input : (class : ClassFields) (reach : ℕ) (s : SurveyFields) (from : ℕ)

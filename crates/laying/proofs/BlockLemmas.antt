@@ -4,8 +4,9 @@ use Rattle.std.proofs.Common.{subst, sym, take, ℕ, [], ◌++◌, ◌+◌, ◌�
 use Rattle.std.{proofs.lemmas.List.{length-take-le, map-append}, specs.List.cons_option}
 use Rattle.laying.specs.{LaidFiles.{AreBlocks, block_bytes, IsBlock}, LaidLaws.SurveyedBlocks}
 use Rattle.sync_survey.proofs.{ItemBytesLemmas.block_front-bytes, ItemsLemmas.stands-at}
-use Rattle.sync_survey.proofs.{RunsLemmas.{item_of-is, run-ends}, SurveyPartsLemmas.surveyed-parts}
-use Rattle.sync_survey.specs.{Faults.SurveyFields, Items.{item_at, size_of}}
+use Rattle.sync_survey.proofs.RunsLemmas.{item_run-ends, whole_item_at-is}
+use Rattle.sync_survey.{proofs.SurveyPartsLemmas.survey_fields-parts, specs.Faults.SurveyFields}
+use Rattle.sync_survey.specs.Items.{item_at, size_of}
 use Rattle.sync_survey.specs.Runs.{AreEndToEnd, block_of_item, blocks_of, item_run, PlacedItem}
 use Rattle.sync_survey.specs.{Walk.{all_blocks, stream_run}, declared.items.Item.Item}
 use Rattle.sync_survey.specs.declared.{items.Item.TheVariants.Block, places.Piece.Piece}
@@ -39,7 +40,7 @@ pub ends-blocks : (part : Region) (file : List ℕ) (from : ℕ) (ps : List Plac
     → AreEndToEnd part file from ps to → AreBlocks (map (block_bytes file) (blocks_of ps))
 ends-blocks part file from [] to ends = tt
 ends-blocks part file from (p ∷ ps) to ends =
-    let here = item_of-is part file p.offset p.item ends.1 in
+    let here = whole_item_at-is part file p.offset p.item ends.1 in
     block_more file p.offset p.item (blocks_of ps)
     here.is here.within (ends-blocks part file (p.offset + size_of p.item) ps to ends.2)
 
@@ -57,13 +58,13 @@ all-blocks file start =
     (sym (map-append (block_bytes file) (blocks_of front.items) (blocks_of stream.items)))
     (blocks-append (map (block_bytes file) (blocks_of front.items))
     (map (block_bytes file) (blocks_of stream.items))
-    (ends-blocks Front file 0 front.items front.stop (run-ends Front file 0))
+    (ends-blocks Front file 0 front.items front.stop (item_run-ends Front file 0))
     (ends-blocks Stream file
-    start.first.offset stream.items stream.stop (run-ends Stream file start.first.offset)))
+    start.first.offset stream.items stream.stop (item_run-ends Stream file start.first.offset)))
 
 -- the blocks of a surveyed file are blocks
 pub surveyed-blocks : SurveyedBlocks
 surveyed-blocks file allowed s e =
-    let parts = surveyed-parts file allowed s e in
+    let parts = survey_fields-parts file allowed s e in
     subst (λ (t : SurveyFields). AreBlocks (map (block_bytes file) t.blocks))
     parts.2 (all-blocks file parts.0)

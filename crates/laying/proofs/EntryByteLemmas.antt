@@ -10,8 +10,8 @@ use Rattle.frame_header.specs.Reading.{header_at}
 use Rattle.frame_header.specs.Tables.{area_of, class_of, length_of, overhead_of, side_size_of}
 use Rattle.frame_header.specs.declared.header.NotHeader.TheVariants.{No}
 use Rattle.laying.specs.LaidFiles.{HasPairs}
-use Rattle.side_info.proofs.FrameLemmas.{HasRoom, length-word_part, overhead-is, side_in-frame_with}
-use Rattle.side_info.proofs.FrameLemmas.{word_said-frame_with}
+use Rattle.side_info.proofs.FrameLemmas.{HasRoom, length-crc_part, overhead-is}
+use Rattle.side_info.proofs.FrameLemmas.{side_in-frame_with_side, stored_crc-frame_with_side}
 use Rattle.side_info.{proofs.SideLemmas.{IsShaped, length-side_bits}, specs.CheckWord.check_word_of}
 use Rattle.side_info.specs.Frame.{crc_part, frame_front_bytes, frame_with_side, side_in, stored_crc}
 use Rattle.side_info.specs.{Side.{side_bits, SideFits}, declared.side.Side.Side}
@@ -61,7 +61,7 @@ length-front h s is pairs =
       length-header h,
       length-append (bytes (header_bits h)) (crc_part h s ++ side),
       length-append (crc_part h s) side,
-      length-word_part h s h.protected,
+      length-crc_part h s h.protected,
       length-bytes (side_size_of c) (side_bits c s)
           (length-side_bits c (IsClass-class_of h is) s pairs),
       overhead-is c h.protected,
@@ -101,14 +101,14 @@ module _ (h : HeaderFields) (s : Side) (rest : List ℕ) (is : IsHeader h) (pair
 
   -- the side information is read back
   pub front-side : SideFits (class_of h) s → side_in h (frame_front_bytes h s ++ rest) ≡ s
-  front-side fits = ap (side_in h) (sym put_again) ∙ side_in-frame_with h s
+  front-side fits = ap (side_in h) (sym put_again) ∙ side_in-frame_with_side h s
       (frame_front_bytes h s ++ rest) (IsClass-class_of h is) pairs fits room
 
   -- the check word of the frame is right
   pub front-word : h.protected ≡ true
       → stored_crc (frame_front_bytes h s ++ rest) ≡ check_word_of h s
   front-word protected = ap stored_crc (sym put_again)
-      ∙ word_said-frame_with h s (frame_front_bytes h s ++ rest) protected room
+      ∙ stored_crc-frame_with_side h s (frame_front_bytes h s ++ rest) protected room
 
 -- ---- the frame
 

@@ -12,7 +12,7 @@ use Rattle.laying.proofs.HoldLemmas.{parts-entries, parts-headers, parts-needs, 
 use Rattle.laying.proofs.{HoldLemmas.parts-stream, LaidFileLemmas.{laid-frames-stay, laid-stream}}
 use Rattle.laying.proofs.PlannedFrameLemmas.{AreLaidFrom, AreNeedsOf, laid_more, next-entries}
 use Rattle.laying.proofs.PlannedFrameLemmas.{next-map, none_laid, one, one-entry, one-stream}
-use Rattle.laying.proofs.PlannedFrameLemmas.{one_in_stream, relaid-cons, stream-cons}
+use Rattle.laying.proofs.PlannedFrameLemmas.{one_in_stream, relaid_frames-cons, stream-cons}
 use Rattle.laying.specs.Fits.{AreInSlots, FitsFromReach, IsFittingPlan, placed_area, placed_bytes}
 use Rattle.laying.specs.{Fits.reach_behind, InfoLaws.SlotsArePlanned}
 use Rattle.laying.specs.LaidFiles.{AreBlocks, AreStreamEntries, HasInfoSizes, IsLaidFile, laid_file}
@@ -80,7 +80,7 @@ laid-fitting c (need ∷ needs) (f ∷ fs)
     (next-map stream_entry p.lead_in f fs) behind in
     subst (λ (l : List Frame). AreLaidFrom c end before l
     (stream_with_lead_ins (p ∷ placed) (map stream_entry (f ∷ fs))))
-    (sym (relaid-cons p placed f fs))
+    (sym (relaid_frames-cons p placed f fs))
     (subst (λ (l : List StreamFrame). AreLaidFrom c end before
     (g ∷ relaid_frames (rest_behind p.lead_in f fs) placed) l)
     (sym (stream-cons p placed (stream_entry f) (map stream_entry fs)))
@@ -104,7 +104,7 @@ slots-by window reach [] [] [] are fits = refl
 slots-by window reach [] (f ∷ fs) placed are fits = absurd are
 slots-by window reach (need ∷ needs) [] placed are fits = absurd are
 slots-by window reach (need ∷ needs) (f ∷ fs) (p ∷ placed) are fits =
-    ap (map slot_in) (relaid-cons p placed f fs)
+    ap (map slot_in) (relaid_frames-cons p placed f fs)
     ∙ ap₂ (λ (s : SlotFields) (l : List SlotFields). s ∷ l) (one-slot p.lead_in p f)
     (slots-by window (reach_behind window p need) (rest_behind p.lead_in need needs)
     (rest_behind p.lead_in f fs) placed (next-needs p.lead_in need needs f fs are) fits.2)
@@ -118,7 +118,7 @@ some-by window reach needs [] placed are fits some = absurd (omega (arith, some)
 some-by window reach [] (f ∷ fs) placed are fits some = absurd are
 some-by window reach (need ∷ needs) (f ∷ fs) [] are fits some = absurd fits
 some-by window reach (need ∷ needs) (f ∷ fs) (p ∷ placed) are fits some =
-    omega (arith, ap length (relaid-cons p placed f fs))
+    omega (arith, ap length (relaid_frames-cons p placed f fs))
 
 -- ---- the frames of a part
 

@@ -5,7 +5,8 @@ use Rattle.std.proofs.lemmas.List.{length-drop, length-map, length-take-le}
 use Rattle.frame_header.specs.Tables.{window_of}
 use Rattle.frame_writer.specs.{Frames.{all_frame_data, Frame}, Laid.BeginsWithin, Writing.Writing}
 use Rattle.laying.proofs.{HoldLemmas.{all-length, needs-range}, PassLemmas.{begins_more, lays_as}}
-use Rattle.laying.proofs.{PlacesLemmas.{last-own, relaid-own}, RelayLemmas.{begins-left, part_more}}
+use Rattle.laying.proofs.PlacesLemmas.{last-own, relaid_frames-own}
+use Rattle.laying.proofs.RelayLemmas.{begins-left, part_more}
 use Rattle.laying.specs.{Fits.{FitsFromReach, last_reach}, Needs.need_of}
 use Rattle.laying.specs.Passing.{LaysFrames, LaysPart, needs_from}
 use Rattle.laying.specs.{Places.{own_places, places_for}, Relaid.{all_frames, relaid_frames}}
@@ -52,7 +53,7 @@ frames-own : (file : List ℕ) (from : ℕ) (s : SurveyFields) (placed : List Pl
 frames-own file from s placed =
     let frames = slice_range (all_frames file s) from (length s.frames) in
     ap (λ n. relaid_frames frames (own_places n placed)) (sym (from-length file from s))
-    ∙ relaid-own frames placed
+    ∙ relaid_frames-own frames placed
 
 reach-own : (reach from : ℕ) (s : SurveyFields) (placed : List Placed)
     → reached reach from s (own_places (length s.frames - from) placed)

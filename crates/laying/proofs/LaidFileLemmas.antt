@@ -14,7 +14,7 @@ use Rattle.laying.proofs.LaidDataLemmas.{laid-there}
 use Rattle.laying.proofs.LaidFrameLemmas.{areas-there, row-get, rows-there, StandFrom}
 use Rattle.laying.proofs.LaidRunLemmas.{blocks-are, frames-are, frames-stand, head-is, head_area-is}
 use Rattle.laying.proofs.LaidRunLemmas.{no-end_fault, start, start-is}
-use Rattle.laying.proofs.LaidSoundLemmas.{laid-near, laid-sound, none-marked, starts-there}
+use Rattle.laying.proofs.LaidSoundLemmas.{laid-near, laid-sound, marked_rows-none, starts-there}
 use Rattle.laying.proofs.RelayLemmas.{AreOnward, onward-all, onward-first, onward-rest}
 use Rattle.laying.specs.LaidFiles.{AreStreamEntries, frame_length, frames_offset, head_at}
 use Rattle.laying.specs.LaidFiles.{IsLaidFile, IsStreamEntry, laid_fields, laid_file, rows_from}
@@ -24,8 +24,8 @@ use Rattle.side_info.{proofs.SideLemmas.bits_least, specs.Side.{payload_bits, pa
 use Rattle.side_info.specs.declared.side.Side.{Side}
 use Rattle.sync_survey.proofs.ApartLemmas.{near-same}
 use Rattle.sync_survey.proofs.SurveyPartsLemmas.{frames_from, IsRead, sound-no_all_faults}
-use Rattle.sync_survey.proofs.SurveyPartsLemmas.{surveyed-allowed, surveyed-stream, surveyed-told}
-use Rattle.sync_survey.proofs.SurveyPartsLemmas.{told_from}
+use Rattle.sync_survey.proofs.SurveyPartsLemmas.{survey_fields-allowed, survey_fields-stream}
+use Rattle.sync_survey.proofs.SurveyPartsLemmas.{survey_fields-told, told_from}
 use Rattle.sync_survey.specs.Faults.{all_faults, HoldsStream, stream_of_survey, survey_fields}
 use Rattle.sync_survey.specs.Faults.{SurveyFields}
 use Rattle.sync_survey.specs.MainData.{granule_lengths, head_bytes, main_bytes, marked_rows}
@@ -154,7 +154,7 @@ module _ (c : ClassFields) (front : List (List ℕ)) (first : HeaderFields) (inf
 
   marked-are : (told_from file begin).frames ≡ rows
   marked-are = ap₂ marked_rows (head-is c front first info frames back is) rows-are
-      ∙ none-marked file c head at frames area_data is.entries stand is.laid
+      ∙ marked_rows-none file c head at frames area_data is.entries stand is.laid
 
   told : told_from file begin ≡ laid_fields front first info frames back
   unfolding laid_fields
@@ -174,7 +174,7 @@ module _ (c : ClassFields) (front : List (List ℕ)) (first : HeaderFields) (inf
   -- its survey finds what was put into it
   pub survey-is : (allowed : ℕ) → length frames ≤ allowed
       → survey_fields file allowed ≡ Ok (laid_fields front first info frames back)
-  survey-is allowed few = surveyed-told file allowed begin (read allowed few) ∙ ap Ok told
+  survey-is allowed few = survey_fields-told file allowed begin (read allowed few) ∙ ap Ok told
 
   -- ---- its stream
 
@@ -208,7 +208,7 @@ module _ (c : ClassFields) (front : List (List ℕ)) (first : HeaderFields) (inf
 
   -- it holds the stream of its frames
   pub holds : HoldsStream file (map stream_entry frames)
-  holds = subst (HoldsStream file) stream-is (surveyed-stream file (length frames)
+  holds = subst (HoldsStream file) stream-is (survey_fields-stream file (length frames)
       (laid_fields front first info frames back) (survey-is (length frames) (omega arith)))
 
   -- ---- none of its frames is lost
@@ -226,7 +226,7 @@ module _ (c : ClassFields) (front : List (List ℕ)) (first : HeaderFields) (inf
   none_by : (allowed : ℕ) (s : SurveyFields) → survey_fields file allowed ≡ Ok s → HasNoneLost s
   none_by allowed s e =
       let one : Ok s ≡ Ok (laid_fields front first info frames back) =
-      sym (surveyed-allowed file allowed (length file + length frames + 1) s (omega arith) e)
+      sym (survey_fields-allowed file allowed (length file + length frames + 1) s (omega arith) e)
       ∙ survey-is (length file + length frames + 1) (omega arith) in
       let same : laid_fields front first info frames back ≡ s = cc in
       subst HasNoneLost same none_lost

@@ -34,11 +34,11 @@ pub own_fits : (c : ClassFields) (f : Frame) → IsStreamEntry c f
 own_fits c f entry = subst (λ d. SideFits d f.kept.side) (sym entry.class) entry.fits
 
 -- frames with bytes in their areas are whole items
-pub framed-whole : (c : ClassFields) (fs : List Frame) (bytes : List ℕ) → AreStreamEntries c fs
-    → areas_length (fields_of_frames fs) ≡ length bytes
+pub framed_bytes-whole : (c : ClassFields) (fs : List Frame) (bytes : List ℕ)
+    → AreStreamEntries c fs → areas_length (fields_of_frames fs) ≡ length bytes
     → AreWhole Stream (frame_items fs) (framed_bytes (fields_of_frames fs) bytes)
-framed-whole c [] bytes entries many = refl
-framed-whole c (f ∷ fs) bytes entries many =
+framed_bytes-whole c [] bytes entries many = refl
+framed_bytes-whole c (f ∷ fs) bytes entries many =
     let k = f.kept in
     let n = frame_area k in
     let front = frame_front_bytes k.header k.side in
@@ -49,7 +49,7 @@ framed-whole c (f ∷ fs) bytes entries many =
       entry_item k.header k.side (take n bytes) entries.0.header (shaped k.side entries.0.pairs)
           (length-take-le n bytes (omega (arith, many))),
       refl,
-      framed-whole c fs (drop n bytes) entries.1 (omega (arith, many, length-drop n bytes)),
+      framed_bytes-whole c fs (drop n bytes) entries.1 (omega (arith, many, length-drop n bytes)),
     )
 
 -- the frames placed end to end, the first of them at an offset
@@ -109,12 +109,12 @@ nothing [] none = refl
 nothing (b ∷ bytes) none = absurd (omega (arith, none))
 
 -- if their bytes are in a file at an offset, the frames are consecutive from there on
-pub framed-stand : (c : ClassFields) (file : List ℕ) (at : ℕ) (fs : List Frame)
+pub framed_bytes-stand : (c : ClassFields) (file : List ℕ) (at : ℕ) (fs : List Frame)
     (bytes behind : List ℕ) → AreStreamEntries c fs
     → areas_length (fields_of_frames fs) ≡ length bytes
     → drop at file ≡ framed_bytes (fields_of_frames fs) bytes ++ behind → StandFrom file at fs bytes
-framed-stand c file at [] bytes behind entries many is = nothing bytes many
-framed-stand c file at (f ∷ fs) bytes behind entries many is =
+framed_bytes-stand c file at [] bytes behind entries many is = nothing bytes many
+framed_bytes-stand c file at (f ∷ fs) bytes behind entries many is =
     let k = f.kept in
     let n = frame_area k in
     let front = frame_front_bytes k.header k.side in
@@ -133,7 +133,7 @@ framed-stand c file at (f ∷ fs) bytes behind entries many is =
       rest,
       stands,
       omega (arith, many),
-      framed-stand c file (at + frame_length f) fs
+      framed_bytes-stand c file (at + frame_length f) fs
           (drop n bytes) behind entries.1 (omega (arith, many, length-drop n bytes)) next,
     )
 

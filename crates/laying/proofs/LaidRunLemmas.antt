@@ -10,13 +10,13 @@ use Rattle.info_header.specs.{HeadText.head_text_of, InfoFrame.{info_frame, info
 use Rattle.info_header.specs.declared.fields.Info.{Info}
 use Rattle.laying.proofs.InfoByteLemmas.{info_header, info_item, info_text, length-info_area}
 use Rattle.laying.proofs.{InfoByteLemmas.length-info_frame, LaidDataLemmas.length-laid}
-use Rattle.laying.proofs.LaidFrameLemmas.{areas-all, blocks-behind, frame_items, framed-stand}
-use Rattle.laying.proofs.LaidFrameLemmas.{framed-whole, frames-placed, frames_at, StandFrom}
+use Rattle.laying.proofs.LaidFrameLemmas.{areas-all, blocks-behind, frame_items, framed_bytes-stand}
+use Rattle.laying.proofs.LaidFrameLemmas.{framed_bytes-whole, frames-placed, frames_at, StandFrom}
 use Rattle.laying.proofs.WholeItemLemmas.{AreWhole, block_items, blocks-placed, blocks-whole}
-use Rattle.laying.proofs.WholeItemLemmas.{placed, whole-append, whole-run}
+use Rattle.laying.proofs.WholeItemLemmas.{placed, whole-append, whole-item_run}
 use Rattle.laying.specs.LaidFiles.{blocks_from, frames_offset, head_at, IsLaidFile, laid_file}
 use Rattle.sync_survey.proofs.{ItemListLemmas.item_at-known, OneItemLemmas.stands-only_at}
-use Rattle.sync_survey.proofs.{RunsLemmas.item_of-past, SameHeadLemmas.area-frame}
+use Rattle.sync_survey.proofs.{RunsLemmas.whole_item_at-past, SameHeadLemmas.area-frame}
 use Rattle.sync_survey.proofs.{StartLemmas.start_is, SurveyLemmas.overhead-within}
 use Rattle.sync_survey.proofs.SurveyPartsLemmas.{frames_from}
 use Rattle.sync_survey.specs.{Items.{item_at, item_fits, size_of}, MainData.{head_area, head_bytes}}
@@ -126,7 +126,7 @@ module _ (c : ClassFields) (front : List (List ℕ)) (first : HeaderFields) (inf
 
   -- each frame is there
   pub frames-stand : StandFrom file (frames_offset front first info) frames area_data
-  frames-stand = framed-stand c file (frames_offset front first info) frames area_data
+  frames-stand = framed_bytes-stand c file (frames_offset front first info) frames area_data
       (concat back) is.entries many (ap (λ n. drop n file) place-is ∙ frames_stand)
 
   -- ---- the runs
@@ -139,7 +139,7 @@ module _ (c : ClassFields) (front : List (List ℕ)) (first : HeaderFields) (inf
       ≡ record { items = placed 0 (block_items front is.blocks_before); stop = from }
   front_run =
       let none : 0 + from ≡ from = omega arith in
-      whole-run Front file 0 (block_items front is.blocks_before) (concat front) (own ++ after)
+      whole-item_run Front file 0 (block_items front is.blocks_before) (concat front) (own ++ after)
       (blocks-whole Front front is.blocks_before) (omega arith) file-is
       (ap (whole_item_at Front file) none ∙ not_in_front file from h first_item)
       ∙ ap (λ n. record { items = placed 0 (block_items front is.blocks_before); stop = n }) none
@@ -151,7 +151,7 @@ module _ (c : ClassFields) (front : List (List ℕ)) (first : HeaderFields) (inf
 
   later_whole : AreWhole Stream later_items after
   later_whole = whole-append Stream (frame_items frames) (block_items back is.blocks_behind)
-      (bytes_of_frames frames) (concat back) (framed-whole c frames area_data is.entries many)
+      (bytes_of_frames frames) (concat back) (framed_bytes-whole c frames area_data is.entries many)
       (blocks-whole Stream back is.blocks_behind)
 
   -- where the stream ends
@@ -166,11 +166,11 @@ module _ (c : ClassFields) (front : List (List ℕ)) (first : HeaderFields) (inf
       ≡ record { items = placed from (FrameItem h ∷ later_items); stop = stop }
   unfolding stop
   stream =
-      whole-run Stream file from (FrameItem h ∷ later_items) (own ++ after) []
+      whole-item_run Stream file from (FrameItem h ∷ later_items) (own ++ after) []
       (own, after, refl, info_item first info is.header is.sizes, refl, later_whole)
       (omega (arith, long_file))
       (stands ∙ sym (append-nil (own ++ after)))
-      (item_of-past Stream file (from + length (own ++ after)) stop-past)
+      (whole_item_at-past Stream file (from + length (own ++ after)) stop-past)
 
   -- ---- the head
 

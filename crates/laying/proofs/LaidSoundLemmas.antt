@@ -186,9 +186,9 @@ module _ (file : List ℕ) (c : ClassFields) (head : Option Head) (at : ℕ) (fs
       (λ i q is. ap (λ m. is_lost head rows m q) (omega arith) ∙ kept (suc i) q is))
 
   -- none is marked
-  pub none-marked : marked_rows head rows ≡ rows
+  pub marked_rows-none : marked_rows head rows ≡ rows
   unfolding marked_rows
-  none-marked =
+  marked_rows-none =
       marks 0 rows (λ i r is. ap (λ m. is_lost head rows m r) (zero-add i) ∙ none_lost i r is)
 
   -- the main data of frame i begin where they were laid

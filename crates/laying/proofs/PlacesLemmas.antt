@@ -5,7 +5,7 @@ use Rattle.std.proofs.Common.{suc, sym, true, unwrap_or, zero, ℕ, [], ◌++◌
 use Rattle.std.proofs.{Common.{◌≡◌, ◌≤◌}, lemmas.List.{length-map, take_all}}
 use Rattle.frame_header.specs.Fields.{HeaderFields, SlotFields}
 use Rattle.frame_writer.specs.Frames.{Frame}
-use Rattle.laying.proofs.{PlannedFrameLemmas.one, RelayLemmas.relaid-end}
+use Rattle.laying.proofs.{PlannedFrameLemmas.one, RelayLemmas.relaid_frames-end}
 use Rattle.laying.specs.Fits.{FitsFromReach, last_reach, reach_behind}
 use Rattle.laying.specs.Places.{frame_count_behind, own_places, places_for}
 use Rattle.laying.specs.Relaid.{relaid_frames, rest_behind}
@@ -110,17 +110,19 @@ behind-length true x xs = refl
 behind-length false x xs = refl
 
 -- of two lists of frames, the first is laid in the first places and the second in those after them
-pub relaid-append : (xs ys : List Frame) (placed : List Placed) → relaid_frames (xs ++ ys) placed
+pub relaid_frames-append : (xs ys : List Frame) (placed : List Placed)
+    → relaid_frames (xs ++ ys) placed
     ≡ relaid_frames xs placed ++ relaid_frames ys (drop (places_for (length xs) placed) placed)
 unfolding relaid_frames places_for
-relaid-append xs ys [] =
-    relaid-end (xs ++ ys) ∙ sym (ap₂ (λ (l r : List Frame). l ++ r) (relaid-end xs) (relaid-end ys))
-relaid-append [] ys (p ∷ placed) = refl
-relaid-append (x ∷ xs) ys (p ∷ placed) =
+relaid_frames-append xs ys [] =
+    relaid_frames-end (xs ++ ys)
+    ∙ sym (ap₂ (λ (l r : List Frame). l ++ r) (relaid_frames-end xs) (relaid_frames-end ys))
+relaid_frames-append [] ys (p ∷ placed) = refl
+relaid_frames-append (x ∷ xs) ys (p ∷ placed) =
     ap (λ (l : List Frame). one p.lead_in p x ∷ relaid_frames l placed)
     (behind-append p.lead_in x xs ys)
     ∙ ap (λ (l : List Frame). one p.lead_in p x ∷ l)
-    (relaid-append (rest_behind p.lead_in x xs) ys placed)
+    (relaid_frames-append (rest_behind p.lead_in x xs) ys placed)
     ∙ ap (λ n. one p.lead_in p x ∷ (relaid_frames (rest_behind p.lead_in x xs) placed
     ++ relaid_frames ys (drop (places_for n placed) placed))) (behind-length p.lead_in x xs)
 
@@ -150,17 +152,17 @@ fits-append window reach (x ∷ xs) ys (p ∷ placed) fits =
     )
 
 -- the frames of a plan are those in their own places
-pub relaid-own : (xs : List Frame) (placed : List Placed)
+pub relaid_frames-own : (xs : List Frame) (placed : List Placed)
     → relaid_frames xs (own_places (length xs) placed) ≡ relaid_frames xs placed
 unfolding relaid_frames places_for
-relaid-own [] [] = refl
-relaid-own [] (p ∷ placed) = refl
-relaid-own (x ∷ xs) [] = refl
-relaid-own (x ∷ xs) (p ∷ placed) =
+relaid_frames-own [] [] = refl
+relaid_frames-own [] (p ∷ placed) = refl
+relaid_frames-own (x ∷ xs) [] = refl
+relaid_frames-own (x ∷ xs) (p ∷ placed) =
     ap (λ n. one p.lead_in p x ∷ relaid_frames (rest_behind p.lead_in x xs) (own_places n placed))
     (sym (behind-length p.lead_in x xs))
     ∙ ap (λ (l : List Frame). one p.lead_in p x ∷ l)
-    (relaid-own (rest_behind p.lead_in x xs) placed)
+    (relaid_frames-own (rest_behind p.lead_in x xs) placed)
 
 -- main data after them may begin as far back if only their own places are taken
 pub last-own : (window reach : ℕ) (xs : List Need) (placed : List Placed)

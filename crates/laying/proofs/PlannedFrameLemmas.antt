@@ -29,11 +29,11 @@ abbrev pub one_in_stream : Bool → StreamFrame → StreamFrame
 one_in_stream lead_in f = cond lead_in (silent_lead_in f) f
 
 -- the first place has the first frame or a lead-in, and the others have the frames that are left
-pub relaid-cons : (p : Placed) (placed : List Placed) (f : Frame) (fs : List Frame)
+pub relaid_frames-cons : (p : Placed) (placed : List Placed) (f : Frame) (fs : List Frame)
     → relaid_frames (f ∷ fs) (p ∷ placed)
     ≡ one p.lead_in p f ∷ relaid_frames (rest_behind p.lead_in f fs) placed
 unfolding relaid_frames
-relaid-cons p placed f fs = refl
+relaid_frames-cons p placed f fs = refl
 
 -- the same in the stream
 pub stream-cons : (p : Placed) (placed : List Placed) (f : StreamFrame) (fs : List StreamFrame)

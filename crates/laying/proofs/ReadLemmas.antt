@@ -15,7 +15,8 @@ use Rattle.frame_header.specs.Tables.{class_of, length_of, overhead_of, window_o
 use Rattle.frame_header.specs.declared.version.Version.{Version, TheVariants.One}
 use Rattle.frame_writer.specs.Laid.{zeros}
 use Rattle.laying.proofs.BeginLemmas.{begin-near}
-use Rattle.laying.proofs.SurveyFrameLemmas.{filling, main-place, packed-bits, packed-bytes}
+use Rattle.laying.proofs.SurveyFrameLemmas.{AreBytes-packed_bytes, bits-packed_bytes, filling}
+use Rattle.laying.proofs.SurveyFrameLemmas.{main-place}
 use Rattle.laying.specs.Passing.{IsAreaOf, IsWindowOverFrames, IsWindowOverLast, skipped_area_bytes}
 use Rattle.laying.specs.{Relaid.{packed_bytes, payload_of}, Surveys.CanBeRelaid}
 use Rattle.outside.proofs.FilesLemmas.{there_holds}
@@ -172,13 +173,13 @@ pub bits-least : (n : ℕ) → n ≤ 8 * ((n + 7) / 8)
 bits-least n = omega arith
 
 -- bytes that hold these bits are the bits packed
-pub packed-is : (new bs : List ℕ) (count : ℕ) → AreBytes new → AreBits bs → length bs ≡ count
+pub packed_bytes-is : (new bs : List ℕ) (count : ℕ) → AreBytes new → AreBits bs → length bs ≡ count
     → AreBitsPacked new count bs → new ≡ packed_bytes bs
-packed-is new bs count octets are many is =
+packed_bytes-is new bs count octets are many is =
     let same : replicate (8 * length new - count) 0 ≡ filling bs are =
     ap₂ (λ m n. zeros (8 * m - n)) (is.few ∙ ap (λ n. (n + 7) / 8) (sym many)) (sym many) in
-    bits-injective new (packed_bytes bs) octets (packed-bytes bs are)
-    (is.same ∙ ap (λ (l : List ℕ). bs ++ l) same ∙ sym (packed-bits bs are))
+    bits-injective new (packed_bytes bs) octets (AreBytes-packed_bytes bs are)
+    (is.same ∙ ap (λ (l : List ℕ). bs ++ l) same ∙ sym (bits-packed_bytes bs are))
 
 -- the bits cut from the window are the frame's main data
 pub cut-is : (file main new : List ℕ) (s : SurveyFields) (i : ℕ) (r : Row) (area begin count : ℕ)
@@ -216,7 +217,7 @@ cut-is file main new s i r area begin count found kept within long is area_is be
       length-bits main,
       length-drop (8 * (length main - area - begin)) (bits main),
     )) in
-    packed-is new own count octets are many cut
+    packed_bytes-is new own count octets are many cut
     ∙ ap packed_bytes bits_are
     ∙ ap (λ lost.
     packed_bytes (payload_at (main_bytes file s.head s.frames) at (cond lost no_side r.side)))

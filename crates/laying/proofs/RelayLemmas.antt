@@ -7,7 +7,7 @@ use Rattle.std.{proofs.lemmas.Option.slice_get-get_or, specs.List.enumerate_from
 use Rattle.frame_header.specs.Tables.{area_of, class_of}
 use Rattle.frame_writer.specs.{Frames.{all_frame_data, Frame}, Laid.BeginsWithin, Writing.Writing}
 use Rattle.laying.proofs.PassLemmas.{lays_as}
-use Rattle.laying.proofs.PlannedFrameLemmas.{AreNeedsOf, next-map, one, relaid-cons}
+use Rattle.laying.proofs.PlannedFrameLemmas.{AreNeedsOf, next-map, one, relaid_frames-cons}
 use Rattle.laying.specs.Fits.{FitsFromReach, last_reach, placed_area, placed_bytes, reach_behind}
 use Rattle.laying.specs.{Needs.need_of, Passing.{LaysFrames, LaysPart}}
 use Rattle.laying.specs.Relaid.{all_frames, planned_frame, relaid_frames, rest_behind, survey_frame}
@@ -149,16 +149,16 @@ module _ (s : SurveyFields) (i to next : ℕ) (row : Row) (p : Placed) (placed :
       needs-left
 
   -- the first is the frame in its place, and the others come after it
-  pub relaid-next : (file : List ℕ)
+  pub relaid_frames-next : (file : List ℕ)
       → relaid_frames (slice_range (all_frames file s) i to) (p ∷ placed) ≡
       planned_frame p (survey_frame file s i row)
       ∷ relaid_frames (slice_range (all_frames file s) next to) placed
-  relaid-next file =
+  relaid_frames-next file =
       let all = all_frames file s in
       let f = survey_frame file s i row in
       let got = all-get file s i row found in
       ap (λ (l : List Frame). relaid_frames l (p ∷ placed)) (range-next all i to f got within)
-      ∙ relaid-cons p placed f (slice_range all (i + 1) to)
+      ∙ relaid_frames-cons p placed f (slice_range all (i + 1) to)
       ∙ ap (λ (l : List Frame). planned_frame p f ∷ relaid_frames l placed)
       (left-range all i to next f p.lead_in got within next_is)
 
@@ -188,15 +188,15 @@ fits-none window reach [] = refl
 fits-none window reach (need ∷ needs) = refl
 
 -- no frames are laid in any places
-pub relaid-none : (placed : List Placed) → relaid_frames [] placed ≡ []
+pub relaid_frames-none : (placed : List Placed) → relaid_frames [] placed ≡ []
 unfolding relaid_frames
-relaid-none placed = refl
+relaid_frames-none placed = refl
 
 -- no frames are laid in no places
-pub relaid-end : (frames : List Frame) → relaid_frames frames [] ≡ []
+pub relaid_frames-end : (frames : List Frame) → relaid_frames frames [] ≡ []
 unfolding relaid_frames
-relaid-end [] = refl
-relaid-end (f ∷ frames) = refl
+relaid_frames-end [] = refl
+relaid_frames-end (f ∷ frames) = refl
 
 -- ---- where later frames begin
 

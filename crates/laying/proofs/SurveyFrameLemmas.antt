@@ -24,9 +24,10 @@ use Rattle.side_info.specs.{Frame.side_in, Side.{no_side, payload_bits, payload_
 use Rattle.side_info.specs.declared.side.Side.{Side}
 use Rattle.sync_survey.proofs.EmptiedLemmas.{no_bytes}
 use Rattle.sync_survey.proofs.ItemsLemmas.{header_front-in_range, stands-at}
-use Rattle.sync_survey.proofs.{PlacedRowLemmas.surveyed-placed, RunsLemmas.{item_of-is, run-ends}}
+use Rattle.sync_survey.proofs.PlacedRowLemmas.{survey_fields-placed}
+use Rattle.sync_survey.proofs.RunsLemmas.{item_run-ends, whole_item_at-is}
 use Rattle.sync_survey.proofs.StartLemmas.{start-first}
-use Rattle.sync_survey.proofs.SurveyPartsLemmas.{data-none_well, frames_from, surveyed-parts}
+use Rattle.sync_survey.proofs.SurveyPartsLemmas.{data-none_well, frames_from, survey_fields-parts}
 use Rattle.sync_survey.proofs.SurveyedFileLemmas.{survey_of-parts}
 use Rattle.sync_survey.specs.Faults.{stream_of_survey, survey_fields, SurveyFields}
 use Rattle.sync_survey.specs.Items.{item_at, size_of}
@@ -63,15 +64,15 @@ ends-frames : (file : List ℕ) (from : ℕ) (ps : List PlacedItem) (to : ℕ)
     → AreEndToEnd Stream file from ps to → AreWholeFrames file (frames_of ps)
 ends-frames file from [] to ends = tt
 ends-frames file from (p ∷ ps) to ends =
-    let here = item_of-is Stream file p.offset p.item ends.1 in
+    let here = whole_item_at-is Stream file p.offset p.item ends.1 in
     frame_more file p.offset p.item (frames_of ps)
     here.is here.within (ends-frames file (p.offset + size_of p.item) ps to ends.2)
 
-numbered-whole : (file : List ℕ) (head : Option Head) (ps : List PlacedFrame)
+numbered_frames-whole : (file : List ℕ) (head : Option Head) (ps : List PlacedFrame)
     → AreWholeFrames file ps → AreWholeFrames file (numbered_frames head ps)
-numbered-whole file None ps are = are
-numbered-whole file (Some head) [] are = tt
-numbered-whole file (Some head) (p ∷ ps) are = are.1
+numbered_frames-whole file None ps are = are
+numbered_frames-whole file (Some head) [] are = tt
+numbered_frames-whole file (Some head) (p ∷ ps) are = are.1
 
 -- side information with lists as long as the arrays has pairs of granules and channels
 pub shaped_pairs : (s : Side) → IsShaped s → HasPairs s
@@ -104,10 +105,10 @@ marks-whole file head rows n (r ∷ more) are = (
 )
 
 -- rows that are whole in the file are whole when marked
-pub marked-whole : (file : List ℕ) (head : Option Head) (rows : List Row) → AreWholeRows file rows
-    → AreWholeRows file (marked_rows head rows)
+pub marked_rows-whole : (file : List ℕ) (head : Option Head) (rows : List Row)
+    → AreWholeRows file rows → AreWholeRows file (marked_rows head rows)
 unfolding marked_rows
-marked-whole file head rows are = marks-whole file head rows 0 rows are
+marked_rows-whole file head rows are = marks-whole file head rows 0 rows are
 
 -- the head is a whole frame too
 head_by : (file : List ℕ) (p : PlacedFrame) (o : Option ℕ) → IsWholeFrameAt file p.offset p.header
@@ -226,16 +227,16 @@ module _ (bs : List ℕ) (are : AreBits bs) where
   filled-bits = AreBelow-append 2 bs filling are (zeros-bits (8 * count - length bs))
 
   -- bits packed into bytes have as many bytes as hold them
-  pub packed-length : length (packed_bytes bs) ≡ count
-  packed-length = length-bytes count (bs ++ filling) whole
+  pub length-packed_bytes : length (packed_bytes bs) ≡ count
+  length-packed_bytes = length-bytes count (bs ++ filling) whole
 
   -- the packed bits are bytes
-  pub packed-bytes : AreBytes (packed_bytes bs)
-  packed-bytes = AreBytes-bytes (bs ++ filling) filled-bits
+  pub AreBytes-packed_bytes : AreBytes (packed_bytes bs)
+  AreBytes-packed_bytes = AreBytes-bytes (bs ++ filling) filled-bits
 
   -- the bits of the packed bytes are the bits, followed by zeros
-  pub packed-bits : bits (packed_bytes bs) ≡ bs ++ filling
-  packed-bits = bits-bytes count (bs ++ filling) filled-bits whole
+  pub bits-packed_bytes : bits (packed_bytes bs) ≡ bs ++ filling
+  bits-packed_bytes = bits-bytes count (bs ++ filling) filled-bits whole
 
 -- ---- a frame with its main data
 
@@ -311,7 +312,7 @@ module _ (file : List ℕ) (head : Option Head) (c : ClassFields) (rows : List R
     own-filled : drop (payload_bits (row_side r)) (bits (packed_bytes own_bits))
         ≡ zeros (8 * payload_bytes (row_side r) - payload_bits (row_side r))
     own-filled =
-        ap (drop (payload_bits (row_side r))) (packed-bits own_bits data-bits)
+        ap (drop (payload_bits (row_side r))) (bits-packed_bytes own_bits data-bits)
         ∙ drop_at own_bits (filling own_bits data-bits) (payload_bits (row_side r)) data-length
         ∙ ap₂ (λ m n. zeros (8 * m - n)) bytes-is data-length
 
@@ -324,8 +325,8 @@ module _ (file : List ℕ) (head : Option Head) (c : ClassFields) (rows : List R
           class = well.class_is;
           pairs = side_paired r.lost r.side row.pairs;
           fits = side_fits c r.lost r.side well.fits;
-          octets = packed-bytes own_bits data-bits;
-          size = packed-length own_bits data-bits ∙ bytes-is;
+          octets = AreBytes-packed_bytes own_bits data-bits;
+          size = length-packed_bytes own_bits data-bits ∙ bytes-is;
           filled = own-filled;
         }
 
@@ -333,7 +334,7 @@ module _ (file : List ℕ) (head : Option Head) (c : ClassFields) (rows : List R
     pub own-stream : stream_entry own ≡ stream_frame main head rows i r
     own-stream =
         let all : take (payload_bits (row_side r)) (bits (packed_bytes own_bits)) ≡ own_bits =
-        ap (take (payload_bits (row_side r))) (packed-bits own_bits data-bits)
+        ap (take (payload_bits (row_side r))) (bits-packed_bytes own_bits data-bits)
         ∙ take_at own_bits (filling own_bits data-bits) (payload_bits (row_side r)) data-length in
         ap (λ bs. record {
           header = (stream_entry own).header;
@@ -390,10 +391,10 @@ record IsWholeSurvey (file : List ℕ) (s : SurveyFields) : Type 0 where
   pub head : HasWholeHead file s.head
   pub rows : AreWholeRows file s.frames
 
-surveyed-whole : (file : List ℕ) (allowed : ℕ) (s : SurveyFields)
+survey_fields-whole : (file : List ℕ) (allowed : ℕ) (s : SurveyFields)
     → survey_fields file allowed ≡ Ok s → IsWholeSurvey file s
-surveyed-whole file allowed s e =
-    let parts = surveyed-parts file allowed s e in
+survey_fields-whole file allowed s e =
+    let parts = survey_fields-parts file allowed s e in
     let start : Start = parts.0 in
     let stream = stream_run file start in
     let first = (start-first file start parts.1.start_is).frame in
@@ -406,21 +407,24 @@ surveyed-whole file allowed s e =
     subst (IsWholeSurvey file) parts.2
     (record {
       head = head-whole file start.first whole_first;
-      rows = marked-whole file (head_of file start.first) (rows_of file (frames_from file start))
+      rows =
+          marked_rows-whole file (head_of file start.first) (rows_of file (frames_from file start))
           (rows-whole file (frames_from file start)
-          (numbered-whole file (head_of file start.first) (frames_of stream.items) (ends-frames file
-          start.first.offset stream.items stream.stop (run-ends Stream file start.first.offset))));
+          (numbered_frames-whole file (head_of file start.first) (frames_of stream.items)
+          (ends-frames file
+          start.first.offset stream.items stream.stop
+          (item_run-ends Stream file start.first.offset))));
     })
 
 -- by a survey without fault its file can be repacked
 pub surveys-had : SurveysCanBeRelaid
 surveys-had file allowed s e =
-    let is = surveyed-whole file allowed s e in
+    let is = survey_fields-whole file allowed s e in
     record {
-      long = ap (λ (t : SurveyFields). t.length) (surveyed-parts file allowed s e).2;
+      long = ap (λ (t : SurveyFields). t.length) (survey_fields-parts file allowed s e).2;
       head = is.head;
       rows = is.rows;
-      placed = surveyed-placed file allowed s e;
+      placed = survey_fields-placed file allowed s e;
       blocks = surveyed-blocks file allowed s e;
     }
 

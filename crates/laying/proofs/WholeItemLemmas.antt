@@ -6,7 +6,7 @@ use Rattle.std.{proofs.lemmas.List.{drop-drop, drop_at}, specs.List.concat}
 use Rattle.laying.specs.LaidFiles.{AreBlocks, blocks_from, IsBlock}
 use Rattle.sync_survey.proofs.ItemBytesLemmas.{block_front-bytes, IsItem}
 use Rattle.sync_survey.proofs.{ItemListLemmas.item_at-known, OneItemLemmas.stands-only}
-use Rattle.sync_survey.{proofs.RunsLemmas.{item_of-whole, run-only}, specs.Items.size_of}
+use Rattle.sync_survey.{proofs.RunsLemmas.{item_run-only, whole_item_at-whole}, specs.Items.size_of}
 use Rattle.sync_survey.specs.Runs.{AreEndToEnd, belongs, blocks_of, frames_of, item_run, PlacedItem}
 use Rattle.sync_survey.specs.{Runs.whole_item_at, declared.items.Item.{Item, TheVariants.Block}}
 use Rattle.sync_survey.specs.declared.{places.Piece.Piece, runs.Region.Region}
@@ -67,17 +67,18 @@ whole-end part file at (item ∷ items) bytes behind are within is =
     let to : at + size + length rest ≡ at + length bytes =
     omega (arith, ap length are.2, length-append own rest, are.3.size) in (
       refl,
-      item_of-whole part file at item known are.4 room,
+      whole_item_at-whole part file at item known are.4 room,
       subst (AreEndToEnd part file (at + size) (placed (at + size) items)) to
           (whole-end part file (at + size) items rest behind are.5 room next),
     )
 
 -- the items are the run, if no further item of the part is after them
-pub whole-run : (part : Region) (file : List ℕ) (at : ℕ) (items : List Item) (bytes behind : List ℕ)
-    → AreWhole part items bytes → at ≤ length file → drop at file ≡ bytes ++ behind
-    → whole_item_at part file (at + length bytes) ≡ None
+pub whole-item_run : (part : Region) (file : List ℕ) (at : ℕ) (items : List Item)
+    (bytes behind : List ℕ) → AreWhole part items bytes → at ≤ length file
+    → drop at file ≡ bytes ++ behind → whole_item_at part file (at + length bytes) ≡ None
     → item_run part file at ≡ record { items = placed at items; stop = at + length bytes }
-whole-run part file at items bytes behind are within is none = run-only part file at (placed at
+whole-item_run part file at items bytes behind are within is none =
+    item_run-only part file at (placed at
     items) (at + length bytes) (whole-end part file at items bytes behind are within is) none
 
 -- ---- blocks

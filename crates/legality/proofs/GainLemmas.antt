@@ -4,7 +4,8 @@ use Rattle.std.proofs.Common.{Ok, Option, pos, refl, Result, rules, Some, subst,
 use Rattle.std.proofs.Common.{zero, ℕ, ℤ, ◌+ℤ◌, [], ◌&&◌, ◌<◌, ◌==◌, ◌∙◌, ◌∷◌, ◌≡◌, ◌≢◌, ◌≤◌, ◌⊎◌}
 use Rattle.std.{proofs.lemmas.Bool.{le-ltb, ltb-false, ne_eqb}, specs.Option.option_or}
 use Rattle.std.specs.Prelude.{nat_lt, unsigned_abs}
-use Rattle.commands.proofs.RefusingLemmas.{first-cons, first-nil, none_both, none_first, unless_ok}
+use Rattle.commands.proofs.RefusingLemmas.{first-cons, first-nil, none_both, none_first}
+use Rattle.commands.proofs.RefusingLemmas.{refusal_or-ok}
 use Rattle.commands.specs.Refusing.{or_else, refusal_or, then_made}
 use Rattle.commands.specs.declared.fault.{EditFault.EditFault, Refusal.Refusal}
 use Rattle.commands.specs.declared.fault.Refusal.TheVariants.{Joint, Mono}
@@ -189,8 +190,9 @@ moves-free f g (q ∷ rows) agree moves =
     (moves-free f (λ n. g (suc n)) rows (λ n r here. agree (suc n) r here)
     (λ n r here. moves (suc n) r here))
 
-even-agree : (steps : Steps) (rows : List Row) → Agree (constant_steps steps) (λ i. steps) rows
-even-agree steps rows = λ i row is. refl
+constant_steps-agree : (steps : Steps) (rows : List Row)
+    → Agree (constant_steps steps) (λ i. steps) rows
+constant_steps-agree steps rows = λ i row is. refl
 
 -- ---- channels
 
@@ -289,7 +291,7 @@ module _ (shift : Shift) (file : List ℕ) (s : SurveyFields) where
       record {
         channels = can-change shift.channels s one.0;
         gains = free-moves (constant_steps (steps_of shift))
-            (λ i. steps_of shift) s.frames (even-agree (steps_of shift) s.frames) four.1;
+            (λ i. steps_of shift) s.frames (constant_steps-agree (steps_of shift) s.frames) four.1;
         noted = λ tags. record {
           tag = parts.tag;
           read = read_ok (file_tag file s) parts.tag parts.read;
@@ -306,7 +308,7 @@ module _ (shift : Shift) (file : List ℕ) (s : SurveyFields) where
       → IsLegalGain shift false input
   unfolding gain_change
   plain-legal change e =
-      let one = unless_ok (or_else (channel_fault shift s)
+      let one = refusal_or-ok (or_else (channel_fault shift s)
       (range_fault (constant_steps (steps_of shift)) s.frames)) _ change e in
       let two =
       none_first (channel_fault shift s)
@@ -314,7 +316,7 @@ module _ (shift : Shift) (file : List ℕ) (s : SurveyFields) where
       record {
         channels = can-change shift.channels s two.0;
         gains = free-moves (constant_steps (steps_of shift))
-            (λ i. steps_of shift) s.frames (even-agree (steps_of shift) s.frames) two.1;
+            (λ i. steps_of shift) s.frames (constant_steps-agree (steps_of shift) s.frames) two.1;
         noted = λ tags. absurd cc;
       }
 
@@ -328,7 +330,7 @@ module _ (shift : Shift) (file : List ℕ) (s : SurveyFields) where
   free : (tags : Bool) → IsLegalGain shift tags input
       → range_fault (constant_steps (steps_of shift)) s.frames ≡ None
   free tags legal = moves-free (constant_steps (steps_of shift))
-      (λ i. steps_of shift) s.frames (even-agree (steps_of shift) s.frames) legal.gains
+      (λ i. steps_of shift) s.frames (constant_steps-agree (steps_of shift) s.frames) legal.gains
 
   legal-noted : IsLegalGain shift true input
       → (change : FileChange) × (tagged_change shift file s ≡ Ok change)
@@ -387,7 +389,7 @@ undo-legal file s change e =
       undo = parts.undo;
       item = found-ok (tag_offset s) (undo_from 32 parts.tag.items) parts.undo parts.item;
       gains = free-moves (constant_steps (undo_steps parts.undo)) (λ i. undo_steps parts.undo)
-          s.frames (even-agree (undo_steps parts.undo) s.frames) parts.free;
+          s.frames (constant_steps-agree (undo_steps parts.undo) s.frames) parts.free;
     }
 
 -- a legal undo isn't refused
@@ -411,7 +413,7 @@ legal-undo file s legal =
           (undone_change s legal.tag)) legal.item
           ∙ ap (λ (o : Option Refusal). refusal_or o change)
           (moves-free (constant_steps steps)
-          (λ i. steps) s.frames (even-agree steps s.frames) legal.gains),
+          (λ i. steps) s.frames (constant_steps-agree steps s.frames) legal.gains),
     )
 
 -- ---- a changed file

@@ -8,10 +8,11 @@ use Rattle.commands.{proofs.MakeLemmas.no_clash, specs.Command.clash_from}
 use Rattle.legality.specs.Inputs.{AreNamesApart, FileInput, HoldsOfEach, HoldsOfEachNext, IsInput}
 use Rattle.outside.{proofs.FilesLemmas.bytes_eq_same, specs.Files.Contents}
 use Rattle.pack_edits.proofs.LimitLemmas.{few-rows}
-use Rattle.sync_survey.proofs.{FaultsLemmas.marked-length, FoldersLemmas.survey_of-short}
+use Rattle.sync_survey.proofs.{FaultsLemmas.length-marked_rows, FoldersLemmas.survey_of-short}
 use Rattle.sync_survey.proofs.SurveyPartsLemmas.{all_faults-none_sound, frames_from}
 use Rattle.sync_survey.proofs.SurveyPartsLemmas.{sound-no_all_faults, sound_allowed}
-use Rattle.sync_survey.proofs.SurveyPartsLemmas.{surveyed-allowed, surveyed-parts, surveyed-told}
+use Rattle.sync_survey.proofs.SurveyPartsLemmas.{survey_fields-allowed, survey_fields-parts}
+use Rattle.sync_survey.proofs.SurveyPartsLemmas.{survey_fields-told}
 use Rattle.sync_survey.proofs.SurveyedFileLemmas.{survey_of-parts}
 use Rattle.sync_survey.specs.Faults.{class_from, longest_file, SurveyFields, unbounded_survey}
 use Rattle.sync_survey.specs.{MainData.rows_of, Survey.survey_of, Walk.head_of}
@@ -81,16 +82,16 @@ pub survey-whole : (file : List ℕ) (allowed : ℕ) (s : SurveyFields) → surv
     → IsWhole file allowed s
 survey-whole file allowed s e =
     let whole = survey_of-parts file allowed s e in
-    let parts = surveyed-parts file allowed s whole.1 in
+    let parts = survey_fields-parts file allowed s whole.1 in
     let head = head_of file parts.0.first in
     let rows = rows_of file (frames_from file parts.0) in
     let few = few-rows file head (class_from parts.0) allowed rows
     (all_faults-none_sound file head (class_from parts.0) allowed rows parts.1.frames) in
     let size : length s.frames ≡ length rows =
-    ap (λ (t : SurveyFields). length t.frames) (sym parts.2) ∙ marked-length head rows in
+    ap (λ (t : SurveyFields). length t.frames) (sym parts.2) ∙ length-marked_rows head rows in
     record {
       long = whole.0;
-      well_formed = surveyed-allowed file allowed (length file + 1) s (omega arith) whole.1;
+      well_formed = survey_fields-allowed file allowed (length file + 1) s (omega arith) whole.1;
       few = omega (arith, few, size);
     }
 
@@ -98,15 +99,15 @@ survey-whole file allowed s e =
 pub whole-survey : (file : List ℕ) (allowed : ℕ) (s : SurveyFields) → IsWhole file allowed s
     → survey_of file allowed ≡ Ok s
 whole-survey file allowed s whole =
-    let parts = surveyed-parts file (length file + 1) s whole.well_formed in
+    let parts = survey_fields-parts file (length file + 1) s whole.well_formed in
     let start = parts.0 in
     let read = parts.1 in
     let head = head_of file start.first in
     let rows = rows_of file (frames_from file start) in
     let size : length s.frames ≡ length rows =
-    ap (λ (t : SurveyFields). length t.frames) (sym parts.2) ∙ marked-length head rows in
+    ap (λ (t : SurveyFields). length t.frames) (sym parts.2) ∙ length-marked_rows head rows in
     survey_of-short file allowed whole.long
-    ∙ surveyed-told file allowed start (record {
+    ∙ survey_fields-told file allowed start (record {
       start_is = read.start_is;
       frames = sound-no_all_faults file head (class_from start) allowed rows
           (sound_allowed file head (class_from start) (length file + 1) allowed rows

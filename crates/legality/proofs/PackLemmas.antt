@@ -4,7 +4,7 @@ use Rattle.std.proofs.Common.{List, map, None, Ok, refl, Result, Some, subst, su
 use Rattle.std.proofs.Common.{ℕ, [], ◌<◌, ◌==◌, ◌∙◌, ◌∷◌, ◌≡◌, ◌≤◌}
 use Rattle.std.proofs.lemmas.{Bool.{eq-eqb, eqb-true, lt-ltb, ltb-true}, List.length-map}
 use Rattle.std.specs.Prelude.{filter, ◌↔◌}
-use Rattle.commands.proofs.{MadeLemmas.some-frames, RefusingLemmas.{then_ok, unless_ok}}
+use Rattle.commands.proofs.{MadeLemmas.some-frames, RefusingLemmas.{refusal_or-ok, then_ok}}
 use Rattle.commands.specs.{Refusing.{refusal_or, then_made}, SingleOutput.most_frames}
 use Rattle.commands.specs.declared.fault.EditFault.{EditFault, TheVariants.Refused}
 use Rattle.commands.specs.declared.fault.Refusal.TheVariants.{NoRate, Unfit}
@@ -18,7 +18,7 @@ use Rattle.laying.specs.{NeedsFit.IsPlacedSurvey, Written.head_info}
 use Rattle.legality.proofs.SplitLemmas.{within-ok}
 use Rattle.legality.specs.Choices.{HasRateRoom, IsFirstUnfit, IsRate}
 use Rattle.pack_edits.proofs.MenuLemmas.{menu-ascends, menu-some}
-use Rattle.pack_edits.proofs.PlanLemmas.{fitted-ok, floor-unfit, plan-is, rows-same, rows-some}
+use Rattle.pack_edits.proofs.PlanLemmas.{fitted_plan-ok, floor-unfit, plan-is, rows-same, rows-some}
 use Rattle.pack_edits.proofs.PlanLemmas.{rows-sound}
 use Rattle.pack_edits.specs.Rates.{fitted_plan, is_rate, menu_in, no_rate, rate_refusal, rates_plan}
 use Rattle.rate_plan.proofs.LeastMenuPlanLemmas.{least_menu_plan-is}
@@ -27,8 +27,9 @@ use Rattle.rate_plan.specs.Menus.{CanBeLaidFromMenu, IsFirstUnfitFrame, IsMenuPl
 use Rattle.requests.specs.declared.mode.PackMode.{PackMode, TheVariants.{Constant, Floor}}
 use Rattle.slot_plan.specs.{Lists.CanBeLaid, Plans.item_areas, declared.needs.Need.Need}
 use Rattle.slot_plan.specs.declared.needs.Placed.{Placed}
-use Rattle.sync_survey.proofs.{PlacedRowLemmas.surveyed-placed, SurveyedFileLemmas.survey_of-parts}
-use Rattle.sync_survey.specs.{Faults.SurveyFields, Survey.survey_of}
+use Rattle.sync_survey.proofs.PlacedRowLemmas.{survey_fields-placed}
+use Rattle.sync_survey.{proofs.SurveyedFileLemmas.survey_of-parts, specs.Faults.SurveyFields}
+use Rattle.sync_survey.specs.Survey.{survey_of}
 
 -- ---- a bit rate of the class
 
@@ -150,7 +151,7 @@ module _ (file : List ℕ) (s : SurveyFields) (is : survey_of file most_frames �
   some = some-frames file most_frames s is
 
   placed : IsPlacedSurvey s
-  placed = surveyed-placed file most_frames s (survey_of-parts file most_frames s is).1
+  placed = survey_fields-placed file most_frames s (survey_of-parts file most_frames s is).1
 
   needs-some : 1 ≤ length needs
   needs-some = omega (
@@ -206,10 +207,10 @@ module _ (file : List ℕ) (s : SurveyFields) (is : survey_of file most_frames �
       let planned = made-planned (rates_plan mode) bytes made in
       let one = then_ok (refusal_or (no_rate mode s.class) (menu_in mode s.class))
       (λ menu. fitted_plan (least_menu_plan window menu needs)) planned.0 planned.1 in
-      let ok = unless_ok (no_rate mode s.class) (menu_in mode s.class) one.0 one.1 in (
+      let ok = refusal_or-ok (no_rate mode s.class) (menu_in mode s.class) one.0 one.1 in (
         ok.0,
         planned.0,
-        fitted-ok (least_menu_plan window (menu_in mode s.class) needs)
+        fitted_plan-ok (least_menu_plan window (menu_in mode s.class) needs)
             planned.0 (ap (λ menu. fitted_plan (least_menu_plan window menu needs)) ok.1 ∙ one.2),
       )
 

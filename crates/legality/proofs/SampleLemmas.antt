@@ -3,7 +3,7 @@
 use Rattle.std.proofs.Common.{ap, ap₂, Bool, cond, length, List, None, Ok, Option, refl, Some, ℕ}
 use Rattle.std.proofs.{Common.{◌&&◌, ◌+◌, ◌<◌, ◌≡◌, ◌≤◌}, lemmas.Bool.{le-leb, lt-ltb}}
 use Rattle.std.specs.Prelude.{nat_le, nat_lt}
-use Rattle.commands.{proofs.RefusingLemmas.unless_ok, specs.Refusing.refusal_or}
+use Rattle.commands.{proofs.RefusingLemmas.refusal_or-ok, specs.Refusing.refusal_or}
 use Rattle.commands.specs.declared.fault.Refusal.TheVariants.{Span as NoSpan}
 use Rattle.cut_edits.{proofs.PieceLemmas.samples_there, specs.Exact.{file_span, samples_fault}}
 use Rattle.exact_span.specs.{Places.sample_at, PlayedPositions.{length_of_played, played_of}}
@@ -39,7 +39,7 @@ module _ (from to : ExactPlace) (file : List ℕ) (s : SurveyFields) where
       let fault = samples_fault (number from) (number to) (length_of_played played) in
       samples_there (number from) (number to) (length_of_played played)
       (nat_lt (number from) (number to) && nat_le (number to) (length_of_played played)) refl
-      (unless_ok fault the_span span e).0
+      (refusal_or-ok fault the_span span e).0
 
   -- a range of samples isn't refused
   pub range-span : IsSampleRange from to (record { bytes = file; survey = s })

@@ -5,7 +5,7 @@ use Rattle.std.proofs.{Common.◌≡◌, Math.Seq.drop-cons, lemmas.List.drop_mo
 use Rattle.std.specs.Prelude.{flat_map, if◌then◌else◌, slice_get}
 use Rattle.list_edits.specs.InfoText.{gain_lines}
 use Rattle.list_edits.specs.Totals.{greatest_rate, least_rate, row_rate, row_rates}
-use Rattle.moved_gains.proofs.ExtremesLemmas.{joined-extremes}
+use Rattle.moved_gains.proofs.ExtremesLemmas.{joined_extremes-append}
 use Rattle.moved_gains.specs.GainExtremes.{extremes_of, extremes_of_both, joined_extremes}
 use Rattle.moved_gains.specs.{GainExtremes.moving_gains, declared.gain_extremes.Gains.Gains}
 use Rattle.sync_survey.specs.Row.{Row}
@@ -83,4 +83,4 @@ gains-said rows n channels left right p q r =
     rw (p, q, r)
     (ap (λ (both : Option Gains). flat_map (λ (l : List ℕ). l)
     (gain_lines channels (extremes_of 0 rows) (extremes_of 1 rows) both))
-    (joined-extremes (moving_gains 0 rows) (moving_gains 1 rows)))
+    (joined_extremes-append (moving_gains 0 rows) (moving_gains 1 rows)))

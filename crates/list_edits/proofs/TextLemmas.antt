@@ -20,8 +20,9 @@ use Rattle.outside.specs.Counts.{Counts, HasCause, OnlyReads}
 use Rattle.outside.specs.Files.{Contents, Files, Holds, IfTold, IsFileMissing, IsFileThere}
 use Rattle.outside.specs.Files.{OnlyTouches, sent_and_more, Told, Untold}
 use Rattle.outside.specs.Seen.{Heard, Seen, seen_folder}
-use Rattle.sync_survey.proofs.BytesFaultLemmas.{IsOfBytes, surveyed_of_bytes}
-use Rattle.sync_survey.proofs.{FoldersLemmas.survey_of-short, SurveyPartsLemmas.surveyed-allowed}
+use Rattle.sync_survey.proofs.BytesFaultLemmas.{IsOfBytes, survey_fields-of_bytes}
+use Rattle.sync_survey.proofs.FoldersLemmas.{survey_of-short}
+use Rattle.sync_survey.proofs.SurveyPartsLemmas.{survey_fields-allowed}
 use Rattle.sync_survey.proofs.SurveyedFileLemmas.{survey_of-parts}
 use Rattle.sync_survey.specs.Faults.{IsWellFormed, longest_file, survey_fields, SurveyFields}
 use Rattle.sync_survey.specs.{Survey.survey_of, declared.survey_fault.SurveyFault.SurveyFault}
@@ -74,7 +75,7 @@ module _ (text : List ℕ → SurveyFields → List ℕ) (input : List ℕ) wher
       subst TakesMemory (sym (gives_survey f held.0 (survey_fields held.0 most_frames)
       held.1 (survey_of-short held.0 most_frames (few held.0 held.1))))
       (survey_takes held.0 (survey_fields held.0 most_frames)
-      (surveyed_of_bytes held.0 most_frames))
+      (survey_fields-of_bytes held.0 most_frames))
 
   module _ (old new : Seen) (fault : EditFault) where
     -- a fault of the file leaves everything as it was
@@ -180,7 +181,7 @@ module _ (text : List ℕ → SurveyFields → List ℕ) (input : List ℕ) wher
             let parts = survey_of-parts held.0 most_frames s (is held.0 held.1) in
             λ made e. none_written f held.0 held.1 (
               s,
-              surveyed-allowed held.0 most_frames (length held.0 + 1) s (omega arith) parts.1,
+              survey_fields-allowed held.0 most_frames (length held.0 + 1) s (omega arith) parts.1,
             ) made (sym g ∙ e)
 
     -- the text of the command is this one

@@ -53,10 +53,10 @@ stream_rises s laid =
     ]
 
 -- in order, the things are the blocks merged with the others
-pub things_in_order : (s : SurveyFields) → IsSurveyLaidOut s
+pub ordered_things-is : (s : SurveyFields) → IsSurveyLaidOut s
     → ordered_things (things_of s) ≡ merged_list offset_of (map Block s.blocks) (stream_things s)
 unfolding things_of
-things_in_order s laid = ordered_both offset_of (map Block s.blocks)
+ordered_things-is s laid = ordered_both offset_of (map Block s.blocks)
     (stream_things s) 0 s.junk (blocks_rise 0 s.length s.blocks laid.blocks) (stream_rises s laid)
 
 -- ---- the walk
@@ -94,15 +94,15 @@ module _ (old new : Things) where
       (from_leading at piece.offset (leading_things old) (frames_left old) is le)
 
   -- the junk or the head is met
-  pub leading_met : (result : Option Thing) (at : ℕ)
+  pub leading_things-met : (result : Option Thing) (at : ℕ)
       → IsLeadingOffset (Some at) (leading_things old)
       → IsFirstAfter (λ (p : Piece). p.offset) at (firsts_left old.others) → new.others ≡ old.others
       → MatchOption result (leading_things old ≡ [])
       (λ t. leading_things old ≡ t ∷ leading_things new)
       → MatchOption result (things_left old ≡ []) (λ t. things_left old ≡ t ∷ things_left new)
   unfolding things_left
-  leading_met None at is after same none = absurd (subst (IsLeadingOffset (Some at)) none is)
-  leading_met (Some t) at is after same first =
+  leading_things-met None at is after same none = absurd (subst (IsLeadingOffset (Some at)) none is)
+  leading_things-met (Some t) at is after same first =
       let at_is : at ≡ offset_of t = subst (IsLeadingOffset (Some at)) first is in
       ap (λ ls. merged_list offset_of (map Block (firsts_left old.others)) (ls ++ frames_left old))
       first
@@ -148,9 +148,9 @@ unfolding things_left merged_list
 none_met t none blocks frames = rw (none, blocks, frames) refl
 
 -- without junk and without a head nothing leads
-pub none_leading : (t : Things) → is_some t.junk ≡ false → is_some t.head ≡ false
+pub leading_things-none : (t : Things) → is_some t.junk ≡ false → is_some t.head ≡ false
     → leading_things t ≡ []
-none_leading t junk head = rw (none_left t.junk junk, none_left t.head head) refl
+leading_things-none t junk head = rw (none_left t.junk junk, none_left t.head head) refl
   where
     none_left : {A : Type 0} (o : Option A) → is_some o ≡ false → o ≡ None
     none_left None is = refl

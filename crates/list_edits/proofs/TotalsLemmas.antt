@@ -12,8 +12,8 @@ use Rattle.list_edits.specs.Totals.{row_lengths, row_main_data, row_rate, row_ra
 use Rattle.list_edits.specs.{Totals.with_side, declared.totals.HeaderTotals.HeaderTotals}
 use Rattle.list_edits.specs.declared.totals.SideTotals.{SideTotals}
 use Rattle.moved_gains.proofs.CourseLemmas.{out_classed}
-use Rattle.moved_gains.proofs.ExtremesLemmas.{extremes-cons, extremes-nil, joined-assoc}
-use Rattle.moved_gains.proofs.ExtremesLemmas.{joined-None, moving-nil}
+use Rattle.moved_gains.proofs.ExtremesLemmas.{extremes-cons, extremes-nil, joined_extremes-assoc}
+use Rattle.moved_gains.proofs.ExtremesLemmas.{joined_extremes-None, moving-nil}
 use Rattle.moved_gains.specs.GainExtremes.{extremes, extremes_of, joined_extremes, row_gains}
 use Rattle.moved_gains.specs.{GainExtremes.side_gains, Moving.AreFramesOfClass}
 use Rattle.moved_gains.specs.declared.gain_extremes.Gains.{Gains}
@@ -78,7 +78,7 @@ gains-more : (channel : ℕ) (row : Row) (rest : List Row) (so_far : Option Gain
     (joined_extremes so_far (extremes (row_gains channel row))) (extremes_of channel rest)
     ≡ joined_extremes so_far (extremes_of channel (row ∷ rest))
 gains-more channel row rest so_far =
-    joined-assoc so_far (extremes (row_gains channel row)) (extremes_of channel rest)
+    joined_extremes-assoc so_far (extremes (row_gains channel row)) (extremes_of channel rest)
     ∙ ap (joined_extremes so_far) (sym (extremes-cons channel row rest))
 
 before-more : (rows rest : List Row) (row : Row) (h : HeaderTotals) (s : SideTotals)
@@ -117,7 +117,7 @@ pub with-lost : (row : Row) (s : SideTotals) → row.lost ≡ true
     → record s { lost = s.lost + 1 } ≡ with_side row s
 with-lost row s is =
     let none : (g : Option Gains) → g ≡ joined_extremes g (extremes []) =
-    λ g. sym (joined-None g) ∙ ap (joined_extremes g) (sym extremes-nil) in
+    λ g. sym (joined_extremes-None g) ∙ ap (joined_extremes g) (sym extremes-nil) in
     let zero : s.main_data ≡ s.main_data + 0 = omega arith in
     rw is
     (ap (λ n. record s { lost = s.lost + 1; main_data = n }) zero
@@ -164,7 +164,7 @@ none-moves channel = ap extremes (moving-nil channel) ∙ extremes-nil
 gains-all : (channel : ℕ) (so_far all : Option Gains)
     → joined_extremes so_far (extremes_of channel []) ≡ all → so_far ≡ all
 gains-all channel so_far all is =
-    sym (joined-None so_far) ∙ ap (joined_extremes so_far) (sym (none-moves channel)) ∙ is
+    sym (joined_extremes-None so_far) ∙ ap (joined_extremes so_far) (sym (none-moves channel)) ∙ is
 
 -- once no frame is left, these are the totals of all frames
 pub all-met : (rows : List Row) (h : HeaderTotals) (s : SideTotals) → AreBefore rows [] h s

@@ -8,7 +8,7 @@ use Rattle.moved_gains.proofs.SplitItemLemmas.{final, IsSplit, last-told, split-
 use Rattle.moved_gains.proofs.{SplitItemLemmas.stop_of, TagReadingLemmas.place-some}
 use Rattle.moved_gains.specs.TagPlace.{is_tag, last_end, tag_block, tag_length, tag_offset}
 use Rattle.sync_survey.proofs.ItemListLemmas.{ends-stream}
-use Rattle.sync_survey.proofs.RunsLemmas.{frames-append, front-frames, run-ends}
+use Rattle.sync_survey.proofs.RunsLemmas.{frames-append, front-frames, item_run-ends}
 use Rattle.sync_survey.proofs.SurveyPartsLemmas.{frames_from, IsRead, told_from}
 use Rattle.sync_survey.specs.{Faults.SurveyFields, MainData.{marked_rows, rows_of}}
 use Rattle.sync_survey.specs.Runs.{AreEndToEnd, block_of_item, blocks_of, frames_of, item_run}
@@ -53,10 +53,10 @@ module _ (file : List ℕ) (allowed : ℕ) (start : Start) (read : IsRead file a
   items-end =
       ends-append Stream file 0 front.items start.first.offset stream.items (length file)
       (subst (λ n. AreEndToEnd Stream file 0 front.items n) (has.front ∙ no_junk)
-      (ends-stream Front file 0 front.items front.stop (run-ends Front file 0)))
+      (ends-stream Front file 0 front.items front.stop (item_run-ends Front file 0)))
       (subst (λ n. AreEndToEnd Stream file start.first.offset stream.items n)
       (ap (λ (r : ItemRun). r.stop) has.stream ∙ has.stop)
-      (run-ends Stream file start.first.offset))
+      (item_run-ends Stream file start.first.offset))
 
   -- the frames of the stream are the first frame and the others
   pub stream-frames : frames_of stream.items ≡ start.first ∷ rest

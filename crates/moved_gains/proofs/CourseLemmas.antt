@@ -4,11 +4,11 @@ use Rattle.std.proofs.Common.{Some, subst, suc, sym, zero, ℕ, [], ◌+◌, ◌
 use Rattle.std.proofs.lemmas.{Bool.{le-ltb, lt-ltb}, Option.slice_get_read}
 use Rattle.frame_header.proofs.{HeaderLemmas.IsClass-class_of, LengthLemmas.area_some}
 use Rattle.frame_header.specs.{Fields.IsHeader, Tables.{class_of, length_of}}
-use Rattle.moved_gains.proofs.LostOffsetLemmas.{AreRising, marked_rising, rising_get, rising_less}
-use Rattle.moved_gains.proofs.LostOffsetLemmas.{walk_rising}
+use Rattle.moved_gains.proofs.LostOffsetLemmas.{AreRising, marked_rows-rising, rising_get}
+use Rattle.moved_gains.proofs.LostOffsetLemmas.{rising_less, walk_rising}
 use Rattle.moved_gains.specs.Course.{AreRowsNumbered, course_steps, number_at, steps_at_offset}
 use Rattle.moved_gains.specs.{Moving.AreFramesOfClass, declared.course.Course.Course}
-use Rattle.sync_survey.proofs.SurveyLemmas.{surveyed-is, walked}
+use Rattle.sync_survey.proofs.SurveyLemmas.{survey_fields-is, walked}
 use Rattle.sync_survey.specs.{Faults.{survey_fields, SurveyFields}, MainData.{marked_rows, rows_of}}
 use Rattle.sync_survey.specs.{Row.Row, Runs.frames_of, Survey.{FramesAreLaid, IsSurveyLaidOut}}
 use Rattle.sync_survey.specs.Walk.{numbered_frames, stream_run}
@@ -110,10 +110,10 @@ frame_steps course rows i row numbered_frames within is =
 pub survey_numbered : (file : List ℕ) (allowed : ℕ) (s : SurveyFields)
     → survey_fields file allowed ≡ Ok s → AreRowsNumbered s.frames
 survey_numbered file allowed s e =
-    let is = surveyed-is file allowed s e in
+    let is = survey_fields-is file allowed s e in
     let walk = walked file allowed s is in
     let frames =
     rows_of file (numbered_frames s.head (frames_of (stream_run file is.start).items)) in
     subst AreRowsNumbered (sym walk.frames_are)
     (rising_numbered is.start.first.offset (marked_rows s.head frames)
-    (marked_rising s.head is.start.first.offset frames (walk_rising file is.start s.head)))
+    (marked_rows-rising s.head is.start.first.offset frames (walk_rising file is.start s.head)))

@@ -12,7 +12,7 @@ use Rattle.requests.specs.declared.shift.Steps.{Steps}
 use Rattle.sync_survey.proofs.ItemBytesLemmas.{frame-least, header_front-four, IsItem, kept_item}
 use Rattle.sync_survey.proofs.ItemListLemmas.{AreItems}
 use Rattle.sync_survey.proofs.ItemsLemmas.{header_front-in_range, stands-at}
-use Rattle.sync_survey.{proofs.RunsLemmas.item_of-is, specs.Items.{item_at, size_of}}
+use Rattle.sync_survey.{proofs.RunsLemmas.whole_item_at-is, specs.Items.{item_at, size_of}}
 use Rattle.sync_survey.specs.Runs.{AreEndToEnd, belongs, frame_of_item, frames_of, item_bytes_in}
 use Rattle.sync_survey.specs.{Runs.PlacedItem, declared.items.Item.Item}
 use Rattle.sync_survey.specs.declared.items.Item.TheVariants.{Block, Frame, Zero}
@@ -71,7 +71,7 @@ pub moved_are : (steps : ℕ → Steps) (lost : ℕ → Bool) (file : List ℕ) 
     → AreItems ps (moved_items steps lost file ps)
 moved_are steps lost file from [] to all ends = moved-nil steps lost file
 moved_are steps lost file from (p ∷ ps) to all ends =
-    let here = item_of-is Stream file p.offset p.item ends.1 in (
+    let here = whole_item_at-is Stream file p.offset p.item ends.1 in (
       moved_item (steps p.offset) (lost p.offset) p.item (item_bytes_in file p),
       moved_items steps lost file ps,
       moved-cons steps lost file p ps,
@@ -109,7 +109,7 @@ module _ (steps : ℕ → Steps) (lost : ℕ → Bool) (file new : List ℕ) (ga
       let size = size_of p.item in
       let own = moved_item (steps p.offset) (lost p.offset) p.item (item_bytes_in file p) in
       let rest = moved_items steps lost file ps ++ behind in
-      let here = item_of-is Stream file p.offset p.item ends.1 in
+      let here = whole_item_at-is Stream file p.offset p.item ends.1 in
       let place : p.offset - gap ≡ at = omega (arith, ends.0, there) in
       let stands : drop (p.offset - gap) new ≡ own ++ rest =
       ap (λ n. drop n new) place ∙ is ∙ ap (λ (l : List ℕ). l ++ behind)

@@ -9,7 +9,7 @@ use Rattle.moved_gains.proofs.EditedItemLemmas.{AreMovedAt, frame_whole, frames_
 use Rattle.moved_gains.proofs.EditedItemLemmas.{moved_are}
 use Rattle.moved_gains.proofs.ImageLemmas.{area-image, image_moved, IsImage}
 use Rattle.moved_gains.proofs.MovedFrameLemmas.{IsMoved, IsWhole, moved_whole, whole_item}
-use Rattle.moved_gains.proofs.MovedRowLemmas.{numbered-by}
+use Rattle.moved_gains.proofs.MovedRowLemmas.{numbered_frames-by}
 use Rattle.moved_gains.proofs.ReadFileLemmas.{has_stream, HasStream, later_run}
 use Rattle.moved_gains.proofs.WholeFileLemmas.{front_end-is, not_in_front, start_by}
 use Rattle.moved_gains.specs.Edited.{edited_file, is_lost_at, moved_frame_unless_lost, moved_items}
@@ -17,9 +17,10 @@ use Rattle.moved_gains.specs.Edited.{moved_stream}
 use Rattle.requests.specs.declared.shift.Steps.{Steps}
 use Rattle.sync_survey.proofs.ItemBytesLemmas.{IsItem}
 use Rattle.sync_survey.proofs.ItemListLemmas.{AreItems, blocks-nearer, ends-stream, frames-nearer}
-use Rattle.sync_survey.proofs.ItemListLemmas.{item_at-known, items-length, items-run, kept_items}
-use Rattle.sync_survey.proofs.ItemListLemmas.{nearer, nearer-none, nearer_frame, nearer_piece}
-use Rattle.sync_survey.proofs.RunsLemmas.{item_of-past, run-ends}
+use Rattle.sync_survey.proofs.ItemListLemmas.{item_at-known, items-item_run, items-length}
+use Rattle.sync_survey.proofs.ItemListLemmas.{kept_items, nearer, nearer-none, nearer_frame}
+use Rattle.sync_survey.proofs.ItemListLemmas.{nearer_piece}
+use Rattle.sync_survey.proofs.RunsLemmas.{item_run-ends, whole_item_at-past}
 use Rattle.sync_survey.proofs.SameHeadLemmas.{head_bytes-nearer, head_of-nearer, nearer_head}
 use Rattle.sync_survey.proofs.SurveyPartsLemmas.{frames_from, IsRead, told_from}
 use Rattle.sync_survey.specs.{Items.{item_at, size_of}, MainData.head_bytes}
@@ -113,11 +114,11 @@ module _ (steps : ℕ → Steps) (file : List ℕ) (allowed : ℕ) (start : Star
 
   -- the items of the front are end to end
   pub front_ends : AreEndToEnd Front file 0 front.items front.stop
-  front_ends = run-ends Front file 0
+  front_ends = item_run-ends Front file 0
 
   -- the items after the first frame are end to end too
   pub later_ends : AreEndToEnd Stream file (first + size) later.items later.stop
-  later_ends = run-ends Stream file (first + size)
+  later_ends = item_run-ends Stream file (first + size)
 
   ends : AreEndToEnd Stream file first items later.stop
   ends = (refl, has.there, later_ends)
@@ -198,7 +199,8 @@ module _ (steps : ℕ → Steps) (file : List ℕ) (allowed : ℕ) (start : Star
   pub new-front : item_run Front new_file 0 ≡ record { items = front.items; stop = front_end }
   new-front =
       let stop : front.stop - 0 ≡ front_end = omega (arith, has.front) in
-      items-run Front file new_file 0 0 0 front.items front.stop before (own ++ after) front_ends
+      items-item_run Front file new_file 0 0 0 front.items front.stop before
+      (own ++ after) front_ends
       (omega arith) before_are (omega arith) new-is
       (not_in_front new_file (front.stop - 0) h (ap (item_at new_file) stop ∙ new_first))
       ∙ (λ i. record { items = nearer-none front.items i; stop = stop i })
@@ -207,11 +209,12 @@ module _ (steps : ℕ → Steps) (file : List ℕ) (allowed : ℕ) (start : Star
   pub new-stream : item_run Stream new_file front_end
       ≡ record { items = map (nearer gap) items; stop = later.stop - gap }
   new-stream =
-      items-run Stream file new_file gap first front_end items later.stop (own ++ after) [] ends
+      items-item_run Stream file new_file gap first front_end items later.stop (own ++ after) []
+      ends
       (omega (arith, has.low))
       (own, after, refl, own_item, after_are) (omega (arith, new_room))
       (new-stands ∙ sym (append-nil (own ++ after)))
-      (item_of-past Stream new_file (later.stop - gap) (omega (arith, new-length, has.stop)))
+      (whole_item_at-past Stream new_file (later.stop - gap) (omega (arith, new-length, has.stop)))
 
   -- the edited file starts with the same frame
   pub new-start : start_of new_file ≡ Ok (moved_start start)
@@ -279,7 +282,7 @@ module _ (steps : ℕ → Steps) (file : List ℕ) (allowed : ℕ) (start : Star
   new-frames =
       ap₂ numbered_frames new-head
       (ap (λ (r : ItemRun). frames_of r.items) new-stream ∙ frames-nearer gap items)
-      ∙ numbered-by (λ at. at - gap) head (frames_of items)
+      ∙ numbered_frames-by (λ at. at - gap) head (frames_of items)
       ∙ ap (λ (r : ItemRun). map (nearer_frame gap) (numbered_frames head (frames_of r.items)))
       (sym has.stream)
 

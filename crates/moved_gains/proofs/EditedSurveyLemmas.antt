@@ -11,9 +11,10 @@ use Rattle.moved_gains.proofs.{LostOffsetLemmas.{lost-at, walk_rising}, ReadFile
 use Rattle.moved_gains.specs.{Edited.edited_file, Gains.moved_side_unless_lost}
 use Rattle.moved_gains.specs.Streams.{edited_block, edited_row, edited_survey}
 use Rattle.requests.specs.declared.shift.Steps.{Steps}
-use Rattle.sync_survey.proofs.{ItemListLemmas.{blocks-between, nearer_piece}, RunsLemmas.run-ends}
-use Rattle.sync_survey.proofs.SurveyPartsLemmas.{frames_from, IsRead, surveyed-parts, surveyed-told}
-use Rattle.sync_survey.proofs.SurveyPartsLemmas.{told_from}
+use Rattle.sync_survey.proofs.ItemListLemmas.{blocks-between, nearer_piece}
+use Rattle.sync_survey.proofs.RunsLemmas.{item_run-ends}
+use Rattle.sync_survey.proofs.SurveyPartsLemmas.{frames_from, IsRead, survey_fields-parts}
+use Rattle.sync_survey.proofs.SurveyPartsLemmas.{survey_fields-told, told_from}
 use Rattle.sync_survey.specs.Faults.{class_from, survey_fields, SurveyFields}
 use Rattle.sync_survey.specs.{MainData.{is_lost, rows_of}, Row.Row}
 use Rattle.sync_survey.specs.Runs.{blocks_of, item_run, ItemRun}
@@ -104,14 +105,14 @@ module _ (steps : ℕ → Steps) (file : List ℕ) (allowed : ℕ) (start : Star
       let front_blocks : map (edited_block first gap) (blocks_of front.items)
       ≡ blocks_of front.items =
       blocks-between Front (edited_block first gap) same_block file 0 first 0 front.items front.stop
-      (λ b above below. before_first first gap b below) (run-ends Front file 0) (omega arith)
+      (λ b above below. before_first first gap b below) (item_run-ends Front file 0) (omega arith)
       (omega (arith, has.low, has.front))
       ∙ map-id (blocks_of front.items) in
       let stream_blocks : map (edited_block first gap) (blocks_of stream.items)
       ≡ map (nearer_piece gap) (blocks_of stream.items) =
       blocks-between Stream (edited_block first gap) (nearer_piece gap) file first stream.stop first
       stream.items stream.stop (λ b above below. behind_first first gap b above)
-      (run-ends Stream file first)
+      (item_run-ends Stream file first)
       (omega arith) (omega arith) in
       new-blocks steps file allowed start all read
       ∙ sym (map-append (edited_block first gap) (blocks_of front.items) (blocks_of stream.items)
@@ -133,14 +134,14 @@ module _ (steps : ℕ → Steps) (file : List ℕ) (allowed : ℕ) (start : Star
         length = long i;
       }
 
-  surveyed-from : survey_fields new allowed ≡ Ok (edited_survey steps (told_from file start))
-  surveyed-from = surveyed-told new allowed (moved_start start) new-read ∙ ap Ok new-told
+  survey_fields-from : survey_fields new allowed ≡ Ok (edited_survey steps (told_from file start))
+  survey_fields-from = survey_fields-told new allowed (moved_start start) new-read ∙ ap Ok new-told
 
 -- the edited file has the survey of the file, with moved gains and without the junk
-pub surveyed-edited : (steps : ℕ → Steps) (file : List ℕ) (allowed : ℕ) (s : SurveyFields)
+pub survey_fields-edited_file : (steps : ℕ → Steps) (file : List ℕ) (allowed : ℕ) (s : SurveyFields)
     → AreBytes file → survey_fields file allowed ≡ Ok s
     → survey_fields (edited_file steps file s) allowed ≡ Ok (edited_survey steps s)
-surveyed-edited steps file allowed s all e =
-    let parts = surveyed-parts file allowed s e in
+survey_fields-edited_file steps file allowed s all e =
+    let parts = survey_fields-parts file allowed s e in
     subst (λ t. survey_fields (edited_file steps file t) allowed ≡ Ok (edited_survey steps t))
-    parts.2 (surveyed-from steps file allowed parts.0 all parts.1)
+    parts.2 (survey_fields-from steps file allowed parts.0 all parts.1)

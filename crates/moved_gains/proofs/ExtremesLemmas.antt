@@ -25,23 +25,23 @@ fold-max a b (x ∷ xs) =
     ap (λ n. fold max n xs) one ∙ fold-max a (max b x) xs
 
 -- the extreme gains of two lists, joined, are those of both lists together
-pub joined-extremes : (xs ys : List ℕ)
+pub joined_extremes-append : (xs ys : List ℕ)
     → joined_extremes (extremes xs) (extremes ys) ≡ extremes (xs ++ ys)
 unfolding extremes
-joined-extremes [] ys = refl
-joined-extremes (x ∷ xs) [] = ap extremes (sym (append-nil (x ∷ xs)))
-joined-extremes (x ∷ xs) (y ∷ ys) =
+joined_extremes-append [] ys = refl
+joined_extremes-append (x ∷ xs) [] = ap extremes (sym (append-nil (x ∷ xs)))
+joined_extremes-append (x ∷ xs) (y ∷ ys) =
     let least = sym (fold-append min x xs (y ∷ ys) ∙ fold-min (fold min x xs) y ys) in
     let greatest = sym (fold-append max x xs (y ∷ ys) ∙ fold-max (fold max x xs) y ys) in
     ap₂ (λ (a b : ℕ). Some (record { least = a; greatest = b })) least greatest
 
 -- joining extreme gains is associative
-pub joined-assoc : (f g h : Option Gains)
+pub joined_extremes-assoc : (f g h : Option Gains)
     → joined_extremes (joined_extremes f g) h ≡ joined_extremes f (joined_extremes g h)
-joined-assoc None g h = refl
-joined-assoc (Some f) None h = refl
-joined-assoc (Some f) (Some g) None = refl
-joined-assoc (Some f) (Some g) (Some h) =
+joined_extremes-assoc None g h = refl
+joined_extremes-assoc (Some f) None h = refl
+joined_extremes-assoc (Some f) (Some g) None = refl
+joined_extremes-assoc (Some f) (Some g) (Some h) =
     let least : min (min f.least g.least) h.least ≡ min f.least (min g.least h.least) =
     omega arith in
     let greatest : max (max f.greatest g.greatest) h.greatest
@@ -49,9 +49,9 @@ joined-assoc (Some f) (Some g) (Some h) =
     ap₂ (λ (a b : ℕ). Some (record { least = a; greatest = b })) least greatest
 
 -- joining with no gains changes nothing
-pub joined-None : (g : Option Gains) → joined_extremes g None ≡ g
-joined-None None = refl
-joined-None (Some g) = refl
+pub joined_extremes-None : (g : Option Gains) → joined_extremes g None ≡ g
+joined_extremes-None None = refl
+joined_extremes-None (Some g) = refl
 
 -- ---- frames
 
@@ -75,7 +75,7 @@ extremes-nil = refl
 pub extremes-cons : (channel : ℕ) (row : Row) (rows : List Row) → extremes_of channel (row ∷ rows)
     ≡ joined_extremes (extremes (row_gains channel row)) (extremes_of channel rows)
 extremes-cons channel row rows = ap extremes (moving-cons channel row rows)
-    ∙ sym (joined-extremes (row_gains channel row) (moving_gains channel rows))
+    ∙ sym (joined_extremes-append (row_gains channel row) (moving_gains channel rows))
 
 -- ---- what they are
 
@@ -190,7 +190,7 @@ extremes-all channel rows i found end is =
     is
     ∙ ap (λ (rs : List Row). joined_extremes found (extremes_of channel rs)) (drop_all i rows end)
     ∙ ap (joined_extremes found) (ap extremes (moving-nil channel) ∙ extremes-nil)
-    ∙ joined-None found
+    ∙ joined_extremes-None found
 
 -- ---- the channels of frames
 

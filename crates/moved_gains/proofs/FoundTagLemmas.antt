@@ -6,7 +6,8 @@ use Rattle.std.proofs.lemmas.List.{append-nil, length-take-le, Folds.find-append
 use Rattle.std.specs.{List.{cons_option, find}, Option.option_or}
 use Rattle.moved_gains.specs.TagPlace.{is_tag, last_end, row_end, tag_block}
 use Rattle.sync_survey.proofs.{ItemBytesLemmas.kept_item, ItemsLemmas.stands}
-use Rattle.sync_survey.proofs.{RunsLemmas.{item_of-is, run-ends}, SurveyPartsLemmas.surveyed-parts}
+use Rattle.sync_survey.proofs.RunsLemmas.{item_run-ends, whole_item_at-is}
+use Rattle.sync_survey.proofs.SurveyPartsLemmas.{survey_fields-parts}
 use Rattle.sync_survey.specs.Faults.{longest_file, survey_fields, SurveyFields}
 use Rattle.sync_survey.specs.{Items.{IsItemFront, item_front, size_of}, Row.Row}
 use Rattle.sync_survey.specs.Runs.{AreEndToEnd, block_of_item, blocks_of, item_run, PlacedItem}
@@ -102,7 +103,7 @@ pub own_block : (part : Region) (file : List ℕ) (at : ℕ) (b : TagBlock)
     → whole_item_at part file at ≡ Some (Block b)
     → (at + b.length ≤ length file) × (block_front (take b.length (drop at file)) ≡ Some b)
 own_block part file at b is =
-    let here = item_of-is part file at (Block b) is in
+    let here = whole_item_at-is part file at (Block b) is in
     let own = take b.length (drop at file) in
     let kept = kept_item file at (Block b) here.is refl here.within in
     let front : item_front own ≡ Block b = ap item_front (sym (append-nil own)) ∙ kept.known [] in
@@ -136,16 +137,17 @@ all_cases : (file : List ℕ) (start : Start) (b : Piece) (o : Option Piece)
     → IsTagThere file b
 all_cases file start b None found is e = there_by Stream file b (found_tag (all_blocks file start) b
     found) (found_item Stream file start.first.offset (stream_run file start).items
-    (stream_run file start).stop b (run-ends Stream file start.first.offset) e)
+    (stream_run file start).stop b (item_run-ends Stream file start.first.offset) e)
 all_cases file start b (Some x) found is e =
     there_by Front file b (found_tag (all_blocks file start) b found) (found_item Front file 0
-    (item_run Front file 0).items (item_run Front file 0).stop b (run-ends Front file 0) (is ∙ e))
+    (item_run Front file 0).items (item_run Front file 0).stop b (item_run-ends Front file 0)
+    (is ∙ e))
 
 -- the tag's block that a survey finds is an APEv2 block in the file
 pub tag-there : (file : List ℕ) (allowed : ℕ) (s : SurveyFields) (b : Piece)
     → survey_fields file allowed ≡ Ok s → tag_block s ≡ Some b → IsTagThere file b
 tag-there file allowed s b e found =
-    let parts = surveyed-parts file allowed s e in
+    let parts = survey_fields-parts file allowed s e in
     let start = parts.0 in
     let told : find is_tag (all_blocks file start) ≡ Some b =
     ap (λ (t : SurveyFields). find is_tag t.blocks) parts.2 ∙ found in
@@ -161,15 +163,15 @@ survey_cases file allowed fault s true e = absurd cc
 survey_cases file allowed fault s false e = e
 
 -- the survey of a file that isn't too long is the survey of its bytes
-pub survey_of-surveyed : (file : List ℕ) (allowed : ℕ) (s : SurveyFields)
+pub survey_of-survey_fields : (file : List ℕ) (allowed : ℕ) (s : SurveyFields)
     → survey_of file allowed ≡ Ok s → survey_fields file allowed ≡ Ok s
 unfolding survey_of
-survey_of-surveyed file allowed s e = survey_cases file allowed _ s _ e
+survey_of-survey_fields file allowed s e = survey_cases file allowed _ s _ e
 
 -- a survey says how long the file is
-pub surveyed-length : (file : List ℕ) (allowed : ℕ) (s : SurveyFields)
+pub survey_fields-length : (file : List ℕ) (allowed : ℕ) (s : SurveyFields)
     → survey_fields file allowed ≡ Ok s → length file ≡ s.length
-surveyed-length file allowed s e = let parts = surveyed-parts file allowed s e in
+survey_fields-length file allowed s e = let parts = survey_fields-parts file allowed s e in
     ap (λ (t : SurveyFields). t.length) parts.2
 
 -- ---- the end of the last frame

@@ -12,9 +12,9 @@ below : (sum : ℤ) → unsigned_abs (int_rem_euclid sum (pos 256)) < 256
 below (pos n) = omega arith
 below (negsuc n) = omega arith
 
-moved-fits : (version : Version) (steps : ℤ) (g : Granule) → GranuleFits version g
+moved_granule-fits : (version : Version) (steps : ℤ) (g : Granule) → GranuleFits version g
     → GranuleFits version (moved_granule steps g)
-moved-fits version steps g fits =
+moved_granule-fits version steps g fits =
     elim (is_silent_granule g) as (λ b. GranuleFits version
     (cond b g (record g { global_gain = moved_gain steps g.global_gain }))) [
       | true ↦ fits
@@ -32,7 +32,7 @@ moved-fits version steps g fits =
 moved_at : (version : Version) (has : Bool) (steps : ℤ) (g : Granule)
     → MatchBool has (GranuleFits version g) (g ≡ no_granule) → MatchBool has
     (GranuleFits version (moved_granule steps g)) (moved_granule steps g ≡ no_granule)
-moved_at version true steps g fits = moved-fits version steps g fits
+moved_at version true steps g fits = moved_granule-fits version steps g fits
 moved_at version false steps g none = ap (moved_granule steps) none
 
 -- side information with moved gains still has its fields within their bits

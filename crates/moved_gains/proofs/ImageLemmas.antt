@@ -16,7 +16,7 @@ use Rattle.moved_gains.proofs.MovedRowLemmas.{changed, end_fault-by, head_by, im
 use Rattle.moved_gains.proofs.MovedRowLemmas.{marked-image, numbered-same, rows_shaped, sound-image}
 use Rattle.moved_gains.specs.{Edited.moved_frame_unless_lost, Gains.moved_side_unless_lost}
 use Rattle.requests.specs.declared.shift.Steps.{Steps}
-use Rattle.side_info.proofs.FrameLemmas.{IsRight, side_in-take, word_said-take}
+use Rattle.side_info.proofs.FrameLemmas.{IsRight, side_in-take, stored_crc-take}
 use Rattle.side_info.specs.{CheckWord.check_word_of, Frame.{side_in, stored_crc}}
 use Rattle.side_info.specs.declared.side.Side.{Side}
 use Rattle.sync_survey.proofs.{ItemListLemmas.frame_by, ItemsLemmas.header_front-in_range}
@@ -51,7 +51,7 @@ module _ (file : List ℕ) (p : PlacedFrame) (header : IsHeader p.header) where
 
   -- its check word too
   own-word : stored_crc (frame_bytes file p) ≡ stored_crc bytes
-  own-word = word_said-take (length_of (class_of h) h.slot) bytes (frame_long h header)
+  own-word = stored_crc-take (length_of (class_of h) h.slot) bytes (frame_long h header)
 
   wrong_by : (b : Bool) (said right : ℕ) → (b && not (said == right)) ≡ false → b ≡ true
       → said ≡ right

@@ -6,7 +6,8 @@ use Rattle.std.proofs.Common.{take-append-drop, zero, ℕ, [], ◌++◌, ◌+◌
 use Rattle.std.proofs.{Common.{◌≤◌, ◌⊎◌}, Math.Seq.take-add, lemmas.List.drop-drop}
 use Rattle.bit_fields.specs.Bits.{AreBytes}
 use Rattle.moved_gains.proofs.{KeptFrameLemmas.row_differs, LostOffsetLemmas.EndBy}
-use Rattle.moved_gains.proofs.MovingLemmas.{moved_from, moved_from-nil, moved_to, written-edited}
+use Rattle.moved_gains.proofs.MovingLemmas.{moved_from, moved_from-nil, moved_to}
+use Rattle.moved_gains.proofs.MovingLemmas.{written-edited_file}
 use Rattle.moved_gains.proofs.RowLemmas.{Each, each_before, each_behind}
 use Rattle.moved_gains.proofs.TagPlaceLemmas.{IsApart, IsInFront, stands_apart, stands_somewhere}
 use Rattle.moved_gains.proofs.TagPlaceLemmas.{StandsSomewhere}
@@ -208,7 +209,7 @@ module _ (file : List ℕ) (allowed : ℕ) (s : SurveyFields) (all : AreBytes fi
         in_order = joined.in_order;
         allowed = joined.allowed;
         written =
-            sym (written-edited steps file allowed s is)
+            sym (written-edited_file steps file allowed s is)
             ∙ ap₂ (λ n (l : List ℕ). take n file ++ l) (sym none)
             (sym (patches-moved T steps file s s.first s.frames))
             ∙ sym joined.written;

@@ -5,7 +5,7 @@ use Rattle.std.proofs.Common.{sum, sym, take, take-append-drop, true, ℕ, ℤ, 
 use Rattle.std.proofs.{Common.◌≤◌, lemmas.Bool.{false≢true, not-false}}
 use Rattle.std.proofs.lemmas.List.{drop-append-le, drop-drop, drop_at, take-append-le, take_at}
 use Rattle.bit_fields.proofs.BitsLemmas.{bits-append, bits-bytes, bits-nil, length-bits}
-use Rattle.bit_fields.proofs.{BitsLemmas.length-bits_of, GroupsLemmas.{length-spelled, sum-cons}}
+use Rattle.bit_fields.proofs.{BitsLemmas.length-bits_of, GroupsLemmas.{length-group_bits, sum-cons}}
 use Rattle.bit_fields.specs.{Bits.{AreBytes, bits, bits_of, bytes}, Groups.group_bits}
 use Rattle.frame_header.specs.Fields.{ClassFields, HeaderFields, IsClass}
 use Rattle.frame_header.specs.HeaderBits.{flag_of, header_widths}
@@ -20,9 +20,9 @@ use Rattle.moved_gains.specs.Kept.{crc_fields, DiffersInFields, DiffersInGains, 
 use Rattle.moved_gains.specs.Kept.{frame_fields, granule_fields, MayBecome, side_fields}
 use Rattle.moved_gains.specs.Moving.{moved_row_bytes}
 use Rattle.requests.specs.declared.shift.Steps.{Steps}
-use Rattle.side_info.proofs.FrameLemmas.{frame_with-own, HasRoom, IsRight, length-word, overhead-is}
-use Rattle.side_info.proofs.FrameLemmas.{room-least, room-protected, shaped-side_in, side_there}
-use Rattle.side_info.proofs.GranuleLemmas.{bits-parts}
+use Rattle.side_info.proofs.FrameLemmas.{frame_with_side-own, HasRoom, IsRight, length-word}
+use Rattle.side_info.proofs.FrameLemmas.{overhead-is, room-least, room-protected, shaped-side_in}
+use Rattle.side_info.proofs.{FrameLemmas.side_there, GranuleLemmas.bits-parts}
 use Rattle.side_info.proofs.SideLemmas.{AreBits-side_bits, each_class, each_shaped, IsShaped}
 use Rattle.side_info.{proofs.SideLemmas.length-side_bits, specs.CheckWord.check_word_of}
 use Rattle.side_info.specs.Frame.{crc_part, frame_with_side, side_in, side_part, side_place}
@@ -34,15 +34,15 @@ use Rattle.sync_survey.specs.Row.{Row}
 -- ---- fields in order
 
 -- fields that stay, and those after them
-staying_same : (widths xs : List ℕ) (fields : List Field) (old new : List ℕ)
+fixed_fields-same : (widths xs : List ℕ) (fields : List Field) (old new : List ℕ)
     → length xs ≡ sum widths → DiffersInFields fields old new
     → DiffersInFields (fixed_fields widths ++ fields) (xs ++ old) (xs ++ new)
-staying_same [] [] fields old new e same = same
-staying_same [] (x ∷ xs) fields old new e same = absurd cc
-staying_same (w ∷ ws) xs fields old new e same =
+fixed_fields-same [] [] fields old new e same = same
+fixed_fields-same [] (x ∷ xs) fields old new e same = absurd cc
+fixed_fields-same (w ∷ ws) xs fields old new e same =
     let within : w ≤ length xs = omega (arith, e, sum-cons w ws) in
     let left : length (drop w xs) ≡ sum ws = omega (arith, e, sum-cons w ws, length-drop w xs) in
-    let next = staying_same ws (drop w xs) fields old new left same in (
+    let next = fixed_fields-same ws (drop w xs) fields old new left same in (
       λ stays. take-append-le w xs new within ∙ sym (take-append-le w xs old within),
       subst (λ l. DiffersInFields (fixed_fields ws ++ fields) l (drop w (xs ++ new)))
           (sym (drop-append-le w xs old within))
@@ -75,15 +75,15 @@ other_gain version g gain fields old new silent later =
     ∷ flag_of g.preflag ∷ flag_of g.scalefac_scale ∷ flag_of g.count1table_select ∷ [] in
     let behind = group_bits widths numbers in
     let rest : DiffersInFields (fixed_fields widths ++ fields) (behind ++ old) (behind ++ new) =
-    staying_same widths behind fields old new (length-spelled widths numbers refl) later in
+    fixed_fields-same widths behind fields old new (length-group_bits widths numbers refl) later in
     let field : Field = record { width = 8; changes = not (is_silent_granule g) } in
     let own = changing_same (not (is_silent_granule g)) 8 (bits_of 8 g.global_gain) (bits_of 8 gain)
     (fixed_fields widths ++ fields) (behind ++ old) (behind ++ new) (length-bits_of 8 g.global_gain)
     (length-bits_of 8 gain)
     (λ stays. ap (bits_of 8) (silent (not-false (is_silent_granule g) stays))) rest in
-    let all = staying_same (12 ∷ 9 ∷ []) before (field ∷ (fixed_fields widths ++ fields))
+    let all = fixed_fields-same (12 ∷ 9 ∷ []) before (field ∷ (fixed_fields widths ++ fields))
     (bits_of 8 g.global_gain ++ (behind ++ old)) (bits_of 8 gain ++ (behind ++ new))
-    (length-spelled (12 ∷ 9 ∷ []) (g.part2_3_length ∷ g.big_values ∷ []) refl) own in
+    (length-group_bits (12 ∷ 9 ∷ []) (g.part2_3_length ∷ g.big_values ∷ []) refl) own in
     let old_is : granule_bits version g ++ old
     ≡ before ++ (bits_of 8 g.global_gain ++ (behind ++ old)) =
     ap (λ l. l ++ old) (bits-parts version g)
@@ -97,10 +97,11 @@ other_gain version g gain fields old new silent later =
     (subst (λ l. DiffersInFields (granule_fields version g ++ fields)
     (before ++ (bits_of 8 g.global_gain ++ (behind ++ old))) l) (sym new_is) all)
 
-moved_same : (version : Version) (steps : ℤ) (g : Granule) (fields : List Field) (old new : List ℕ)
-    → DiffersInFields fields old new → DiffersInFields (granule_fields version g ++ fields)
+moved_granule-same : (version : Version) (steps : ℤ) (g : Granule) (fields : List Field)
+    (old new : List ℕ) → DiffersInFields fields old new
+    → DiffersInFields (granule_fields version g ++ fields)
     (granule_bits version g ++ old) (granule_bits version (moved_granule steps g) ++ new)
-moved_same version steps g fields old new later = by_silent (is_silent_granule g) refl
+moved_granule-same version steps g fields old new later = by_silent (is_silent_granule g) refl
   where
     by_silent : (b : Bool) → is_silent_granule g ≡ b → DiffersInFields (granule_fields version g
         ++ fields) (granule_bits version g ++ old) (granule_bits version (cond b g (record g {
@@ -129,7 +130,7 @@ all_same version (g ∷ gs) (h ∷ hs) area moves =
     (granule_bits version g ++ (old ++ area)) (granule_bits version h ++ (new ++ area)) =
     subst (λ k. DiffersInFields (granule_fields version g ++ fields)
     (granule_bits version g ++ (old ++ area)) (granule_bits version k ++ (new ++ area))) moves.0.1
-    (moved_same version moves.0.0 g fields (old ++ area) (new ++ area)
+    (moved_granule-same version moves.0.0 g fields (old ++ area) (new ++ area)
     (all_same version gs hs area moves.1)) in
     subst (λ l. DiffersInFields (granule_fields version g ++ fields) l
     ((granule_bits version h ++ new)
@@ -169,13 +170,13 @@ unfolding side_bits moved_side
 side_same steps c class s shaped area =
     let t = moved_side steps s in
     let front = group_bits (front_widths c) (s.main_data_begin ∷ s.private_bits ∷ s.scfsi) in
-    let long : length front ≡ sum (front_widths c) = length-spelled (front_widths c)
+    let long : length front ≡ sum (front_widths c) = length-group_bits (front_widths c)
     (s.main_data_begin ∷ s.private_bits ∷ s.scfsi) (front-long c class s shaped) in
     let old = flat_map (granule_bits c.version) (granules_in c s) in
     let new = flat_map (granule_bits c.version) (granules_in c t) in
     let fields =
     fixed_fields (front_widths c) ++ flat_map (granule_fields c.version) (granules_in c s) in
-    let same = staying_same (front_widths c) front (flat_map (granule_fields c.version)
+    let same = fixed_fields-same (front_widths c) front (flat_map (granule_fields c.version)
     (granules_in c s)) (old ++ area) (new ++ area) long (all_same c.version (granules_in c s)
     (granules_in c t) area (granules_moved steps c class s shaped)) in
     subst (λ l. DiffersInFields fields l ((front ++ new) ++ area))
@@ -265,7 +266,7 @@ frame_same steps h frame class all room =
     (arith, room-protected h frame is room, length-take 2 (drop 4 frame), length-drop 4 frame) in
     let word = bytes (bits_of 16 (check_word_of h t)) in
     let fields = side_fields h s in
-    let same = staying_same header_widths (bits front) (crc_fields h.protected ++ fields)
+    let same = fixed_fields-same header_widths (bits front) (crc_fields h.protected ++ fields)
     (bits (own_word h.protected frame) ++ (side_bits c s ++ bits area))
     (bits (crc_part h t) ++ (side_bits c t ++ bits area)) header
     (word_same h.protected (take 2 (drop 4 frame)) word fields (side_bits c s ++ bits area)
@@ -298,7 +299,7 @@ frame_differs steps h frame whole right =
       all = to.whole.all;
       fields = frame_same steps h frame class whole.all room;
       word = λ same. ap (λ t. frame_with_side h t frame) (sym to.side ∙ same)
-          ∙ frame_with-own h frame class whole.all room right;
+          ∙ frame_with_side-own h frame class whole.all room right;
     }
 
 -- a frame of a file may become the frame with moved gains; a lost frame stays

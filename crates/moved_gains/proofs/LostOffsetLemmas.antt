@@ -5,7 +5,7 @@ use Rattle.std.proofs.Common.{subst, suc, sym, true, zero, zero-add, ℕ, [], �
 use Rattle.std.proofs.{Common.{◌||◌, ◌∙◌, ◌∷◌, ◌≡◌, ◌≤◌}, lemmas.Bool.{eq-eqb, ne_eqb}}
 use Rattle.std.specs.List.{cons_option, enumerate_from}
 use Rattle.moved_gains.specs.{Edited.is_lost_at, Moving.row_end}
-use Rattle.sync_survey.proofs.RunsLemmas.{item_of-is, run-ends}
+use Rattle.sync_survey.proofs.RunsLemmas.{item_run-ends, whole_item_at-is}
 use Rattle.sync_survey.{proofs.SurveyPartsLemmas.{frames_from, told_from}, specs.Items.size_of}
 use Rattle.sync_survey.specs.{MainData.{is_lost, marked_row, marked_rows, row_of, rows_of}, Row.Row}
 use Rattle.sync_survey.specs.Runs.{AreEndToEnd, frame_of_item, frames_of, PlacedItem}
@@ -93,7 +93,8 @@ module _ (lost : ℕ → Bool) (file : List ℕ) where
   items_end part from [] to ends = omega (arith, ends)
   items_end part from (p ∷ ps) to ends =
       subst (λ n. EndBy n (rows_by lost file (frames_of (p ∷ ps))) to) ends.0
-      (end_more p.offset p.item (frames_of ps) to (item_of-is part file p.offset p.item ends.1).some
+      (end_more p.offset p.item (frames_of ps) to
+      (whole_item_at-is part file p.offset p.item ends.1).some
       (items_end part (p.offset + size_of p.item) ps to ends.2))
 
 -- ---- the lost frame at an offset
@@ -138,10 +139,10 @@ each_rising head all n from (r ∷ rows) rise =
     (rise.0, each_rising head all (n + 1) (suc r.offset) rows rise.1)
 
 -- marks don't change their order
-pub marked_rising : (head : Option Head) (from : ℕ) (rows : List Row) → AreRising from rows
+pub marked_rows-rising : (head : Option Head) (from : ℕ) (rows : List Row) → AreRising from rows
     → AreRising from (marked_rows head rows)
 unfolding marked_rows
-marked_rising head from rows rise = each_rising head rows 0 from rows rise
+marked_rows-rising head from rows rise = each_rising head rows 0 from rows rise
 
 each_get : (head : Option Head) (all : List Row) (n : ℕ) (rows : List Row) (i : ℕ) (r : Row)
     → slice_get rows i ≡ Some r
@@ -154,10 +155,10 @@ each_get head all n (q ∷ rows) zero r is =
 each_get head all n (q ∷ rows) (suc i) r is =
     each_get head all (n + 1) rows i r is ∙ ap (λ m. Some (marked_row head all m r)) (omega arith)
 
-marked_get : (head : Option Head) (rows : List Row) (i : ℕ) (r : Row) → slice_get rows i ≡ Some r
-    → slice_get (marked_rows head rows) i ≡ Some (marked_row head rows i r)
+marked_rows-get : (head : Option Head) (rows : List Row) (i : ℕ) (r : Row) → slice_get rows i
+    ≡ Some r → slice_get (marked_rows head rows) i ≡ Some (marked_row head rows i r)
 unfolding marked_rows
-marked_get head rows i r is =
+marked_rows-get head rows i r is =
     each_get head rows 0 rows i r is ∙ ap (λ m. Some (marked_row head rows m r)) (zero-add i)
 
 -- frame i is lost exactly if a lost frame of them is at its offset
@@ -166,7 +167,7 @@ pub lost-at : (head : Option Head) (from : ℕ) (rows : List Row) → AreRising 
     → is_lost_at (marked_rows head rows) r.offset ≡ is_lost head rows i r
 lost-at head from rows rise i r is =
     lost_get from (marked_rows head rows) i (marked_row head rows i r)
-    (marked_rising head from rows rise) (marked_get head rows i r is)
+    (marked_rows-rising head from rows rise) (marked_rows-get head rows i r is)
 
 by_each : (lost : ℕ → Bool) (file : List ℕ) (head : Option Head) (all : List Row) (n : ℕ)
     (ps : List PlacedFrame) → ((i : ℕ) (r : Row) → slice_get (rows_of file ps) i ≡ Some r
@@ -183,11 +184,11 @@ by_each lost file head all n (p ∷ ps) each =
     (λ i r is. each (suc i) r is ∙ ap (λ m. is_lost head all m r) (omega arith)))
 
 -- the rows are marked as lost exactly at the offsets of lost frames
-pub marked-by : (file : List ℕ) (head : Option Head) (from : ℕ) (ps : List PlacedFrame)
+pub marked_rows-by : (file : List ℕ) (head : Option Head) (from : ℕ) (ps : List PlacedFrame)
     → AreRising from (rows_of file ps) → marked_rows head (rows_of file ps)
     ≡ rows_by (is_lost_at (marked_rows head (rows_of file ps))) file ps
 unfolding marked_rows
-marked-by file head from ps rise =
+marked_rows-by file head from ps rise =
     by_each (is_lost_at (marked_rows head (rows_of file ps))) file head (rows_of file ps) 0 ps
     (λ i r is. lost-at head from (rows_of file ps) rise i r is
     ∙ ap (λ m. is_lost head (rows_of file ps) m r) (sym (zero-add i)))
@@ -199,22 +200,23 @@ items_rising : (file : List ℕ) (part : Region) (from : ℕ) (ps : List PlacedI
 items_rising file part from ps to ends = end_rising from (rows_of file (frames_of ps)) to
     (items_end (λ at. false) file part from ps to ends)
 
-numbered_rising : (file : List ℕ) (from : ℕ) (o : Option Head) (ps : List PlacedFrame)
+numbered_frames-rising : (file : List ℕ) (from : ℕ) (o : Option Head) (ps : List PlacedFrame)
     → AreRising from (rows_of file ps) → AreRising from (rows_of file (numbered_frames o ps))
-numbered_rising file from (Some head) (p ∷ ps) rise =
+numbered_frames-rising file from (Some head) (p ∷ ps) rise =
     rising_less from (suc p.offset) (rows_of file ps) (omega (arith, rise.0)) rise.1
-numbered_rising file from _ _ rise = rise
+numbered_frames-rising file from _ _ rise = rise
 
 -- the frames of a walk are in order
 pub walk_rising : (file : List ℕ) (start : Start) (o : Option Head) → AreRising start.first.offset
     (rows_of file (numbered_frames o (frames_of (stream_run file start).items)))
 walk_rising file start o =
     let stream = stream_run file start in
-    numbered_rising file start.first.offset o (frames_of stream.items) (items_rising file Stream
-    start.first.offset stream.items stream.stop (run-ends Stream file start.first.offset))
+    numbered_frames-rising file start.first.offset o (frames_of stream.items)
+    (items_rising file Stream
+    start.first.offset stream.items stream.stop (item_run-ends Stream file start.first.offset))
 
 -- the frames that a survey tells are marked as lost exactly at the offsets of lost frames
 pub told_rows : (file : List ℕ) (start : Start) → (told_from file start).frames
     ≡ rows_by (is_lost_at (told_from file start).frames) file (frames_from file start)
-told_rows file start = marked-by file (head_of file start.first) start.first.offset
+told_rows file start = marked_rows-by file (head_of file start.first) start.first.offset
     (frames_from file start) (walk_rising file start (head_of file start.first))

@@ -15,7 +15,7 @@ use Rattle.moved_gains.specs.Gains.{moved_granule, moved_side, moved_side_unless
 use Rattle.moved_gains.specs.Moving.{moved_bytes, moved_row_bytes, row_end, row_length}
 use Rattle.outside.specs.Pass.{bytes_between}
 use Rattle.requests.specs.declared.shift.Steps.{Steps}
-use Rattle.side_info.proofs.{FrameLemmas.frame_with-again, SideLemmas.IsShaped}
+use Rattle.side_info.proofs.{FrameLemmas.frame_with_side-again, SideLemmas.IsShaped}
 use Rattle.side_info.specs.{Frame.frame_with_side, Side.granule_in, declared.side.Side.Side}
 use Rattle.sync_survey.specs.Row.{Row}
 
@@ -91,7 +91,8 @@ bytes_again steps one two all file row is sum to here =
         let shaped = row_shaped file row here in
         ap (λ (s : Side). frame_with_side h s (frame_with_side h (moved_side one row.side) frame))
         (side_again one two all sum row.side shaped)
-        ∙ frame_with-again h (moved_side all row.side) (moved_side one row.side) frame (whole_class
+        ∙ frame_with_side-again h (moved_side all row.side) (moved_side one row.side) frame
+        (whole_class
         h frame here.whole) (IsShaped-moved one row.side shaped) (whole_room h frame here.whole).0
 
 -- each offset from the first on and before the end is moved in this way

@@ -13,11 +13,12 @@ use Rattle.moved_gains.specs.Edited.{moved_frame, moved_frame_unless_lost}
 use Rattle.moved_gains.specs.Gains.{is_silent_granule, moved_gain, moved_granule, moved_side}
 use Rattle.moved_gains.specs.Gains.{moved_side_unless_lost}
 use Rattle.requests.specs.declared.shift.Steps.{Steps}
-use Rattle.side_info.proofs.FrameLemmas.{area-frame_with, fits-side_in, frame_with-own, HasRoom}
-use Rattle.side_info.proofs.FrameLemmas.{header-frame_with, IsRight, length-frame_with}
-use Rattle.side_info.proofs.FrameLemmas.{overhead-most, shaped-side_in, side_in-frame_with}
-use Rattle.side_info.proofs.FrameLemmas.{word_said-frame_with}
-use Rattle.side_info.proofs.LastBytesLemmas.{AreGranulesAlike, last_bytes-frame_with, last_granule}
+use Rattle.side_info.proofs.FrameLemmas.{area-frame_with_side, fits-side_in, frame_with_side-own}
+use Rattle.side_info.proofs.FrameLemmas.{HasRoom, header-frame_with_side, IsRight}
+use Rattle.side_info.proofs.FrameLemmas.{length-frame_with_side, overhead-most, shaped-side_in}
+use Rattle.side_info.proofs.FrameLemmas.{side_in-frame_with_side, stored_crc-frame_with_side}
+use Rattle.side_info.proofs.LastBytesLemmas.{AreGranulesAlike, last_bytes-frame_with_side}
+use Rattle.side_info.proofs.LastBytesLemmas.{last_granule}
 use Rattle.side_info.proofs.SideLemmas.{AreBits-side_bits, each_class, each_shaped, IsShaped}
 use Rattle.side_info.{proofs.SideLemmas.side_with, specs.CheckWord.check_word_of}
 use Rattle.side_info.specs.Frame.{crc_part, frame_with_side, side_in}
@@ -31,19 +32,19 @@ use Rattle.sync_survey.specs.declared.items.Item.TheVariants.{Frame}
 -- ---- the last two bytes of the side information
 
 -- a moved granule differs in no field but global_gain
-moved-alike : (steps : ℤ) (g : Granule) → AreGranulesAlike g (moved_granule steps g)
-moved-alike steps g = elim (is_silent_granule g) as (λ b. AreGranulesAlike g (cond b g
+moved_granule-alike : (steps : ℤ) (g : Granule) → AreGranulesAlike g (moved_granule steps g)
+moved_granule-alike steps g = elim (is_silent_granule g) as (λ b. AreGranulesAlike g (cond b g
     (record g { global_gain = moved_gain steps g.global_gain }))) [ true ↦ refl | false ↦ refl ]
 
 moved_granules : (steps : Steps) (m p a b : ℕ) (g h k l : Granule) (granule channel : ℕ)
     → AreGranulesAlike (granule_in (side_with m p a b g h k l) granule channel)
     (granule_in (moved_side steps (side_with m p a b g h k l)) granule channel)
 unfolding moved_side
-moved_granules steps m p a b g h k l zero zero = moved-alike steps.left g
-moved_granules steps m p a b g h k l zero (suc zero) = moved-alike steps.right h
+moved_granules steps m p a b g h k l zero zero = moved_granule-alike steps.left g
+moved_granules steps m p a b g h k l zero (suc zero) = moved_granule-alike steps.right h
 moved_granules steps m p a b g h k l zero (suc (suc channel)) = refl
-moved_granules steps m p a b g h k l (suc zero) zero = moved-alike steps.left k
-moved_granules steps m p a b g h k l (suc zero) (suc zero) = moved-alike steps.right l
+moved_granules steps m p a b g h k l (suc zero) zero = moved_granule-alike steps.left k
+moved_granules steps m p a b g h k l (suc zero) (suc zero) = moved_granule-alike steps.right l
 moved_granules steps m p a b g h k l (suc zero) (suc (suc channel)) = refl
 moved_granules steps m p a b g h k l (suc (suc granule)) channel = refl
 
@@ -66,10 +67,10 @@ unfolding moved_side
 last_granule-moved steps =
     each_class (λ c. (s : Side)
     → AreGranulesAlike (last_granule c s) (last_granule c (moved_side steps s)))
-    (λ f s. moved-alike steps.left (granule_in s 1 0))
-    (λ f s. moved-alike steps.right (granule_in s 1 1))
-    (λ f s. moved-alike steps.left (granule_in s 0 0))
-    (λ f s. moved-alike steps.right (granule_in s 0 1))
+    (λ f s. moved_granule-alike steps.left (granule_in s 1 0))
+    (λ f s. moved_granule-alike steps.right (granule_in s 1 1))
+    (λ f s. moved_granule-alike steps.left (granule_in s 0 0))
+    (λ f s. moved_granule-alike steps.right (granule_in s 0 1))
     (λ f channels two. two)
 
 -- moved gains leave a frame as it is from two bytes before its area on
@@ -79,7 +80,7 @@ last_bytes-moved : (steps : Steps) (h : HeaderFields) (frame : List ℕ) → IsC
     ≡ drop (overhead_of (class_of h) h.protected - 2) frame
 last_bytes-moved steps h frame class all room =
     let s = side_in h frame in
-    last_bytes-frame_with h (moved_side steps s) frame class all (IsShaped-moved steps s
+    last_bytes-frame_with_side h (moved_side steps s) frame class all (IsShaped-moved steps s
     (shaped-side_in h frame)) room (last_granule-moved steps (class_of h) class s)
 
 -- ---- a frame with other side information is bytes
@@ -157,19 +158,20 @@ moved_whole false steps h frame whole =
     let fits =
     SideFits-moved_side (class_of h) steps (side_in h frame) (fits-side_in h frame class) in
     let side : side_in h (frame_with_side h s frame) ≡ s =
-    side_in-frame_with h s frame class shaped fits room in
+    side_in-frame_with_side h s frame class shaped fits room in
     record {
       whole = record {
         header =
-            header_front-four (frame_with_side h s frame) frame (header-frame_with h s frame room)
+            header_front-four (frame_with_side h s frame) frame
+            (header-frame_with_side h s frame room)
             ∙ whole.header;
-        size = length-frame_with h s frame class shaped room ∙ whole.size;
+        size = length-frame_with_side h s frame class shaped room ∙ whole.size;
         all = frame_bytes h s frame whole.all;
       };
       same_end = last_bytes-moved steps h frame class whole.all room;
-      same_area = area-frame_with h s frame class shaped room;
+      same_area = area-frame_with_side h s frame class shaped room;
       side = side;
-      right = λ was protected. word_said-frame_with h s frame protected room
+      right = λ was protected. stored_crc-frame_with_side h s frame protected room
           ∙ ap (check_word_of h) (sym side);
     }
 
@@ -202,4 +204,4 @@ frame_none steps none h frame whole right =
     let room = (whole_room h frame whole).0 in
     ap (λ t. frame_with_side h t frame) (side_none steps none s (shaped-side_in h frame)
     (gains_fit (class_of h) s (fits-side_in h frame class)))
-    ∙ frame_with-own h frame class whole.all room right
+    ∙ frame_with_side-own h frame class whole.all room right

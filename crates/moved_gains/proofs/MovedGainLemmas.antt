@@ -75,14 +75,15 @@ gain_next a b gain inside =
 
 -- ---- one granule
 
-moved-silent : (steps : ℤ) (g : Granule) → is_silent_granule g ≡ true → moved_granule steps g ≡ g
-moved-silent steps g silent =
+moved_granule-silent : (steps : ℤ) (g : Granule) → is_silent_granule g ≡ true
+    → moved_granule steps g ≡ g
+moved_granule-silent steps g silent =
     ap (λ b. cond b g (record g { global_gain = moved_gain steps g.global_gain })) silent
 
 -- a granule that isn't silent gets the moved gain, and keeps all other fields
-pub moved-loud : (steps : ℤ) (g : Granule) → is_silent_granule g ≡ false
+pub moved_granule-loud : (steps : ℤ) (g : Granule) → is_silent_granule g ≡ false
     → moved_granule steps g ≡ record g { global_gain = moved_gain steps g.global_gain }
-moved-loud steps g loud =
+moved_granule-loud steps g loud =
     ap (λ b. cond b g (record g { global_gain = moved_gain steps g.global_gain })) loud
 
 -- the gain would leave the range
@@ -96,21 +97,21 @@ granule_twice a b g = by_silence (is_silent_granule g) refl
     by_silence : (silent : Bool) → is_silent_granule g ≡ silent
         → moved_granule b (moved_granule a g) ≡ moved_granule (a +ℤ b) g
     by_silence true silent =
-        ap (moved_granule b) (moved-silent a g silent) ∙ moved-silent b g silent
-        ∙ sym (moved-silent (a +ℤ b) g silent)
+        ap (moved_granule b) (moved_granule-silent a g silent) ∙ moved_granule-silent b g silent
+        ∙ sym (moved_granule-silent (a +ℤ b) g silent)
     by_silence false loud =
         let h : Granule = record g { global_gain = moved_gain a g.global_gain } in
-        ap (moved_granule b) (moved-loud a g loud)
-        ∙ moved-loud b h loud
+        ap (moved_granule b) (moved_granule-loud a g loud)
+        ∙ moved_granule-loud b h loud
         ∙ ap (λ n. record g { global_gain = n }) (gain_twice a b g.global_gain)
-        ∙ sym (moved-loud (a +ℤ b) g loud)
+        ∙ sym (moved_granule-loud (a +ℤ b) g loud)
 
 granule_none : (g : Granule) → g.global_gain < 256 → moved_granule (pos 0) g ≡ g
 granule_none g small = by_silence (is_silent_granule g) refl
   where
     by_silence : (silent : Bool) → is_silent_granule g ≡ silent → moved_granule (pos 0) g ≡ g
-    by_silence true silent = moved-silent (pos 0) g silent
-    by_silence false loud = moved-loud (pos 0) g loud
+    by_silence true silent = moved_granule-silent (pos 0) g silent
+    by_silence false loud = moved_granule-loud (pos 0) g loud
         ∙ ap (λ n. record g { global_gain = n }) (gain_none g.global_gain small)
 
 -- after a change that keeps it in the range, a gain leaves the
@@ -123,21 +124,21 @@ granule_next a b all sum g first =
     by_silence : (silent : Bool) → is_silent_granule g ≡ silent
         → is_stuck b (moved_granule a g) ≡ is_stuck (a +ℤ b) g
     by_silence true silent =
-        ap (is_stuck b) (moved-silent a g silent)
+        ap (is_stuck b) (moved_granule-silent a g silent)
         ∙ ap (λ s. not s && is_out_of_range (pos g.global_gain +ℤ b)) silent
         ∙ sym (ap (λ s. not s && is_out_of_range (pos g.global_gain +ℤ (a +ℤ b))) silent)
     by_silence false loud =
         let h : Granule = record g { global_gain = moved_gain a g.global_gain } in
-        ap (is_stuck b) (moved-loud a g loud)
+        ap (is_stuck b) (moved_granule-loud a g loud)
         ∙ ap (λ s. not s && is_out_of_range (pos h.global_gain +ℤ b)) loud
         ∙ gain_next a b
         g.global_gain (sym (ap (λ s. not s && is_out_of_range (pos g.global_gain +ℤ a)) loud)
         ∙ first)
         ∙ sym (ap (λ s. not s && is_out_of_range (pos g.global_gain +ℤ (a +ℤ b))) loud)
 
-moved-payload : (steps : ℤ) (g : Granule)
+moved_granule-payload : (steps : ℤ) (g : Granule)
     → (moved_granule steps g).part2_3_length ≡ g.part2_3_length
-moved-payload steps g = elim (is_silent_granule g) as (λ b. (cond b g (record g {
+moved_granule-payload steps g = elim (is_silent_granule g) as (λ b. (cond b g (record g {
   global_gain = moved_gain steps g.global_gain;
 })).part2_3_length ≡ g.part2_3_length) [ true ↦ refl | false ↦ refl ]
 
@@ -255,20 +256,20 @@ module _ (steps : Steps) (m p a b : ℕ) (g h k l : Granule) where
       (none_both _ _ (none_of _ _ free.third) (none_of _ _ free.fourth)))
 
   -- the gains of each granule and channel move by the steps of the channel
-  pub moved_with : moved_side steps (side_with m p a b g h k l) ≡ side_with m p a b
+  pub moved_granule-with : moved_side steps (side_with m p a b g h k l) ≡ side_with m p a b
       (moved_granule steps.left g) (moved_granule steps.right h) (moved_granule steps.left k)
       (moved_granule steps.right l)
   unfolding moved_side
-  moved_with = refl
+  moved_granule-with = refl
 
   payload-with : payload_bits (moved_side steps (side_with m p a b g h k l))
       ≡ payload_bits (side_with m p a b g h k l)
   unfolding payload_bits moved_side
   payload-with =
-      let gp = moved-payload steps.left g in
-      let hp = moved-payload steps.right h in
-      let kp = moved-payload steps.left k in
-      let lp = moved-payload steps.right l in
+      let gp = moved_granule-payload steps.left g in
+      let hp = moved_granule-payload steps.right h in
+      let kp = moved_granule-payload steps.left k in
+      let lp = moved_granule-payload steps.right l in
       λ i. 0 + (0 + gp i + hp i) + (0 + kp i + lp i)
 
 -- with wrap no gain ever leaves the range
@@ -289,7 +290,7 @@ then-with one two all strict_one strict_two strict_all left right m p a b g h k 
     let w = free-parts all m p a b g h k l strict_all whole in
     let on_left = granule_next one.left two.left all.left left in
     let on_right = granule_next one.right two.right all.right right in
-    ap (side_out_of_range two) (moved_with one m p a b g h k l)
+    ap (side_out_of_range two) (moved_granule-with one m p a b g h k l)
     ∙ free-whole two m p a b (moved_granule one.left g) (moved_granule one.right h)
     (moved_granule one.left k)
     (moved_granule one.right l)
@@ -358,15 +359,16 @@ lengths-with : (steps : Steps) (version : Version) (mono : Bool) (m p a b : ℕ)
     ≡ lengths_of version mono (side_with m p a b g h k l)
 unfolding moved_side
 lengths-with steps One true m p a b g h k l =
-    λ i. moved-payload steps.left g i ∷ moved-payload steps.left k i ∷ []
+    λ i. moved_granule-payload steps.left g i ∷ moved_granule-payload steps.left k i ∷ []
 lengths-with steps One false m p a b g h k l =
-    λ i. moved-payload steps.left g i ∷ moved-payload steps.right h i ∷ moved-payload steps.left k i
-    ∷ moved-payload steps.right l i ∷ []
+    λ i. moved_granule-payload steps.left g i ∷ moved_granule-payload steps.right h i
+    ∷ moved_granule-payload steps.left k i
+    ∷ moved_granule-payload steps.right l i ∷ []
 lengths-with steps Two false m p a b g h k l =
-    λ i. moved-payload steps.left g i ∷ moved-payload steps.right h i ∷ []
+    λ i. moved_granule-payload steps.left g i ∷ moved_granule-payload steps.right h i ∷ []
 lengths-with steps TwoFive false m p a b g h k l =
-    λ i. moved-payload steps.left g i ∷ moved-payload steps.right h i ∷ []
-lengths-with steps _ true m p a b g h k l = λ i. moved-payload steps.left g i ∷ []
+    λ i. moved_granule-payload steps.left g i ∷ moved_granule-payload steps.right h i ∷ []
+lengths-with steps _ true m p a b g h k l = λ i. moved_granule-payload steps.left g i ∷ []
 
 -- the lengths of all parts of main data stay
 pub lengths-moved : (steps : Steps) (h : HeaderFields) (s : Side) → IsShaped s

@@ -10,7 +10,7 @@ use Rattle.side_info.{proofs.FrameLemmas.IsRight, specs.Frame.side_in}
 use Rattle.sync_survey.proofs.ItemBytesLemmas.{IsItem, kept_item}
 use Rattle.sync_survey.proofs.ItemListLemmas.{ends-rise, placed_by}
 use Rattle.sync_survey.proofs.ItemsLemmas.{header_front-in_range, stands-at}
-use Rattle.sync_survey.proofs.RunsLemmas.{item_of-is, item_of-whole}
+use Rattle.sync_survey.proofs.RunsLemmas.{whole_item_at-is, whole_item_at-whole}
 use Rattle.sync_survey.specs.Items.{item_at, item_front, size_of}
 use Rattle.sync_survey.specs.Runs.{AreEndToEnd, frame_of_item, frames_of, PlacedItem, whole_item_at}
 use Rattle.sync_survey.specs.declared.items.Item.{Item, TheVariants.{Frame, Free}}
@@ -31,11 +31,11 @@ pub item-moved : (file new : List ℕ) (at place : ℕ) (item : Item) → whole_
     ≡ Some item → take (size_of item) (drop place new) ≡ take (size_of item) (drop at file)
     → whole_item_at Stream new place ≡ Some item
 item-moved file new at place item is same =
-    let here = item_of-is Stream file at item is in
+    let here = whole_item_at-is Stream file at item is in
     let size = size_of item in
     let own = take size (drop at file) in
     let kept : IsItem item own = kept_item file at item here.is here.belongs here.within in
-    item_of-whole Stream new place item (there size place item new own kept same) here.belongs
+    whole_item_at-whole Stream new place item (there size place item new own kept same) here.belongs
     (omega (
       arith,
       ap length same,
@@ -74,7 +74,7 @@ module _ (to : ℕ → ℕ) (file new : List ℕ) where
       ≡ Some item → take (size_of item) (drop (to at) new) ≡ take (size_of item) (drop at file)
       → AreKept frames → AreKept (cons_option (frame_of_item at item) frames)
   kept_more at (Frame h) frames is same kept =
-      let here = item_of-is Stream file at (Frame h) is in (
+      let here = whole_item_at-is Stream file at (Frame h) is in (
         record {
           header = header_front-in_range (drop at file) h (stands-at file at (Frame h) here.is);
           whole = λ all. frame_whole file at h all here.is here.within;
@@ -96,7 +96,7 @@ module _ (to : ℕ → ℕ) (file new : List ℕ) where
   items-moved from [] end at ends moved = (omega (arith, ends), tt)
   items-moved from (p ∷ ps) end at ends moved =
       let size = size_of p.item in
-      let some = (item_of-is Stream file p.offset p.item ends.1).some in
+      let some = (whole_item_at-is Stream file p.offset p.item ends.1).some in
       let rise = ends-rise Stream file (p.offset + size) ps end ends.2 in
       let high : p.offset < end = omega (arith, some, rise) in
       let place : to p.offset ≡ at =

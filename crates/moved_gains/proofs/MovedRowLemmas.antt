@@ -34,11 +34,11 @@ numbered_either P None p ps all rest = all
 numbered_either P (Some head) p ps all rest = rest
 
 -- the frames that have numbers, elsewhere
-pub numbered-by : (to : ℕ → ℕ) (o : Option Head) (frames : List PlacedFrame)
+pub numbered_frames-by : (to : ℕ → ℕ) (o : Option Head) (frames : List PlacedFrame)
     → numbered_frames (option_map (head_by to) o) (map (frame_by to) frames)
     ≡ map (frame_by to) (numbered_frames o frames)
-numbered-by to (Some head) (p ∷ ps) = refl
-numbered-by to _ _ = refl
+numbered_frames-by to (Some head) (p ∷ ps) = refl
+numbered_frames-by to _ _ = refl
 
 -- the end of the file is still no fault
 pub end_fault-by : (file new : List ℕ) (to : ℕ → ℕ) (frames : List PlacedFrame)

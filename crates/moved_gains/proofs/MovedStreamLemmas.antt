@@ -12,7 +12,8 @@ use Rattle.moved_gains.specs.Streams.{moved_stream_of}
 use Rattle.requests.specs.declared.shift.Steps.{Steps}
 use Rattle.side_info.{proofs.SideLemmas.IsShaped, specs.Side.{no_side, payload_bits}}
 use Rattle.side_info.specs.declared.side.Side.{Side}
-use Rattle.sync_survey.proofs.SurveyPartsLemmas.{frames_from, IsRead, surveyed-parts, told_from}
+use Rattle.sync_survey.proofs.SurveyPartsLemmas.{frames_from, IsRead, survey_fields-parts}
+use Rattle.sync_survey.proofs.SurveyPartsLemmas.{told_from}
 use Rattle.sync_survey.specs.Faults.{stream_of_survey, survey_fields, SurveyFields}
 use Rattle.sync_survey.specs.MainData.{granule_lengths, row_side, rows_of, split_bits, stream_frame}
 use Rattle.sync_survey.specs.{Row.Row, Walk.head_of, declared.places.{Head.Head, Start.Start}}
@@ -91,11 +92,11 @@ module _ (steps : ℕ → Steps) (file : List ℕ) (allowed : ℕ) (start : Star
       (λ main i r is. frame-moved steps (gap_of start) main head rows i r (shaped i r is))
 
 -- The stream of the edited file: each frame with its gains moved, and all else unchanged.
-pub stream-edited : (steps : ℕ → Steps) (file : List ℕ) (allowed : ℕ) (s : SurveyFields)
+pub stream-edited_file : (steps : ℕ → Steps) (file : List ℕ) (allowed : ℕ) (s : SurveyFields)
     → AreBytes file → survey_fields file allowed ≡ Ok s
     → stream_of_survey (edited_file steps file s) (edited_survey steps s)
     ≡ moved_stream_of steps file s
-stream-edited steps file allowed s all e =
-    let parts = surveyed-parts file allowed s e in
+stream-edited_file steps file allowed s all e =
+    let parts = survey_fields-parts file allowed s e in
     subst (λ t. stream_of_survey (edited_file steps file t) (edited_survey steps t)
     ≡ moved_stream_of steps file t) parts.2 (stream-from steps file allowed parts.0 all parts.1)

@@ -6,7 +6,7 @@ use Rattle.std.proofs.{Common.{◌∙◌, ◌∷◌, ◌≡◌, ◌≤◌}, Math
 use Rattle.std.proofs.lemmas.List.{drop-drop, drop_all, take_all, take_at}
 use Rattle.frame_header.specs.{Fields.HeaderFields, Tables.{class_of, length_of}}
 use Rattle.moved_gains.proofs.EditedItemLemmas.{moved-cons, moved-nil}
-use Rattle.moved_gains.proofs.FoundTagLemmas.{survey_of-surveyed, surveyed-length}
+use Rattle.moved_gains.proofs.FoundTagLemmas.{survey_fields-length, survey_of-survey_fields}
 use Rattle.moved_gains.proofs.LostOffsetLemmas.{EndBy, items_end, rows_by, told_rows}
 use Rattle.moved_gains.proofs.ReadFileLemmas.{has_stream}
 use Rattle.moved_gains.specs.Edited.{edited_file, is_lost_at, moved_frame_unless_lost, moved_item}
@@ -18,9 +18,10 @@ use Rattle.side_info.{proofs.FrameLemmas.side_in-take, specs.Frame.{frame_with_s
 use Rattle.side_info.specs.declared.side.Side.{Side}
 use Rattle.sync_survey.proofs.ItemListLemmas.{ends-within}
 use Rattle.sync_survey.proofs.ItemsLemmas.{header_front-in_range, stands-at}
-use Rattle.sync_survey.proofs.RunsLemmas.{bytes-ends, cons_list, IsItemOf, item_of-is, run-ends}
-use Rattle.sync_survey.proofs.SurveyLemmas.{overhead-within}
-use Rattle.sync_survey.proofs.SurveyPartsLemmas.{frames_from, IsRead, surveyed-parts, told_from}
+use Rattle.sync_survey.proofs.RunsLemmas.{bytes-ends, cons_list, IsItemOf, item_run-ends}
+use Rattle.sync_survey.proofs.{RunsLemmas.whole_item_at-is, SurveyLemmas.overhead-within}
+use Rattle.sync_survey.proofs.SurveyPartsLemmas.{frames_from, IsRead, survey_fields-parts}
+use Rattle.sync_survey.proofs.SurveyPartsLemmas.{told_from}
 use Rattle.sync_survey.specs.{Faults.{survey_fields, SurveyFields}, Items.{item_at, size_of}}
 use Rattle.sync_survey.specs.Row.{Row}
 use Rattle.sync_survey.specs.Runs.{AreEndToEnd, bytes_of_items, frame_of_item, frames_of}
@@ -133,7 +134,7 @@ moved_from-items steps lost part file [] from to e =
     moved_from-nil steps file from ∙ ap (λ n. drop n file) e
     ∙ ap (λ (l : List ℕ). l ++ drop to file) (sym (moved-nil steps lost file))
 moved_from-items steps lost part file (p ∷ ps) from to e =
-    let here = item_of-is part file p.offset p.item e.1 in
+    let here = whole_item_at-is part file p.offset p.item e.1 in
     let next = p.offset + size_of p.item in
     ap₂ (λ n (l : List PlacedFrame). moved_from steps file n (rows_by lost file l)) (sym e.0)
     (cons_list (frame_of_item p.offset p.item) (frames_of ps))
@@ -168,7 +169,7 @@ behind_head steps lost file (Some head) [] from to h e nothing first =
     moved_from-nil steps file from ∙ ap (λ n. drop n file) e ∙ nothing
     ∙ sym (moved-nil steps lost file)
 behind_head steps lost file (Some head) (p ∷ ps) from to h e nothing first =
-    let here = item_of-is Stream file p.offset p.item e.1 in
+    let here = whole_item_at-is Stream file p.offset p.item e.1 in
     let is : p.item ≡ Frame h = sym here.is ∙ ap (item_at file) e.0 ∙ first in
     let size = size_of p.item in
     let one : drop 1 (frames_of (p ∷ ps)) ≡ frames_of ps =
@@ -187,8 +188,9 @@ front_bytes : (file : List ℕ)
     → bytes_of_items file (item_run Front file 0).items ≡ take (item_run Front file 0).stop file
 front_bytes file =
     let r = item_run Front file 0 in
-    let all = bytes-ends Front file 0 r.items r.stop (run-ends Front file 0) in
-    let within = ends-within Front file 0 r.items r.stop (run-ends Front file 0) (omega arith) in
+    let all = bytes-ends Front file 0 r.items r.stop (item_run-ends Front file 0) in
+    let within =
+    ends-within Front file 0 r.items r.stop (item_run-ends Front file 0) (omega arith) in
     let long : length (bytes_of_items file r.items) ≡ r.stop = omega (
       arith,
       ap length all,
@@ -214,15 +216,15 @@ written_from steps file allowed start read =
     (ap (moved_from steps file start.first.offset) (told_rows file start)
     ∙ behind_head steps (is_lost_at (told_from file start).frames) file (head_of file start.first)
     stream.items start.first.offset stream.stop start.first.header
-    (run-ends Stream file start.first.offset) (drop_all stream.stop file (omega (arith, stop)))
+    (item_run-ends Stream file start.first.offset) (drop_all stream.stop file (omega (arith, stop)))
     has.first.is)
 
 -- the bytes up to the junk, and those from the first frame on with moved gains, are the edited file
-pub written-edited : (steps : ℕ → Steps) (file : List ℕ) (allowed : ℕ) (s : SurveyFields)
+pub written-edited_file : (steps : ℕ → Steps) (file : List ℕ) (allowed : ℕ) (s : SurveyFields)
     → survey_fields file allowed ≡ Ok s
     → take s.junk file ++ moved_from steps file s.first s.frames ≡ edited_file steps file s
-written-edited steps file allowed s e =
-    let parts = surveyed-parts file allowed s e in
+written-edited_file steps file allowed s e =
+    let parts = survey_fields-parts file allowed s e in
     subst (λ (t : SurveyFields). take t.junk file ++ moved_from steps file t.first t.frames
     ≡ edited_file steps file t) parts.2 (written_from steps file allowed parts.0 parts.1)
 
@@ -232,7 +234,7 @@ written-edited steps file allowed s e =
 pub survey_of-length : (file : List ℕ) (allowed : ℕ) (s : SurveyFields)
     → survey_of file allowed ≡ Ok s → length file ≡ s.length
 survey_of-length file allowed s e =
-    surveyed-length file allowed s (survey_of-surveyed file allowed s e)
+    survey_fields-length file allowed s (survey_of-survey_fields file allowed s e)
 
 -- ---- the rows are those of the file
 
@@ -245,7 +247,7 @@ are_rows lost file (p ∷ ps) = (refl, are_rows lost file ps)
 pub survey_of-rows : (file : List ℕ) (allowed : ℕ) (s : SurveyFields)
     → survey_of file allowed ≡ Ok s → AreRowsOf file s.frames
 survey_of-rows file allowed s e =
-    let parts = surveyed-parts file allowed s (survey_of-surveyed file allowed s e) in
+    let parts = survey_fields-parts file allowed s (survey_of-survey_fields file allowed s e) in
     subst (λ (t : SurveyFields). AreRowsOf file t.frames) parts.2
     (subst (AreRowsOf file) (sym (told_rows file parts.0))
     (are_rows (is_lost_at (told_from file parts.0).frames) file (frames_from file parts.0)))

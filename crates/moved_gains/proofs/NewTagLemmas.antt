@@ -17,7 +17,7 @@ use Rattle.moved_gains.specs.TagPlace.{retagged_fields, retagged_piece, stands_b
 use Rattle.moved_gains.specs.TagPlace.{stands_behind, tag_block, tag_length, tag_offset}
 use Rattle.moved_gains.specs.TagReading.{file_tag, longest_tag, tag_of_block, tag_result_in_file}
 use Rattle.moved_gains.specs.declared.tag_fault.FileTagFault.TheVariants.{TooLarge}
-use Rattle.sync_survey.proofs.SurveyPartsLemmas.{IsRead, surveyed-parts, told_from}
+use Rattle.sync_survey.proofs.SurveyPartsLemmas.{IsRead, survey_fields-parts, told_from}
 use Rattle.sync_survey.specs.{Faults.{survey_fields, SurveyFields}, declared.places.Piece.Piece}
 use Rattle.sync_survey.specs.declared.places.Start.{Start}
 use Rattle.tag_blocks.proofs.BlocksLemmas.{block_front-least}
@@ -93,7 +93,7 @@ pub tagged-again : (file block : List ℕ) (allowed : ℕ) (s : SurveyFields)
     → survey_fields file allowed ≡ Ok s → s.junk ≡ s.first → block_front block
     ≡ Some (record { kind = Ape; length = length block }) → HasNewTag file block s
 tagged-again file block allowed s e clean is =
-    let parts = surveyed-parts file allowed s e in
+    let parts = survey_fields-parts file allowed s e in
     subst (HasNewTag file block) parts.2
     (has-new file allowed parts.0 parts.1 (no_junk-start s file parts.0 parts.2 clean) block is)
 
@@ -172,6 +172,6 @@ bytes_from file bytes allowed start read no_junk =
 pub tagged-bytes : (file bytes : List ℕ) (allowed : ℕ) (s : SurveyFields)
     → survey_fields file allowed ≡ Ok s → s.junk ≡ s.first → AreTaggedBytes file bytes s
 tagged-bytes file bytes allowed s e clean =
-    let parts = surveyed-parts file allowed s e in
+    let parts = survey_fields-parts file allowed s e in
     subst (AreTaggedBytes file bytes) parts.2
     (bytes_from file bytes allowed parts.0 parts.1 (no_junk-start s file parts.0 parts.2 clean))

@@ -3,7 +3,7 @@ use Rattle.std.proofs.Common.{ap, arith, drop, inl, inr, length, length-append, 
 use Rattle.std.proofs.Common.{refl, Some, sym, ℕ, ◌+◌, ◌∙◌, ◌∷◌, ◌≡◌, ◌≤◌}
 use Rattle.moved_gains.proofs.WholeFileLemmas.{front_end-is}
 use Rattle.sync_survey.proofs.ItemListLemmas.{items-length, kept_items}
-use Rattle.sync_survey.proofs.RunsLemmas.{IsItemOf, run-ends, run-next}
+use Rattle.sync_survey.proofs.RunsLemmas.{IsItemOf, item_run-ends, item_run-next}
 use Rattle.sync_survey.proofs.StartLemmas.{start-first, start-front}
 use Rattle.sync_survey.proofs.SurveyPartsLemmas.{frames_from, IsRead}
 use Rattle.sync_survey.{proofs.WalkLemmas.{first_item, reach-end, ReachesTo}, specs.Items.size_of}
@@ -45,11 +45,11 @@ has_stream file allowed start read =
     let later = later_run file start in
     let begins = start-first file start read.start_is in
     let there = first_item file start.first begins.frame.is begins.frame.within in
-    let stream = run-next Stream file at item there in
+    let stream = item_run-next Stream file at item there in
     let items : List PlacedItem = record { offset = at; item = item } ∷ later.items in
     let bytes = bytes_of_items file items in
     let ends : AreEndToEnd Stream file at items later.stop =
-    (refl, there, run-ends Stream file (at + size_of item)) in
+    (refl, there, item_run-ends Stream file (at + size_of item)) in
     let reached : ReachesTo file start (length file) =
     reach-end file start (frames_from file start) (stream_run file start).stop refl read.end in
     record {

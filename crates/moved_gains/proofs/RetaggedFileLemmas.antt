@@ -10,8 +10,8 @@ use Rattle.moved_gains.proofs.ImageLemmas.{area-image, head-by, head_area-by, im
 use Rattle.moved_gains.proofs.ImageLemmas.{IsFileImage, read-image, stream-image, told-image}
 use Rattle.moved_gains.proofs.MovedItemLemmas.{AreKept, ends-append, item-moved, items-moved}
 use Rattle.moved_gains.proofs.MovedItemLemmas.{no_steps}
-use Rattle.moved_gains.proofs.MovedRowLemmas.{head_by, numbered-by, numbered_either, place-by}
-use Rattle.moved_gains.proofs.MovedRowLemmas.{row_by}
+use Rattle.moved_gains.proofs.MovedRowLemmas.{head_by, numbered_either, numbered_frames-by}
+use Rattle.moved_gains.proofs.MovedRowLemmas.{place-by, row_by}
 use Rattle.moved_gains.proofs.SplitBlockLemmas.{BeginBetween, blocks-before, blocks-behind}
 use Rattle.moved_gains.proofs.SplitBlockLemmas.{blocks-stay, IsOld, items-begin}
 use Rattle.moved_gains.proofs.{SplitItemLemmas.IsSplit, TagReadingLemmas.place-some}
@@ -24,8 +24,9 @@ use Rattle.moved_gains.specs.TagPlace.{tag_length, tag_offset}
 use Rattle.side_info.specs.declared.side.Side.{Side}
 use Rattle.sync_survey.proofs.ItemListLemmas.{blocks-by, ends-rise, frame_by, frames-by, piece_by}
 use Rattle.sync_survey.proofs.{ItemListLemmas.placed_by, OneItemLemmas.stands-only_at}
-use Rattle.sync_survey.proofs.RunsLemmas.{frames-append, item_of-whole}
-use Rattle.sync_survey.proofs.SurveyPartsLemmas.{IsRead, surveyed-parts, surveyed-told, told_from}
+use Rattle.sync_survey.proofs.RunsLemmas.{frames-append, whole_item_at-whole}
+use Rattle.sync_survey.proofs.SurveyPartsLemmas.{IsRead, survey_fields-parts, survey_fields-told}
+use Rattle.sync_survey.proofs.SurveyPartsLemmas.{told_from}
 use Rattle.sync_survey.specs.Faults.{class_from, stream_of_survey, survey_fields, SurveyFields}
 use Rattle.sync_survey.specs.MainData.{granule_lengths, payload_at, row_side, split_bits}
 use Rattle.sync_survey.specs.{MainData.{start_of_data, stream_frame, stream_frames}, Row.Row}
@@ -62,7 +63,8 @@ new_tag new bytes at there (inl none) =
 new_tag new bytes at there (inr is) =
     let n = length bytes in
     let least = block_front-least bytes (ape n) is in
-    let whole : whole_item_at Stream bytes 0 ≡ Some (Block (ape n)) = item_of-whole Stream bytes 0
+    let whole : whole_item_at Stream bytes 0 ≡ Some (Block (ape n)) =
+    whole_item_at-whole Stream bytes 0
     (Block (ape n)) (sym (stands-only_at bytes 0 (Block (ape n)) is)) refl (omega arith) in
     let all : take n (drop 0 bytes) ≡ bytes = take_all n bytes (omega arith) in
     let here = item-moved bytes new 0 at (Block (ape n)) whole (there ∙ sym all) in
@@ -164,7 +166,7 @@ module _ (file : List ℕ) (allowed : ℕ) (start : Start) (read : IsRead file a
   is_old None is = tt
   is_old (Some b) is =
       let place = place-some s b is in
-      let there = tag-there file allowed s b (surveyed-told file allowed start read) is in
+      let there = tag-there file allowed s b (survey_fields-told file allowed start read) is in
       let least = block_front-least _ _ there.front in
       (sym place.0, omega (arith, place.1, least, there.long))
 
@@ -225,7 +227,7 @@ module _ (file : List ℕ) (allowed : ℕ) (start : Start) (read : IsRead file a
     head = new_head;
     head_area = head_area-by to file new start.first
         (area-image to no_steps (λ at. true) file new start.first kept.0);
-    frames = ap₂ numbered_frames new_head new_clean.frames ∙ numbered-by to head all
+    frames = ap₂ numbered_frames new_head new_clean.frames ∙ numbered_frames-by to head all
         ∙ ap (map (frame_by to)) (sym (frames-is file allowed start read no_junk));
     images = subst (AreKept to file new) (sym (frames-is file allowed start read no_junk))
         (numbered_either (AreKept to file new) head start.first
@@ -260,7 +262,7 @@ module _ (file : List ℕ) (allowed : ℕ) (start : Start) (read : IsRead file a
 
   -- the survey is the one of the file with another tag
   pub survey-from : survey_fields new allowed ≡ Ok (retagged_fields n s)
-  survey-from = surveyed-told new allowed new_start new_read ∙ ap Ok new_told
+  survey-from = survey_fields-told new allowed new_start new_read ∙ ap Ok new_told
 
   -- the stream is the same
   pub stream-from : stream_of_survey new (retagged_fields n s) ≡ stream_of_survey file s
@@ -283,23 +285,23 @@ no_junk-start s file start told clean =
     ap (λ (t : SurveyFields). t.junk) told ∙ clean ∙ ap (λ (t : SurveyFields). t.first) (sym told)
 
 -- a file with another tag has the survey of the file, with that tag
-pub surveyed-retagged : (file bytes : List ℕ) (allowed : ℕ) (s : SurveyFields)
+pub survey_fields-retagged_fields : (file bytes : List ℕ) (allowed : ℕ) (s : SurveyFields)
     → survey_fields file allowed ≡ Ok s → s.junk ≡ s.first → IsTagBytes bytes
     → survey_fields (file_with_tag bytes s file) allowed ≡ Ok (retagged_fields (length bytes) s)
-surveyed-retagged file bytes allowed s e clean are =
-    let parts = surveyed-parts file allowed s e in
+survey_fields-retagged_fields file bytes allowed s e clean are =
+    let parts = survey_fields-parts file allowed s e in
     subst (λ t. survey_fields (file_with_tag bytes t file) allowed
     ≡ Ok (retagged_fields (length bytes) t))
     parts.2 (survey-from file allowed parts.0 parts.1 (no_junk-start s file parts.0 parts.2 clean)
     bytes are)
 
 -- The stream of a file with another tag is the same.
-pub stream-retagged : (file bytes : List ℕ) (allowed : ℕ) (s : SurveyFields)
+pub stream-retagged_fields : (file bytes : List ℕ) (allowed : ℕ) (s : SurveyFields)
     → survey_fields file allowed ≡ Ok s → s.junk ≡ s.first → IsTagBytes bytes
     → stream_of_survey (file_with_tag bytes s file) (retagged_fields (length bytes) s)
     ≡ stream_of_survey file s
-stream-retagged file bytes allowed s e clean are =
-    let parts = surveyed-parts file allowed s e in
+stream-retagged_fields file bytes allowed s e clean are =
+    let parts = survey_fields-parts file allowed s e in
     subst (λ t. stream_of_survey (file_with_tag bytes t file) (retagged_fields (length bytes) t)
     ≡ stream_of_survey file t) parts.2 (stream-from file allowed
     parts.0 parts.1 (no_junk-start s file parts.0 parts.2 clean) bytes are)

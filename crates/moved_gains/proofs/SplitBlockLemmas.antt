@@ -4,7 +4,7 @@ use Rattle.std.proofs.Common.{Option, option_to_list, refl, Some, true, ℕ, [],
 use Rattle.std.proofs.{Common.{◌∷◌, ◌≡◌, ◌≤◌}, lemmas.Bool.{le-leb, le-ltb, lt-leb, lt-ltb}}
 use Rattle.std.{proofs.lemmas.List.Elements.filter-append, specs.List.cons_option}
 use Rattle.moved_gains.specs.TagPlace.{stands_before, stands_behind, tag_length, tag_offset}
-use Rattle.sync_survey.proofs.{ItemListLemmas.{ends-rise, piece_by}, RunsLemmas.item_of-is}
+use Rattle.sync_survey.proofs.{ItemListLemmas.{ends-rise, piece_by}, RunsLemmas.whole_item_at-is}
 use Rattle.sync_survey.specs.{Faults.SurveyFields, Items.size_of}
 use Rattle.sync_survey.specs.Runs.{AreEndToEnd, block_of_item, blocks_of, PlacedItem}
 use Rattle.sync_survey.specs.declared.{items.Item.{Item, TheVariants.Block}, places.Piece.Piece}
@@ -32,7 +32,7 @@ pub items-begin : (file : List ℕ) (from : ℕ) (ps : List PlacedItem) (to : �
 items-begin file from [] to ends = tt
 items-begin file from (p ∷ ps) to ends =
     let size = size_of p.item in
-    let some = (item_of-is Stream file p.offset p.item ends.1).some in
+    let some = (whole_item_at-is Stream file p.offset p.item ends.1).some in
     let rise = ends-rise Stream file (p.offset + size) ps to ends.2 in
     begin_more from to p.offset p.item (blocks_of ps) (omega (arith, ends.0))
     (omega (arith, some, rise))

@@ -200,17 +200,17 @@ last_each head all n (r ∷ q ∷ rows) =
     ∙ last_each head all (n + 1) (q ∷ rows) ∙ sym (last_more r q rows)
 last_each head all n _ = refl
 
-last_marked : (head : Option Head) (rows : List Row)
+last_end-marked_rows : (head : Option Head) (rows : List Row)
     → last_end (marked_rows head rows) ≡ last_end rows
 unfolding marked_rows
-last_marked head rows = last_each head rows 0 rows
+last_end-marked_rows head rows = last_each head rows 0 rows
 
-last_numbered : (file : List ℕ) (head : Option Head) (p : PlacedFrame) (rest : List PlacedFrame)
-    → ((numbered_frames head (p ∷ rest) ≡ []) → ⊥)
+last_end-numbered_frames : (file : List ℕ) (head : Option Head) (p : PlacedFrame)
+    (rest : List PlacedFrame) → ((numbered_frames head (p ∷ rest) ≡ []) → ⊥)
     → last_end (rows_of file (numbered_frames head (p ∷ rest))) ≡ stop_of (final p rest)
-last_numbered file None p rest some = last_placed file p rest
-last_numbered file (Some head) p [] some = absurd (some refl)
-last_numbered file (Some head) p (q ∷ qs) some = last_placed file q qs
+last_end-numbered_frames file None p rest some = last_placed file p rest
+last_end-numbered_frames file (Some head) p [] some = absurd (some refl)
+last_end-numbered_frames file (Some head) p (q ∷ qs) some = last_placed file q qs
 
 -- the last frame of the survey is the last of all, which may be after a head
 pub last-told : (file : List ℕ) (head : Option Head) (p : PlacedFrame) (rest : List PlacedFrame)
@@ -218,5 +218,5 @@ pub last-told : (file : List ℕ) (head : Option Head) (p : PlacedFrame) (rest :
     → last_end (marked_rows head (rows_of file (numbered_frames head (p ∷ rest))))
     ≡ stop_of (final p rest)
 last-told file head p rest some =
-    last_marked head (rows_of file (numbered_frames head (p ∷ rest)))
-    ∙ last_numbered file head p rest some
+    last_end-marked_rows head (rows_of file (numbered_frames head (p ∷ rest)))
+    ∙ last_end-numbered_frames file head p rest some

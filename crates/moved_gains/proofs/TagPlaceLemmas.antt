@@ -18,13 +18,14 @@ use Rattle.moved_gains.{proofs.WrittenLemmas.AreSized, specs.{Edited.is_lost_at,
 use Rattle.moved_gains.specs.Moving.{row_end}
 use Rattle.moved_gains.specs.TagPlace.{is_tag, last_end, tag_block, tag_length, tag_offset}
 use Rattle.requests.specs.declared.shift.Steps.{Steps}
-use Rattle.side_info.proofs.FrameLemmas.{length-frame_with, shaped-side_in}
+use Rattle.side_info.proofs.FrameLemmas.{length-frame_with_side, shaped-side_in}
 use Rattle.side_info.specs.Frame.{frame_with_side, side_in}
 use Rattle.sync_survey.proofs.ItemListLemmas.{ends-stream}
 use Rattle.sync_survey.proofs.ItemsLemmas.{header_front-in_range, stands-at}
-use Rattle.sync_survey.proofs.RunsLemmas.{IsItemOf, item_of-is, run-ends}
+use Rattle.sync_survey.proofs.RunsLemmas.{IsItemOf, item_run-ends, whole_item_at-is}
 use Rattle.sync_survey.proofs.SurveyLemmas.{overhead-within}
-use Rattle.sync_survey.proofs.SurveyPartsLemmas.{frames_from, IsRead, surveyed-parts, told_from}
+use Rattle.sync_survey.proofs.SurveyPartsLemmas.{frames_from, IsRead, survey_fields-parts}
+use Rattle.sync_survey.proofs.SurveyPartsLemmas.{told_from}
 use Rattle.sync_survey.specs.{Faults.{survey_fields, SurveyFields}, Items.{item_at, size_of}}
 use Rattle.sync_survey.specs.{MainData.{marked_row, marked_rows, row_of, rows_of}, Row.Row}
 use Rattle.sync_survey.specs.Runs.{AreEndToEnd, blocks_of, frame_of_item, frames_of, item_run}
@@ -55,7 +56,7 @@ module _ (lost : ℕ → Bool) (file : List ℕ) where
         length-take-le size (drop at file) (omega (arith, here.within, length-drop at file)) in
         let s = side_in h (drop at file) in
         let kept : length (frame_with_side h (moved_side (steps at) s) frame) ≡ length frame =
-        length-frame_with h (moved_side (steps at) s) frame (IsClass-class_of h fields)
+        length-frame_with_side h (moved_side (steps at) s) frame (IsClass-class_of h fields)
         (IsShaped-moved (steps at) s (shaped-side_in h (drop at file)))
         (omega (arith, overhead-within h fields, long)) in
         by_lost b frame (frame_with_side h (moved_side (steps at) s) frame) size long (kept ∙ long)
@@ -76,7 +77,8 @@ module _ (lost : ℕ → Bool) (file : List ℕ) where
         → AreEndToEnd part file from ps to → AreSized steps file (by (frames_of ps))
     items_sized part from [] to ends = tt
     items_sized part from (p ∷ ps) to ends =
-        sized_more part p.offset p.item (frames_of ps) (item_of-is part file p.offset p.item ends.1)
+        sized_more part p.offset p.item (frames_of ps)
+        (whole_item_at-is part file p.offset p.item ends.1)
         (items_sized part (p.offset + size_of p.item) ps to ends.2)
 
   -- ---- the frames before a block, and those after it
@@ -113,7 +115,7 @@ module _ (lost : ℕ → Bool) (file : List ℕ) where
         all = split.frames;
         front = items_end lost file Stream from split.front b.offset split.before;
         rest = items_end lost file Stream (b.offset + b.block.length) split.rest to split.behind;
-        some = (item_of-is Stream file b.offset (Block b.block)
+        some = (whole_item_at-is Stream file b.offset (Block b.block)
             (found_item Stream file from ps to b ends e)).some;
       }
 
@@ -164,9 +166,10 @@ pub record StandsSomewhere (steps : ℕ → Steps) (file : List ℕ) (s : Survey
   pub some : 0 < length s.frames
   pub place : IsInFront s ⊎ IsAmong s
 
-marked_long : (head : Option Head) (rows : List Row) → length (marked_rows head rows) ≡ length rows
+length-marked_rows : (head : Option Head) (rows : List Row)
+    → length (marked_rows head rows) ≡ length rows
 unfolding marked_rows
-marked_long head rows =
+length-marked_rows head rows =
     length-map (enumerate_from 0 rows) (λ (p : ℕ × Row). marked_row head rows p.0 p.1)
     ∙ length-enumerate_from 0 rows
 
@@ -205,7 +208,7 @@ module _ (steps : ℕ → Steps) (file : List ℕ) (allowed : ℕ) (start : Star
   has = has_stream file allowed start read
 
   later_ends : AreEndToEnd Stream file (first + size) later.items later.stop
-  later_ends = run-ends Stream file (first + size)
+  later_ends = item_run-ends Stream file (first + size)
 
   stop_within : later.stop ≤ length file
   stop_within = omega (arith, has.stop)
@@ -284,7 +287,7 @@ module _ (steps : ℕ → Steps) (file : List ℕ) (allowed : ℕ) (start : Star
 
   frames_some : 0 < length s.frames
   frames_some = some_frame s.frames (frames_from file start)
-      (marked_long head (rows_of file (frames_from file start))
+      (length-marked_rows head (rows_of file (frames_from file start))
       ∙ length-map (frames_from file start) (row_of file)) read.end
 
   last_by : (rows : List Row) → rows ≡ s.frames → EndBy first rows (length file) → 0 < length rows
@@ -315,7 +318,7 @@ module _ (steps : ℕ → Steps) (file : List ℕ) (allowed : ℕ) (start : Star
       → IsInFront s ⊎ IsApart s
   place_by (Some b) y front_is later_is is =
       let tag = place-some s b is in
-      let ends = ends-stream Front file 0 front.items front.stop (run-ends Front file 0) in
+      let ends = ends-stream Front file 0 front.items front.stop (item_run-ends Front file 0) in
       let cut = items_cut lost file 0 front.items b front.stop ends front_is in
       let last =
       end_rises (b.offset + b.block.length) (rows_by lost file cut.behind) front.stop cut.rest in
@@ -360,13 +363,13 @@ module _ (steps : ℕ → Steps) (file : List ℕ) (allowed : ℕ) (start : Star
 pub stands_somewhere : (steps : ℕ → Steps) (file : List ℕ) (allowed : ℕ) (s : SurveyFields)
     → survey_fields file allowed ≡ Ok s → StandsSomewhere steps file s
 stands_somewhere steps file allowed s e =
-    let parts = surveyed-parts file allowed s e in
+    let parts = survey_fields-parts file allowed s e in
     subst (StandsSomewhere steps file) parts.2 (stands steps file allowed parts.0 parts.1)
 
 -- in every surveyed file no frame begins where the tag begins
 pub stands_apart : (steps : ℕ → Steps) (file : List ℕ) (allowed : ℕ) (s : SurveyFields)
     → survey_fields file allowed ≡ Ok s → IsInFront s ⊎ IsApart s
 stands_apart steps file allowed s e =
-    let parts = surveyed-parts file allowed s e in
+    let parts = survey_fields-parts file allowed s e in
     subst (λ (t : SurveyFields). IsInFront t ⊎ IsApart t)
     parts.2 (apart_place steps file allowed parts.0 parts.1)

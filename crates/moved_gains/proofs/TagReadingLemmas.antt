@@ -2,8 +2,8 @@
 use Rattle.std.proofs.Common.{ap, arith, drop, Err, length, List, ltb, None, Ok, refl, Result, Some}
 use Rattle.std.proofs.Common.{subst, sym, take, true, ℕ, ◌+◌, ◌<◌, ◌∙◌, ◌≡◌, ◌≤◌}
 use Rattle.std.proofs.lemmas.Bool.{lt-ltb}
-use Rattle.moved_gains.proofs.FoundTagLemmas.{IsTagThere, survey_of-surveyed, surveyed-length}
-use Rattle.moved_gains.proofs.FoundTagLemmas.{tag-there}
+use Rattle.moved_gains.proofs.FoundTagLemmas.{IsTagThere, survey_fields-length}
+use Rattle.moved_gains.proofs.FoundTagLemmas.{survey_of-survey_fields, tag-there}
 use Rattle.moved_gains.specs.TagPlace.{tag_block, tag_length, tag_offset}
 use Rattle.moved_gains.specs.TagReading.{empty_tag, file_tag, IsBlockCause, IsFileSurvey}
 use Rattle.moved_gains.specs.TagReading.{IsTagCause, longest_tag, RefusesTag, tag_of_block}
@@ -41,13 +41,13 @@ module _ (name : List ℕ) (files : Files) (s : SurveyFields) (surveyed : (bytes
   pub told-there : (bytes : List ℕ) → Holds files name bytes → IsTagThere bytes b
   told-there bytes holds =
       let is = surveyed bytes holds in
-      tag-there bytes is.0 s b (survey_of-surveyed bytes is.0 s is.1) tag
+      tag-there bytes is.0 s b (survey_of-survey_fields bytes is.0 s is.1) tag
 
   -- the file is as long as the survey says
   pub told-length : (bytes : List ℕ) → Holds files name bytes → length bytes ≡ s.length
   told-length bytes holds =
       let is = surveyed bytes holds in
-      surveyed-length bytes is.0 s (survey_of-surveyed bytes is.0 s is.1)
+      survey_fields-length bytes is.0 s (survey_of-survey_fields bytes is.0 s is.1)
 
   -- a tag that is too long is refused
   pub too_large-refused : longest_tag < b.block.length

@@ -5,10 +5,11 @@ use Rattle.std.proofs.Common.{length-drop, List, map, Ok, refl, Some, subst, sym
 use Rattle.std.proofs.Common.{◌+◌, ◌-◌, ◌∙◌, ◌∷◌, ◌≡◌, ◌≤◌, ◌⊎◌}
 use Rattle.std.proofs.lemmas.List.{drop-drop, drop_at, length-take-le, map-append, take_at}
 use Rattle.bit_fields.specs.Bits.{AreBytes}
-use Rattle.moved_gains.proofs.{EditedSurveyLemmas.surveyed-edited, LostOffsetLemmas.EndBy}
+use Rattle.moved_gains.proofs.{EditedSurveyLemmas.survey_fields-edited_file, LostOffsetLemmas.EndBy}
 use Rattle.moved_gains.proofs.MovedAgainLemmas.{AllTogether, AreMovedBy, ends_again, IsTogether}
 use Rattle.moved_gains.proofs.{MovedAgainLemmas.{moved_again, stood}, MovingLemmas.moved_to}
-use Rattle.moved_gains.proofs.{NewTagLemmas.tagged-again, RetaggedFileLemmas.surveyed-retagged}
+use Rattle.moved_gains.proofs.NewTagLemmas.{tagged-again}
+use Rattle.moved_gains.proofs.RetaggedFileLemmas.{survey_fields-retagged_fields}
 use Rattle.moved_gains.proofs.RowLemmas.{each_before, each_behind}
 use Rattle.moved_gains.proofs.TagPlaceLemmas.{IsAmong, IsInFront, stands_somewhere, StandsSomewhere}
 use Rattle.moved_gains.proofs.TaggedByteLemmas.{follows, stays}
@@ -57,7 +58,7 @@ module _ (one : ℕ → Steps) (file : List ℕ) (allowed : ℕ) (s : SurveyFiel
   to x = retagged_offset size m (x - gap)
 
   moved_of : survey_fields (edited_file one file s) allowed ≡ Ok m
-  moved_of = surveyed-edited one file allowed s are is
+  moved_of = survey_fields-edited_file one file allowed s are is
 
   clean : m.junk ≡ m.first
   unfolding edited_survey
@@ -65,7 +66,8 @@ module _ (one : ℕ → Steps) (file : List ℕ) (allowed : ℕ) (s : SurveyFiel
 
   -- the changed file has the survey of the edited file with another tag
   pub new_is : survey_fields new allowed ≡ Ok new_survey
-  new_is = surveyed-retagged (edited_file one file s) block allowed m moved_of clean (inr front)
+  new_is = survey_fields-retagged_fields (edited_file one file s) block allowed m moved_of clean
+      (inr front)
 
   -- it has the new tag
   pub has_block : HasNewTag (edited_file one file s) block m

@@ -11,10 +11,11 @@ use Rattle.moved_gains.specs.TagPlace.{file_with_tag, retagged_offset, tag_lengt
 use Rattle.sync_survey.specs.Faults.{SurveyFields}
 
 -- the file with another tag is what is before its tag, the new bytes, and what is after the old tag
-pub with_tag-is : (bytes : List ℕ) (s : SurveyFields) (file : List ℕ) → file_with_tag bytes s file
+pub file_with_tag-is : (bytes : List ℕ) (s : SurveyFields) (file : List ℕ)
+    → file_with_tag bytes s file
     ≡ take (tag_offset s) file ++ (bytes ++ drop (tag_offset s + tag_length s) file)
 unfolding file_with_tag
-with_tag-is bytes s file = refl
+file_with_tag-is bytes s file = refl
 
 module _ (n : ℕ) (s : SurveyFields) where
   -- the offset of what was before the tag stays
@@ -41,7 +42,7 @@ module _ (bytes file : List ℕ) (s : SurveyFields)
   -- the file with another tag is what is before its
   -- tag, the new bytes, and what is after the old tag
   pub new-is : new ≡ take (tag_offset s) file ++ (bytes ++ later)
-  new-is = with_tag-is bytes s file
+  new-is = file_with_tag-is bytes s file
 
   -- what is before the tag is as long as its offset
   pub front-long : length (take (tag_offset s) file) ≡ tag_offset s

@@ -9,7 +9,7 @@ use Rattle.std.{proofs.lemmas.{Bool.{ltb-false, ltb-true}, List.append-nil}, spe
 use Rattle.std.specs.{Option.option_or, Prelude.{int_le, MatchBool}}
 use Rattle.frame_header.specs.{Fields.ClassFields, Tables.{class_of, granules_of}}
 use Rattle.frame_header.specs.declared.version.Version.{Version}
-use Rattle.moved_gains.proofs.ExtremesLemmas.{joined-extremes, moving-cons, moving-nil}
+use Rattle.moved_gains.proofs.ExtremesLemmas.{joined_extremes-append, moving-cons, moving-nil}
 use Rattle.moved_gains.proofs.{MovedFrameLemmas.gain_fits, MovedGainLemmas.{is_stuck, wrapped-free}}
 use Rattle.moved_gains.specs.{Course.{constant_steps, equal_steps}, Edited.row_out_of_range}
 use Rattle.moved_gains.specs.GainExtremes.{extremes, extremes_of_both, gain_that_moves}
@@ -64,16 +64,16 @@ AreSmall [] = Unit {0}
 AreSmall (gain ∷ gains) = (gain < 256) × AreSmall gains
 
 -- upward the greatest gain decides, and downward the least
-takes_up : (g : Gains) (n : ℕ) → takes_steps (Some g) (pos n) ≡ leb n (255 - g.greatest)
-takes_up g n = by_least g.least
+takes_steps-up : (g : Gains) (n : ℕ) → takes_steps (Some g) (pos n) ≡ leb n (255 - g.greatest)
+takes_steps-up g n = by_least g.least
   where
     by_least : (a : ℕ)
         → (int_le (neg_ℤ (pos a)) (pos n) && leb n (255 - g.greatest)) ≡ leb n (255 - g.greatest)
     by_least zero = ap (λ b. b && leb n (255 - g.greatest)) (le-leb 0 n (omega arith))
     by_least (suc a) = refl
 
-takes_down : (g : Gains) (n : ℕ) → takes_steps (Some g) (negsuc n) ≡ ltb n g.least
-takes_down g n = by_least g.least
+takes_steps-down : (g : Gains) (n : ℕ) → takes_steps (Some g) (negsuc n) ≡ ltb n g.least
+takes_steps-down g n = by_least g.least
   where
     by_least : (a : ℕ) → (int_le (neg_ℤ (pos a)) (negsuc n) && true) ≡ ltb n a
     by_least zero = sym (le-ltb n 0 (omega arith))
@@ -84,16 +84,16 @@ takes_down g n = by_least g.least
         (λ is. le-leb n a (omega (arith, ltb-true n (suc a) is)))
 
 -- one gain takes steps exactly if it doesn't leave the range by them
-pub takes-one : (gain : ℕ) (steps : ℤ) → gain < 256
+pub takes_steps-one : (gain : ℕ) (steps : ℤ) → gain < 256
     → takes_steps (Some (record { least = gain; greatest = gain })) steps ≡ inside steps gain
-takes-one gain (pos n) small =
-    takes_up (record { least = gain; greatest = gain }) n
+takes_steps-one gain (pos n) small =
+    takes_steps-up (record { least = gain; greatest = gain }) n
     ∙ (elim (ltb 255 (gain + n)) as (λ b. ltb 255 (gain + n) ≡ b → leb n (255 - gain) ≡ not b) [
       | true ↦ λ is. lt-leb n (255 - gain) (omega (arith, ltb-true 255 (gain + n) is, small))
       | false ↦ λ is. le-leb n (255 - gain) (omega (arith, ltb-false 255 (gain + n) is, small))
     ] refl)
-takes-one gain (negsuc n) small =
-    takes_down (record { least = gain; greatest = gain }) n
+takes_steps-one gain (negsuc n) small =
+    takes_steps-down (record { least = gain; greatest = gain }) n
     ∙ (elim (ltb gain (suc n)) as (λ b. ltb gain (suc n) ≡ b → ltb n gain
     ≡ not (is_out_of_range (cond b (negsuc (suc n - suc gain)) (pos (gain - suc n))))) [
       | true ↦ λ is. le-ltb n gain (omega (arith, ltb-true gain (suc n) is))
@@ -104,39 +104,40 @@ takes-one gain (negsuc n) small =
 -- ---- many gains
 
 -- the gains of two lists together take the steps that both lists take
-pub takes-joined : (f g : Option Gains) (steps : ℤ)
+pub takes_steps-joined_extremes : (f g : Option Gains) (steps : ℤ)
     → takes_steps (joined_extremes f g) steps ≡ (takes_steps f steps && takes_steps g steps)
-takes-joined None g steps = refl
-takes-joined (Some f) None steps = and_true (takes_steps (Some f) steps)
-takes-joined (Some f) (Some g) (pos n) =
+takes_steps-joined_extremes None g steps = refl
+takes_steps-joined_extremes (Some f) None steps = and_true (takes_steps (Some f) steps)
+takes_steps-joined_extremes (Some f) (Some g) (pos n) =
     let least : 255 - max f.greatest g.greatest ≡ min (255 - f.greatest) (255 - g.greatest) =
     omega arith in
-    takes_up (record { least = min f.least g.least; greatest = max f.greatest g.greatest }) n
+    takes_steps-up (record { least = min f.least g.least; greatest = max f.greatest g.greatest }) n
     ∙ ap (leb n) least ∙ leb-min n (255 - f.greatest) (255 - g.greatest)
-    ∙ sym (ap₂ (λ (a b : Bool). a && b) (takes_up f n) (takes_up g n))
-takes-joined (Some f) (Some g) (negsuc n) =
-    takes_down (record { least = min f.least g.least; greatest = max f.greatest g.greatest }) n
+    ∙ sym (ap₂ (λ (a b : Bool). a && b) (takes_steps-up f n) (takes_steps-up g n))
+takes_steps-joined_extremes (Some f) (Some g) (negsuc n) =
+    takes_steps-down (record { least = min f.least g.least; greatest = max f.greatest g.greatest })
+    n
     ∙ ltb-min n f.least g.least
-    ∙ sym (ap₂ (λ (a b : Bool). a && b) (takes_down f n) (takes_down g n))
+    ∙ sym (ap₂ (λ (a b : Bool). a && b) (takes_steps-down f n) (takes_steps-down g n))
 
 extremes-one : (gain : ℕ) → extremes (gain ∷ []) ≡ Some (record { least = gain; greatest = gain })
 unfolding extremes
 extremes-one gain = refl
 
-takes-nil : (steps : ℤ) → takes_steps (extremes []) steps ≡ true
+takes_steps-nil : (steps : ℤ) → takes_steps (extremes []) steps ≡ true
 unfolding extremes
-takes-nil steps = refl
+takes_steps-nil steps = refl
 
 -- the least and the greatest of gains take steps
 -- exactly if none of the gains leaves the range by them
-pub takes-all : (gains : List ℕ) (steps : ℤ) → AreSmall gains
+pub takes_steps-all : (gains : List ℕ) (steps : ℤ) → AreSmall gains
     → takes_steps (extremes gains) steps ≡ all_inside steps gains
-takes-all [] steps small = takes-nil steps
-takes-all (gain ∷ gains) steps small =
-    ap (λ g. takes_steps g steps) (sym (joined-extremes (gain ∷ []) gains))
-    ∙ takes-joined (extremes (gain ∷ [])) (extremes gains) steps
+takes_steps-all [] steps small = takes_steps-nil steps
+takes_steps-all (gain ∷ gains) steps small =
+    ap (λ g. takes_steps g steps) (sym (joined_extremes-append (gain ∷ []) gains))
+    ∙ takes_steps-joined_extremes (extremes (gain ∷ [])) (extremes gains) steps
     ∙ ap₂ (λ (a b : Bool). a && b) (ap (λ g. takes_steps g steps) (extremes-one gain)
-    ∙ takes-one gain steps small.0) (takes-all gains steps small.1)
+    ∙ takes_steps-one gain steps small.0) (takes_steps-all gains steps small.1)
 
 and_assoc : (a b c : Bool) → (a && (b && c)) ≡ ((a && b) && c)
 and_assoc true b c = refl
@@ -386,18 +387,19 @@ mono_moving class (row ∷ rows) same one fits =
 pub take_steps : (rows : List Row) → AreSidesFitting rows → TakeSteps rows
 take_steps rows fits = record {
   apart_is = λ left right. rows_stuck left right rows
-      ∙ sym (ap₂ (λ (a b : Bool). not (a && b)) (takes-all (moving_gains 0 rows) left left_small)
-      (takes-all (moving_gains 1 rows) right right_small));
+      ∙ sym (ap₂ (λ (a b : Bool). not (a && b))
+      (takes_steps-all (moving_gains 0 rows) left left_small)
+      (takes_steps-all (moving_gains 1 rows) right right_small));
   both = λ steps. rows_stuck steps steps rows ∙ ap not (sym (on_both steps));
   left = λ steps. rows_stuck steps (pos 0) rows
       ∙ ap (λ b. not (all_inside steps (moving_gains 0 rows) && b))
       (inside-none (moving_gains 1 rows) right_small)
       ∙ ap not (sym (and_true (all_inside steps (moving_gains 0 rows)))
-      ∙ sym (takes-all (moving_gains 0 rows) steps left_small));
+      ∙ sym (takes_steps-all (moving_gains 0 rows) steps left_small));
   right = λ steps. rows_stuck (pos 0) steps rows
       ∙ ap (λ b. not (b && all_inside steps (moving_gains 1 rows)))
       (inside-none (moving_gains 0 rows) left_small)
-      ∙ ap not (sym (takes-all (moving_gains 1 rows) steps right_small));
+      ∙ ap not (sym (takes_steps-all (moving_gains 1 rows) steps right_small));
   each = λ steps takes_all. each_stuck steps rows
       (λ at. and_parts (all_inside (steps at) (moving_gains 0 rows))
       (all_inside (steps at) (moving_gains 1 rows)) (sym (on_both (steps at)) ∙ takes_all at));
@@ -415,6 +417,6 @@ take_steps rows fits = record {
     on_both : (steps : ℤ) → takes_steps (extremes_of_both rows) steps
         ≡ (all_inside steps (moving_gains 0 rows) && all_inside steps (moving_gains 1 rows))
     on_both steps =
-        takes-all (moving_gains 0 rows ++ moving_gains 1 rows) steps
+        takes_steps-all (moving_gains 0 rows ++ moving_gains 1 rows) steps
         (small-append (moving_gains 0 rows) (moving_gains 1 rows) left_small right_small)
         ∙ inside-append steps (moving_gains 0 rows) (moving_gains 1 rows)

@@ -5,8 +5,8 @@ use Rattle.std.proofs.{Common.{[], ◌++◌, ◌+◌, ◌∙◌, ◌∷◌, ◌�
 use Rattle.std.specs.List.{cons_option}
 use Rattle.frame_header.specs.Fields.{HeaderFields}
 use Rattle.moved_gains.proofs.SplitItemLemmas.{cons-append}
-use Rattle.sync_survey.proofs.RunsLemmas.{item_of-is, item_of-past, item_of-whole, run-next}
-use Rattle.sync_survey.proofs.RunsLemmas.{run-only, run-stopped}
+use Rattle.sync_survey.proofs.RunsLemmas.{item_run-next, item_run-only, item_run-stopped_run}
+use Rattle.sync_survey.proofs.RunsLemmas.{whole_item_at-is, whole_item_at-past, whole_item_at-whole}
 use Rattle.sync_survey.specs.Items.{item_at, item_fits, size_of}
 use Rattle.sync_survey.specs.Runs.{AreEndToEnd, block_of_item, blocks_of, frame_of_item, frames_of}
 use Rattle.sync_survey.specs.Runs.{item_if_whole, item_run, ItemRun, PlacedItem, whole_item_at}
@@ -41,11 +41,11 @@ frame_first file at h ps p rest is ends e =
     let same : record { offset = at; header = h } ≡ p = cc in
     let stream : item_run Stream file at
     ≡ record { items = record { offset = at; item = Frame h } ∷ ps; stop = length file } =
-    run-only Stream file at (record { offset = at; item = Frame h } ∷ ps) (length file)
-    (refl, is, ends) (item_of-past Stream file (length file) (omega arith)) in
+    item_run-only Stream file at (record { offset = at; item = Frame h } ∷ ps) (length file)
+    (refl, is, ends) (whole_item_at-past Stream file (length file) (omega arith)) in
     let front : item_run Front file at ≡ record { items = []; stop = at } =
-    run-stopped Front file at
-    (not_in_front file at h (item_of-is Stream file at (Frame h) is).is) in
+    item_run-stopped_run Front file at
+    (not_in_front file at h (whole_item_at-is Stream file at (Frame h) is).is) in
     subst (λ (q : PlacedFrame). IsClean file at q rest (blocks_of ps)) same (record {
       front = ap (λ (r : ItemRun). r.stop) front;
       first = is;
@@ -59,7 +59,7 @@ passed : (file : List ℕ) (at : ℕ) (item : Item) (p : PlacedFrame) (rest : Li
     → IsClean file (at + size_of item) p rest blocks
     → IsClean file at p rest (cons_option (block_of_item at item) blocks)
 passed file at item p rest blocks is clean =
-    let front = run-next Front file at item is in
+    let front = item_run-next Front file at item is in
     record {
       front = ap (λ (r : ItemRun). r.stop) front ∙ clean.front;
       first = clean.first;
@@ -82,15 +82,15 @@ one_item : (file : List ℕ) (at : ℕ) (item : Item) (ps : List PlacedItem) (p 
     → IsClean file at p rest (cons_option (block_of_item at item) (blocks_of ps))
 one_item file at (Frame h) ps p rest is ends later e = frame_first file at h ps p rest is ends e
 one_item file at Free ps p rest is ends later e =
-    absurd (false≢true (item_of-is Stream file at Free is).belongs)
+    absurd (false≢true (whole_item_at-is Stream file at Free is).belongs)
 one_item file at End ps p rest is ends later e =
-    absurd (false≢true (item_of-is Stream file at End is).belongs)
+    absurd (false≢true (whole_item_at-is Stream file at End is).belongs)
 one_item file at Nothing ps p rest is ends later e =
-    absurd (false≢true (item_of-is Stream file at Nothing is).belongs)
+    absurd (false≢true (whole_item_at-is Stream file at Nothing is).belongs)
 one_item file at item ps p rest is ends later e =
-    let here = item_of-is Stream file at item is in
+    let here = whole_item_at-is Stream file at item is in
     passed file at item p rest (blocks_of ps)
-    (item_of-whole Front file at item here.is refl here.within) (later e)
+    (whole_item_at-whole Front file at item here.is refl here.within) (later e)
 
 -- the front ends at the first frame, and the stream from there has the others
 pub clean : (file : List ℕ) (from : ℕ) (ps : List PlacedItem) (p : PlacedFrame)
@@ -128,5 +128,5 @@ start_with p = record { front_end = p.offset; first = p }
 pub clean-start : (file : List ℕ) (p : PlacedFrame) (rest : List PlacedFrame) (blocks : List Piece)
     → IsClean file 0 p rest blocks → start_of file ≡ Ok (start_with p)
 clean-start file p rest blocks is =
-    let here = item_of-is Stream file p.offset (Frame p.header) is.first in
+    let here = whole_item_at-is Stream file p.offset (Frame p.header) is.first in
     start_by file p.offset p.header (front_end-is file ∙ is.front) here.is here.within

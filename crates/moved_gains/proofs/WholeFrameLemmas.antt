@@ -13,7 +13,7 @@ use Rattle.requests.specs.declared.shift.Steps.{Steps}
 use Rattle.side_info.proofs.{FrameLemmas.{IsRight, shaped-side_in}, SideLemmas.IsShaped}
 use Rattle.side_info.specs.{Frame.{frame_with_side, side_in}, declared.side.Side.Side}
 use Rattle.sync_survey.proofs.SurveyPartsLemmas.{all_faults-none_sound, frames_from, IsRead}
-use Rattle.sync_survey.proofs.SurveyPartsLemmas.{surveyed-parts, told_from}
+use Rattle.sync_survey.proofs.SurveyPartsLemmas.{survey_fields-parts, told_from}
 use Rattle.sync_survey.specs.Faults.{class_from, survey_fields, SurveyFields}
 use Rattle.sync_survey.specs.{MainData.{row_of, rows_of}, Row.Row, Walk.head_of}
 use Rattle.sync_survey.specs.declared.places.{PlacedFrame.PlacedFrame, Start.Start}
@@ -69,7 +69,7 @@ each_there to steps lost file new (p ∷ ps) all are right = (
 pub frames_there : (file : List ℕ) (allowed : ℕ) (s : SurveyFields) → AreBytes file
     → survey_fields file allowed ≡ Ok s → AreFramesOf file s.frames
 frames_there file allowed s all e =
-    let parts = surveyed-parts file allowed s e in
+    let parts = survey_fields-parts file allowed s e in
     subst (λ (t : SurveyFields). AreFramesOf file t.frames) parts.2 (from parts.0 parts.1)
   where
     from : (start : Start) → IsRead file allowed start

@@ -7,11 +7,11 @@ use Rattle.std.proofs.lemmas.Bool.{le-ltb, lt-ltb}
 use Rattle.std.{proofs.lemmas.List.{drop-drop, drop_at, length-take-le, take_at}, specs.List.find}
 use Rattle.moved_gains.proofs.{FoundTagLemmas.last_more, LostOffsetLemmas.EndBy}
 use Rattle.moved_gains.proofs.MovingLemmas.{behind_earlier, is_behind, IsBehind, moved_from}
-use Rattle.moved_gains.proofs.MovingLemmas.{moved_from-later, moved_to, written-edited}
+use Rattle.moved_gains.proofs.MovingLemmas.{moved_from-later, moved_to, written-edited_file}
 use Rattle.moved_gains.proofs.RowLemmas.{each_before}
 use Rattle.moved_gains.proofs.TagPlaceLemmas.{IsAmong, IsInFront, stands_somewhere, StandsSomewhere}
 use Rattle.moved_gains.proofs.{TagPlaceLemmas.tag_none, TagReadingLemmas.place-some}
-use Rattle.moved_gains.proofs.TaggedByteLemmas.{with_tag-is}
+use Rattle.moved_gains.proofs.TaggedByteLemmas.{file_with_tag-is}
 use Rattle.moved_gains.proofs.WrittenLemmas.{append_three, AreSized, around_tag, before_tag}
 use Rattle.moved_gains.proofs.WrittenLemmas.{IsSized, moved_split, moved_to-long, written-behind}
 use Rattle.moved_gains.proofs.WrittenLemmas.{written-none, written-split}
@@ -159,7 +159,8 @@ parted_by steps file s before behind place size own =
       place = place;
       own = own;
       tagged =
-          λ bytes. with_tag-is bytes m moved ∙ ap₂ (λ (a b : List ℕ). a ++ (bytes ++ b)) front rest;
+          λ bytes. file_with_tag-is bytes m moved
+          ∙ ap₂ (λ (a b : List ℕ). a ++ (bytes ++ b)) front rest;
     }
 
 module _ (steps : ℕ → Steps) (file : List ℕ) (allowed : ℕ) (s : SurveyFields)
@@ -168,7 +169,7 @@ module _ (steps : ℕ → Steps) (file : List ℕ) (allowed : ℕ) (s : SurveyFi
   known = stands_somewhere steps file allowed s is
 
   moved_is : edited_file steps file s ≡ take s.junk file ++ moved_from steps file s.first s.frames
-  moved_is = sym (written-edited steps file allowed s is)
+  moved_is = sym (written-edited_file steps file allowed s is)
 
   -- the tag is before the junk
   pub parted_front : IsInFront s
@@ -305,12 +306,13 @@ module _ (steps : ℕ → Steps) (file : List ℕ) (allowed : ℕ) (s : SurveyFi
       at (inr among) = among_case among
 
 -- what the second pass writes
-pub written-changed : (change : FileChange) (tag : Option NewTag) (file : List ℕ) (allowed : ℕ)
+pub written-file_with_change : (change : FileChange) (tag : Option NewTag) (file : List ℕ)
+    (allowed : ℕ)
     (s : SurveyFields) → IsNewTag s change tag → survey_fields file allowed ≡ Ok s
     → copied_bytes tag file 0 s.junk ++ bytes_written_from change.steps tag file s.first s.frames
     ≡ file_with_change change file s
 unfolding file_with_change
-written-changed change tag file allowed s new is = at change.tag tag new
+written-file_with_change change tag file allowed s new is = at change.tag tag new
   where
     none : s.junk - 0 ≡ s.junk
     none = omega arith
@@ -321,6 +323,6 @@ written-changed change tag file allowed s new is = at change.tag tag new
     at None None new =
         ap₂ (λ n (l : List ℕ). take n file ++ l) none
         (written-none change.steps file s.first s.frames)
-        ∙ written-edited change.steps file allowed s is
+        ∙ written-edited_file change.steps file allowed s is
     at (Some bytes) (Some t) new = tag_case change.steps file allowed s is t bytes new
     at _ _ new = absurd new

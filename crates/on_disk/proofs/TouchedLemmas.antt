@@ -40,10 +40,11 @@ touch_there old new name added = ap (λ touched. touched name) added
 module _ {T E : Type 0} (old mid new : Touched) (name : List ℕ)
     (added : mid ≡ with_touch old name true) (stays : new ≡ mid) where
   -- if a call succeeded that may have emptied the file, the name counts as emptied
-  pub touch_emptied : (r : Result T E) → OnOk r (Untold new ≡ with_empty_file (Untold old) name)
+  pub touch-with_empty_file : (r : Result T E)
+      → OnOk r (Untold new ≡ with_empty_file (Untold old) name)
   unfolding with_empty_file
-  touch_emptied (Ok x) = ap Untold (stays ∙ added)
-  touch_emptied (Err fault) = tt
+  touch-with_empty_file (Ok x) = ap Untold (stays ∙ added)
+  touch-with_empty_file (Err fault) = tt
 
   -- if that call failed, the name may have been touched
   pub touch_failed : (r : Result T E) → OnErr r (FailsToCreate name (Untold old) (Untold new))

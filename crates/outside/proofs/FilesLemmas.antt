@@ -237,11 +237,11 @@ appended_told (Untold touched) name more = refl
 appended_told (Told f) name more = refl
 
 -- a folder that may have touched any name still may have when it is written to
-pub untold_written : {E : Type 0} (r : Result ℕ E) (name bytes : List ℕ)
+pub untold_files-written : {E : Type 0} (r : Result ℕ E) (name bytes : List ℕ)
     → IfOk r (λ k. untold_files ≡ with_appended_bytes untold_files name (take k bytes))
 unfolding with_appended_bytes
-untold_written (Ok k) name bytes = refl
-untold_written (Err fault) name bytes = tt
+untold_files-written (Ok k) name bytes = refl
+untold_files-written (Err fault) name bytes = tt
 
 -- ---- which names are unchanged
 
@@ -308,11 +308,11 @@ appended_touches (Told f) name more =
 appended_touches (Untold touched) name more =
     λ other apart. touch_other touched name _ other (first_apart name other apart)
 
-tried_touches : (files : Files) (name : List ℕ)
+with_tried_create-touches : (files : Files) (name : List ℕ)
     → OnlyTouches (name ∷ []) files (with_tried_create files name)
 unfolding with_tried_create
-tried_touches (Told f) name = λ other apart. refl
-tried_touches (Untold touched) name =
+with_tried_create-touches (Told f) name = λ other apart. refl
+with_tried_create-touches (Untold touched) name =
     λ other apart. touch_other touched name true other (first_apart name other apart)
 
 -- a call to create a name that fails touches it alone
@@ -321,7 +321,8 @@ pub fails_touches : (old new : Files) (name : List ℕ) → FailsToCreate name o
 fails_touches old new name (inl same) =
     subst (λ files. OnlyTouches (name ∷ []) old files) (sym same) (touches_none (name ∷ []) old)
 fails_touches old new name (inr touched) =
-    subst (λ files. OnlyTouches (name ∷ []) old files) (sym touched) (tried_touches old name)
+    subst (λ files. OnlyTouches (name ∷ []) old files) (sym touched)
+    (with_tried_create-touches old name)
 
 -- a call to create a name that failed left files whose content is known
 pub fails_told : (f : Contents) (new : Files) (name : List ℕ) → FailsToCreate name (Told f) new

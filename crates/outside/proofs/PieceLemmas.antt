@@ -21,11 +21,11 @@ pub part_from : {X : Type 0} (m : ℕ) (xs : List X) → take (length xs - m) (d
 part_from m xs = take_all (length xs - m) (drop m xs) (omega (arith, length-drop m xs))
 
 -- files to which a prefix was appended, and then the next part of the bytes
-pub appended_then : (old before now : Files) (name bytes : List ℕ) (m n : ℕ)
+pub with_appended_bytes-then : (old before now : Files) (name bytes : List ℕ) (m n : ℕ)
     → before ≡ with_appended_bytes old name (take m bytes)
     → now ≡ with_appended_bytes before name (take n (drop m bytes))
     → now ≡ with_appended_bytes old name (take (m + n) bytes)
-appended_then old before now name bytes m n first then =
+with_appended_bytes-then old before now name bytes m n first then =
     then
     ∙ ap (λ files. with_appended_bytes files name (take n (drop m bytes))) first
     ∙ appended_twice old name (take m bytes) (take n (drop m bytes))

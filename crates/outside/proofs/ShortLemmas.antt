@@ -13,10 +13,10 @@ told_same : (f g : Contents) → Told f ≡ Told g → f ≡ g
 told_same f g is = cc
 
 -- known contents with an emptied name have no bytes at that name
-pub emptied_contents : (f new : Contents) (name : List ℕ) → Told new ≡ with_empty_file (Told f) name
-    → new ≡ with_file f name []
+pub with_empty_file-contents : (f new : Contents) (name : List ℕ)
+    → Told new ≡ with_empty_file (Told f) name → new ≡ with_file f name []
 unfolding with_empty_file
-emptied_contents f new name is = told_same _ _ is
+with_empty_file-contents f new name is = told_same _ _ is
 
 none-bytes : (o : Option (List ℕ)) → o ≡ None → unwrap_or o [] ≡ []
 none-bytes o is = ap (λ q. unwrap_or q []) is
@@ -26,7 +26,7 @@ pub created-new : (old new : MemFolder) (name : List ℕ) → contents_of old na
     → Told (contents_of new) ≡ with_empty_file (Told (contents_of old)) name
     → MakesCall old new Create → IsCreated old new name
 created-new old new name none made called =
-    let is = emptied_contents (contents_of old) (contents_of new) name made in
+    let is = with_empty_file-contents (contents_of old) (contents_of new) name made in
     let holds : mem_bytes new name ≡ [] = ap (λ (f : Contents). unwrap_or (f name) []) is
     ∙ ap (λ (o : Option (List ℕ)). unwrap_or o []) (with_file_here (contents_of old) name []) in
     let same : mem_bytes new name ≡ mem_bytes old name =

@@ -24,17 +24,17 @@ use Rattle.sync_survey.specs.{Faults.SurveyFields, Row.Row}
 
 -- ---- the bytes of all areas
 
-length-laid_from : (end start : ℕ) (ps : List FrameData) → end ≤ start
+length-laid_data_from : (end start : ℕ) (ps : List FrameData) → end ≤ start
     → CanDataBeLaidFrom end start ps
     → length (laid_data_from end start ps) + end ≡ areas_end start ps
-length-laid_from end start [] within fits = omega (arith, length-zeros (start - end), within)
-length-laid_from end start (p ∷ ps) within fits =
+length-laid_data_from end start [] within fits = omega (arith, length-zeros (start - end), within)
+length-laid_data_from end start (p ∷ ps) within fits =
     let gap = zeros (frame_data_start start p - end) in
     let more = laid_data_from (frame_data_end start p) (start + p.area) ps in
     omega (
       arith,
       fits.0,
-      length-laid_from (frame_data_end start p) (start + p.area) ps fits.1 fits.2,
+      length-laid_data_from (frame_data_end start p) (start + p.area) ps fits.1 fits.2,
       length-append gap (p.payload ++ more),
       length-append p.payload more,
       length-zeros (frame_data_start start p - end),
@@ -42,11 +42,11 @@ length-laid_from end start (p ∷ ps) within fits =
 
 -- ---- frames
 
-length-framed : (c : ClassFields) (fs : List Frame) (bytes : List ℕ) → AreStreamEntries c fs
+length-framed_bytes : (c : ClassFields) (fs : List Frame) (bytes : List ℕ) → AreStreamEntries c fs
     → areas_length (fields_of_frames fs) ≡ length bytes
     → length (framed_bytes (fields_of_frames fs) bytes) ≡ frames_length c slot_in fs
-length-framed c [] bytes entries many = refl
-length-framed c (f ∷ fs) bytes entries many =
+length-framed_bytes c [] bytes entries many = refl
+length-framed_bytes c (f ∷ fs) bytes entries many =
     let k = f.kept in
     let n = frame_area k in
     let front = frame_front_bytes k.header k.side in
@@ -60,15 +60,15 @@ length-framed c (f ∷ fs) bytes entries many =
       length-append front (take n bytes),
       length-append front (take n bytes ++ more),
       length-append (take n bytes) more,
-      length-framed c fs (drop n bytes) entries.1 (omega (arith, many, length-drop n bytes)),
+      length-framed_bytes c fs (drop n bytes) entries.1 (omega (arith, many, length-drop n bytes)),
       sum_by-cons (λ (g : Frame). length_of c (slot_in g)) f fs,
     )
 
 length-frames : (c : ClassFields) (fs : List Frame) → AreStreamEntries c fs
     → CanDataBeLaidFrom 0 0 (all_frame_data fs)
     → length (bytes_of_frames fs) ≡ frames_length c slot_in fs
-length-frames c fs entries fit = length-framed c fs (laid_data (all_frame_data fs)) entries
-    (omega (arith, length-laid_from 0 0 (all_frame_data fs) (omega arith) fit, areas-all 0 fs))
+length-frames c fs entries fit = length-framed_bytes c fs (laid_data (all_frame_data fs)) entries
+    (omega (arith, length-laid_data_from 0 0 (all_frame_data fs) (omega arith) fit, areas-all 0 fs))
 
 -- the lengths of the slots of a plan together
 abbrev pub size_of : ClassFields → List Placed → ℕ

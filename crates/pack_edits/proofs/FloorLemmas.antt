@@ -13,9 +13,9 @@ use Rattle.pack_edits.specs.Rates.{fitted_plan, is_rate, menu_in, no_rate, rates
 use Rattle.rate_plan.specs.LeastMenuPlan.{least_menu_plan}
 use Rattle.requests.specs.declared.mode.PackMode.TheVariants.{Floor}
 use Rattle.slot_plan.specs.declared.needs.Placed.{Placed}
-use Rattle.sync_survey.proofs.{PlacedRowLemmas.surveyed-placed, SurveyedFileLemmas.survey_of-parts}
-use Rattle.sync_survey.specs.{Faults.SurveyFields, Survey.survey_of}
-use Rattle.sync_survey.specs.declared.survey_fault.SurveyFault.{SurveyFault}
+use Rattle.sync_survey.proofs.PlacedRowLemmas.{survey_fields-placed}
+use Rattle.sync_survey.{proofs.SurveyedFileLemmas.survey_of-parts, specs.Faults.SurveyFields}
+use Rattle.sync_survey.specs.{Survey.survey_of, declared.survey_fault.SurveyFault.SurveyFault}
 
 -- a frame is unfit
 abbrev unfit : {A : Type 0} → ℕ → Result A EditFault
@@ -42,7 +42,7 @@ module _ (rate i : ℕ) (file : List ℕ) (s : SurveyFields)
           let none : no_rate (Floor rate) s.class ≡ None =
           ap (λ b. cond b None (Some (NoRate rate))) some in
           floor-unfit chosen s
-          (surveyed-placed file most_frames s (survey_of-parts file most_frames s is).1)
+          (survey_fields-placed file most_frames s (survey_of-parts file most_frames s is).1)
           right.some right.within rate i none (unfit-menu i _ e)
 
   unfit-chosen : (o : Bool) (chosen : Chosen)

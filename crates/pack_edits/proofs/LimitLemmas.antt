@@ -19,9 +19,11 @@ use Rattle.outside.proofs.FilesLemmas.{there_holds}
 use Rattle.outside.specs.Files.{Files, Holds, IfTold, IsFileMissing, IsFileThere, Told, Untold}
 use Rattle.outside.specs.Seen.{Seen}
 use Rattle.pack_edits.specs.Modes.{limited_result, limited_task, survey_fault_or}
-use Rattle.sync_survey.proofs.{BytesFaultLemmas.surveyed_of_bytes, FoldersLemmas.survey_of-short}
+use Rattle.sync_survey.proofs.BytesFaultLemmas.{survey_fields-of_bytes}
+use Rattle.sync_survey.proofs.FoldersLemmas.{survey_of-short}
 use Rattle.sync_survey.proofs.SurveyPartsLemmas.{all_faults-none_sound, AreSound, frames_from}
-use Rattle.sync_survey.proofs.SurveyPartsLemmas.{sound-no_all_faults, surveyed-parts, surveyed-told}
+use Rattle.sync_survey.proofs.SurveyPartsLemmas.{sound-no_all_faults, survey_fields-parts}
+use Rattle.sync_survey.proofs.SurveyPartsLemmas.{survey_fields-told}
 use Rattle.sync_survey.proofs.SurveyedFileLemmas.{survey_of-parts}
 use Rattle.sync_survey.specs.Faults.{class_from, longest_file, SurveyFields}
 use Rattle.sync_survey.specs.{MainData.{rows_of, StreamFrame}, Row.Row, Survey.survey_of}
@@ -65,13 +67,13 @@ pub survey_of-more : (file : List ℕ) (allowed other : ℕ) (s : SurveyFields) 
     → survey_of file allowed ≡ Ok s → survey_of file other ≡ Ok s
 survey_of-more file allowed other s more e =
     let whole = survey_of-parts file allowed s e in
-    let parts = surveyed-parts file allowed s whole.1 in
+    let parts = survey_fields-parts file allowed s whole.1 in
     let start = parts.0 in
     let read = parts.1 in
     let rows = rows_of file (frames_from file start) in
     let head = head_of file start.first in
     survey_of-short file other whole.0
-    ∙ surveyed-told file other start (record {
+    ∙ survey_fields-told file other start (record {
       start_is = read.start_is;
       frames = sound-no_all_faults file head (class_from start) other rows
           (sound-more file head (class_from start) allowed other rows more
@@ -106,7 +108,7 @@ limited-late allowed file made few late = at (survey_of file allowed) refl
     at : (r : Result SurveyFields SurveyFault) → survey_of file allowed ≡ r
         → IfErr (survey_fault_or r made) IsLateFault
     at (Err fault) is = of_bytes_behind fault
-        (surveyed_of_bytes file allowed fault (sym (survey_of-short file allowed few) ∙ is))
+        (survey_fields-of_bytes file allowed fault (sym (survey_of-short file allowed few) ∙ is))
     at (Ok s) is = late
 
 module _ (allowed : ℕ) (task : Task) where
@@ -115,34 +117,37 @@ module _ (allowed : ℕ) (task : Task) where
   IsFaultless files = (file : List ℕ) → Holds files task.source file
       → (s : SurveyFields) × (survey_of file allowed ≡ Ok s)
 
-  limited-refuses : (files : Files) (fault : EditFault) → IsFaultless files
+  limited_task-refuses : (files : Files) (fault : EditFault) → IsFaultless files
       → TaskRefuses task files fault → TaskRefuses (limited_task (Some allowed) task) files fault
-  limited-refuses (Untold touched) fault sound is = tt
-  limited-refuses (Told f) fault sound is =
+  limited_task-refuses (Untold touched) fault sound is = tt
+  limited_task-refuses (Told f) fault sound is =
       limited-sound allowed (f task.source) (task.makes f) sound ∙ is
 
-  limited-before : (files : Files) (P : EditFault → Type 0) → IsFaultless files
+  limited_task-before : (files : Files) (P : EditFault → Type 0) → IsFaultless files
       → IfTold files (λ f. IfErr (task.makes f) P)
       → IfTold files (λ f. IfErr ((limited_task (Some allowed) task).makes f) P)
-  limited-before (Untold touched) P sound is = tt
-  limited-before (Told f) P sound is =
+  limited_task-before (Untold touched) P sound is = tt
+  limited_task-before (Told f) P sound is =
       subst (λ r. IfErr r P) (sym (limited-sound allowed (f task.source) (task.makes f) sound)) is
 
   module _ (old new : Seen) (fault : EditFault) (sound : IsFaultless old.files) where
     -- a fault before the output is created is one with the limit too
-    pub limited-early : IsEarlyFault task old new fault
+    pub limited_task-early : IsEarlyFault task old new fault
         → IsEarlyFault (limited_task (Some allowed) task) old new fault
-    limited-early h = each_why (why_of fault) h (record {
+    limited_task-early h = each_why (why_of fault) h (record {
       rejected = λ r.
-          record { defined = limited-refuses old.files fault sound r.defined; stays = r.stays };
+          record {
+            defined = limited_task-refuses old.files fault sound r.defined;
+            stays = r.stays;
+          };
       missing = λ m. record {
-        defined = limited-refuses old.files fault sound m.defined;
+        defined = limited_task-refuses old.files fault sound m.defined;
         rose = m.rose;
         files =
             m.files;
       };
       unread = λ u. record {
-        before = limited-before old.files (IsNotBefore fault) sound u.before;
+        before = limited_task-before old.files (IsNotBefore fault) sound u.before;
         rose = u.rose;
         files = u.files;
       };
@@ -153,17 +158,18 @@ module _ (allowed : ℕ) (task : Task) where
     })
 
   -- a fault with the numbers of the task has the numbers of the task with the limit
-  pub limited-numbers : (fault : EditFault) → HasTaskNumbers task fault
+  pub limited_task-numbers : (fault : EditFault) → HasTaskNumbers task fault
       → HasTaskNumbers (limited_task (Some allowed) task) fault
-  limited-numbers (Input place fault) h = h
-  limited-numbers (Refused refusal) h = h
-  limited-numbers Memory h = tt
-  limited-numbers _ h = absurd h
+  limited_task-numbers (Input place fault) h = h
+  limited_task-numbers (Refused refusal) h = h
+  limited_task-numbers Memory h = tt
+  limited_task-numbers _ h = absurd h
 
   -- what the task makes is made within the limit
-  pub limited-making : (made : List ℕ → List ℕ) (files : Files) → IsFaultless files
+  pub limited_task-making : (made : List ℕ → List ℕ) (files : Files) → IsFaultless files
       → IsMaking task made files → IsMaking (limited_task (Some allowed) task) made files
-  limited-making made files sound is = record { there = is.there; makes = at files sound is.makes }
+  limited_task-making made files sound is =
+      record { there = is.there; makes = at files sound is.makes }
     where
       at : (files : Files) → IsFaultless files → IfTold files (λ f. (bytes : List ℕ)
           → f task.source ≡ Some bytes → AreBytes bytes × (task.makes f ≡ Ok (made bytes)))
@@ -174,8 +180,8 @@ module _ (allowed : ℕ) (task : Task) where
           (m.0, limited-sound allowed (f task.source) (task.makes f) sound ∙ m.1)
 
   -- a proper task is proper with the limit
-  pub limited-proper : IsProperTask task → IsProperTask (limited_task (Some allowed) task)
-  limited-proper proper = record {
+  pub limited_task-proper : IsProperTask task → IsProperTask (limited_task (Some allowed) task)
+  limited_task-proper proper = record {
     some = proper.some;
     first = proper.first;
     late =

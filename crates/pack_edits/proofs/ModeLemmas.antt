@@ -14,8 +14,8 @@ use Rattle.frame_header.specs.{Fields.ClassFields, Tables.window_of}
 use Rattle.laying.specs.NeedsFit.{any_choice, IsPlacedSurvey}
 use Rattle.outside.specs.{Files.{Files, Holds}, Seen.Seen}
 use Rattle.pack_edits.proofs.BestLemmas.{best-fitting}
-use Rattle.pack_edits.proofs.LimitLemmas.{limited-early, limited-making, limited-numbers}
-use Rattle.pack_edits.proofs.LimitLemmas.{limited-proper, survey-early}
+use Rattle.pack_edits.proofs.LimitLemmas.{limited_task-early, limited_task-making}
+use Rattle.pack_edits.proofs.LimitLemmas.{limited_task-numbers, limited_task-proper, survey-early}
 use Rattle.pack_edits.proofs.PlanLemmas.{chosen-fitting, IsFittingFew, rates-late}
 use Rattle.pack_edits.specs.Modes.{allowed_frames, mode_planning, mode_refuses, most_best}
 use Rattle.pack_edits.specs.Modes.{pack_task}
@@ -78,7 +78,8 @@ free_proper mode input =
 
 -- the command is proper in each mode
 pub mode_proper : (mode : PackMode) (input : List ℕ) → IsProperTask (pack_task mode input)
-mode_proper Best input = limited-proper most_best (free_task Best input) (free_proper Best input)
+mode_proper Best input =
+    limited_task-proper most_best (free_task Best input) (free_proper Best input)
 mode_proper mode input = free_proper mode input
 
 -- a fault of the survey is one met before the output is created
@@ -110,7 +111,7 @@ pub mode_early : (mode : PackMode) (input : List ℕ) (old new : Seen) (fault : 
     → IsAllowed mode input old.files
     → IsInputFault (laying_making all_choice (mode_planning mode)) input old new fault
     → IsEarlyFault (pack_task mode input) old new fault
-mode_early Best input old new fault sound is = limited-early most_best
+mode_early Best input old new fault sound is = limited_task-early most_best
     (free_task Best input) old new fault sound (free_early Best input old new fault is)
 mode_early mode input old new fault sound is = free_early mode input old new fault is
 
@@ -123,7 +124,7 @@ free_numbers mode input fault is = input_numbers (laying_making all_choice (mode
 pub mode_numbers : (mode : PackMode) (input : List ℕ) (fault : EditFault)
     → HasInputNumbers (mode_refuses mode) fault → HasTaskNumbers (pack_task mode input) fault
 mode_numbers Best input fault is =
-    limited-numbers most_best (free_task Best input) fault (free_numbers Best input fault is)
+    limited_task-numbers most_best (free_task Best input) fault (free_numbers Best input fault is)
 mode_numbers mode input fault is = free_numbers mode input fault is
 
 -- the numbers of a fault of the survey are in the range of the command's inputs
@@ -138,5 +139,5 @@ pub mode_makes : (mode : PackMode) (input : List ℕ) (made : List ℕ → List 
     → IsMaking (laying_task all_choice (mode_planning mode) (mode_refuses mode) input) made files
     → IsMaking (pack_task mode input) made files
 mode_makes Best input made files sound is =
-    limited-making most_best (free_task Best input) made files sound is
+    limited_task-making most_best (free_task Best input) made files sound is
 mode_makes mode input made files sound is = is

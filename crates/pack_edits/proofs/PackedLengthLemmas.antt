@@ -27,9 +27,9 @@ use Rattle.pack_edits.specs.Modes.{best_planning, limited_result, most_best, pac
 use Rattle.pack_edits.specs.Modes.{pack_task}
 use Rattle.requests.specs.declared.mode.PackMode.{PackMode, TheVariants.{Best, Constant, Least}}
 use Rattle.slot_plan.specs.declared.needs.Placed.{Placed}
-use Rattle.sync_survey.proofs.{PlacedRowLemmas.surveyed-placed, SurveyedFileLemmas.survey_of-parts}
-use Rattle.sync_survey.specs.{Faults.SurveyFields, Survey.survey_of}
-use Rattle.sync_survey.specs.declared.survey_fault.SurveyFault.{SurveyFault}
+use Rattle.sync_survey.proofs.PlacedRowLemmas.{survey_fields-placed}
+use Rattle.sync_survey.{proofs.SurveyedFileLemmas.survey_of-parts, specs.Faults.SurveyFields}
+use Rattle.sync_survey.specs.{Survey.survey_of, declared.survey_fault.SurveyFault.SurveyFault}
 
 -- ---- what is written
 
@@ -88,7 +88,7 @@ module _ (input output : List ℕ) (files : Contents) (best : List ℕ)
   right = all_right m.file m.survey m.by.chosen m.by.chose
 
   well : IsPlacedSurvey m.survey
-  well = surveyed-placed m.file most_frames
+  well = survey_fields-placed m.file most_frames
       m.survey (survey_of-parts m.file most_frames m.survey m.surveyed).1
 
   abbrev window : ℕ

@@ -4,7 +4,7 @@ use Rattle.std.proofs.Common.{All, ap, append-nil, arith, Bool, Contains, drop, 
 use Rattle.std.proofs.Common.{IfErr, length, length-drop, List, map, MatchResult, None, Ok, refl}
 use Rattle.std.proofs.Common.{Result, subst, suc, sym, true, zero, ℕ, [], ◌+◌, ◌-◌, ◌<◌, ◌∙◌, ◌∷◌}
 use Rattle.std.proofs.{Common.{◌≡◌, ◌≤◌}, lemmas.List.{length-map, length-take}}
-use Rattle.commands.proofs.RefusingLemmas.{then_late, then_ok, unless_late, unless_ok}
+use Rattle.commands.proofs.RefusingLemmas.{refusal_or-late, refusal_or-ok, then_late, then_ok}
 use Rattle.commands.specs.{AfterCall.IsLateFault, Refusing.{refusal_or, then_made}}
 use Rattle.commands.specs.declared.fault.EditFault.{EditFault}
 use Rattle.cut_edits.proofs.SpanLemmas.{for_length}
@@ -102,14 +102,14 @@ menu-fitting window menu needs placed slots is =
 -- ---- with the slots of some bit rates
 
 -- a plan that isn't refused is the plan that was found
-pub fitted-ok : (r : Result (List Placed) ℕ) (placed : List Placed) → fitted_plan r ≡ Ok placed
+pub fitted_plan-ok : (r : Result (List Placed) ℕ) (placed : List Placed) → fitted_plan r ≡ Ok placed
     → r ≡ Ok placed
-fitted-ok (Ok first) placed is = cc
-fitted-ok (Err i) placed is = absurd cc
+fitted_plan-ok (Ok first) placed is = cc
+fitted_plan-ok (Err i) placed is = absurd cc
 
-fitted-late : (r : Result (List Placed) ℕ) → IfErr (fitted_plan r) IsLateFault
-fitted-late (Ok placed) = tt
-fitted-late (Err i) = refl
+fitted_plan-late : (r : Result (List Placed) ℕ) → IfErr (fitted_plan r) IsLateFault
+fitted_plan-late (Ok placed) = tt
+fitted_plan-late (Err i) = refl
 
 -- the refusals of a plan are late
 pub rates-late : (mode : PackMode) (class : ClassFields) (needs : List Need)
@@ -117,8 +117,8 @@ pub rates-late : (mode : PackMode) (class : ClassFields) (needs : List Need)
 rates-late mode class needs =
     then_late (refusal_or (no_rate mode class) (menu_in mode class))
     (λ menu. fitted_plan (least_menu_plan (window_of class.version) menu needs))
-    (unless_late (no_rate mode class) (menu_in mode class))
-    (λ menu. fitted-late (least_menu_plan (window_of class.version) menu needs))
+    (refusal_or-late (no_rate mode class) (menu_in mode class))
+    (λ menu. fitted_plan-late (least_menu_plan (window_of class.version) menu needs))
 
 -- frames can be laid by a plan that isn't refused
 pub rates-fitting : (mode : PackMode) (class : ClassFields) (needs : List Need)
@@ -128,9 +128,9 @@ rates-fitting mode class needs placed sound same some planned =
     let window = window_of class.version in
     let made = then_ok (refusal_or (no_rate mode class) (menu_in mode class))
     (λ menu. fitted_plan (least_menu_plan window menu needs)) placed planned in
-    let ok = unless_ok (no_rate mode class) (menu_in mode class) made.0 made.1 in
+    let ok = refusal_or-ok (no_rate mode class) (menu_in mode class) made.0 made.1 in
     let is : least_menu_plan window (menu_in mode class) needs ≡ Ok placed =
-    fitted-ok (least_menu_plan window (menu_in mode class) needs) placed
+    fitted_plan-ok (least_menu_plan window (menu_in mode class) needs) placed
     (ap (λ menu. fitted_plan (least_menu_plan window menu needs)) ok.1 ∙ made.2) in
     menu-fitting window (menu_in mode class) needs placed (menu-slots mode class)
     (((least_menu_plan-is window class (menu_in mode class) needs same some

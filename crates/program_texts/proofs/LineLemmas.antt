@@ -76,8 +76,8 @@ got_either (Ok x) later whole front = record { later = later; got = inl whole }
 got_either (Err e) later whole front = record { later = later; got = inr front }
 
 -- the parts of the code, joined, spell what the parts of the definition spell
-pub spelled_parts : (parts : List CodePart)
+pub text_of_line-parts : (parts : List CodePart)
     → flat_map (λ part. part_text (line_part_of part)) parts ≡ text_of_line (map line_part_of parts)
-spelled_parts [] = refl
-spelled_parts (part ∷ parts) =
-    ap (λ (rest : List ℕ). part_text (line_part_of part) ++ rest) (spelled_parts parts)
+text_of_line-parts [] = refl
+text_of_line-parts (part ∷ parts) =
+    ap (λ (rest : List ℕ). part_text (line_part_of part) ++ rest) (text_of_line-parts parts)

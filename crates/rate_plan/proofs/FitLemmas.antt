@@ -7,8 +7,8 @@ use Rattle.std.proofs.lemmas.List.{take-take, take_all}
 use Rattle.frame_header.specs.{Fields.{ClassFields, SlotFields}, Tables.{area_of, class_of}}
 use Rattle.rate_plan.specs.Menus.{CanBeLaidFromMenu, IsFirstUnfitFrame, menu_choices, menu_items}
 use Rattle.slot_plan.proofs.{AreaLemmas.Contains-area, PartLemmas.{class-at, class-take}}
-use Rattle.slot_plan.proofs.ReserveLemmas.{AllFit, Contains-greatest, fit-layout, greatest-most}
-use Rattle.slot_plan.proofs.ReserveLemmas.{layout-fit, starts_of}
+use Rattle.slot_plan.proofs.ReserveLemmas.{AllFit, Contains-greatest_number, fit-layout}
+use Rattle.slot_plan.proofs.ReserveLemmas.{greatest_number-most, layout-fit, starts_of}
 use Rattle.slot_plan.specs.Layouts.{FrameLengths, HasLayout}
 use Rattle.slot_plan.specs.Lists.{AreChosenAreas, CanBeLaid, frames_with_areas, OpenFrame}
 use Rattle.slot_plan.specs.Parts.{AreNeedsOfClass, lead_in_item, open_frame, slot_areas}
@@ -38,7 +38,7 @@ unfolding AreChosenAreas AllFit frames_with_areas tops_of
 fit-tops window free more [] areas less chosen fit = tt
 fit-tops window free more (o ∷ opens) [] less chosen fit = absurd chosen
 fit-tops window free more (o ∷ opens) (area ∷ areas) less chosen fit =
-    let most = greatest-most o.areas area chosen.0 in
+    let most = greatest_number-most o.areas area chosen.0 in
     let room : o.bytes ≤ free + area = fit.0 in (
       omega (arith, most, room, less),
       fit-tops window (free_bytes_behind window free o.bytes area) (free_bytes_behind window more
@@ -75,12 +75,13 @@ frames-top menu [] = refl
 frames-top menu (need ∷ needs) = ap (λ l. top_frame menu need ∷ l) (frames-top menu needs)
 
 -- the largest area of a menu is the area of one of its slots
-pub has-greatest : (class : ClassFields) (menu : List SlotFields) (protected : Bool)
+pub has-greatest_number : (class : ClassFields) (menu : List SlotFields) (protected : Bool)
     → 1 ≤ length menu
     → Contains (slot_areas class protected menu) (greatest_number (slot_areas class protected menu))
-has-greatest class [] protected some = absurd (omega (arith, some))
-has-greatest class (slot ∷ slots) protected some =
-    Contains-greatest (slot_areas class protected (slot ∷ slots)) (area_of class slot protected)
+has-greatest_number class [] protected some = absurd (omega (arith, some))
+has-greatest_number class (slot ∷ slots) protected some =
+    Contains-greatest_number (slot_areas class protected (slot ∷ slots))
+    (area_of class slot protected)
     (Contains-area class protected (slot ∷ slots) slot (0, omega arith, refl))
 
 -- the largest areas are a choice
@@ -89,7 +90,7 @@ pub tops-chosen : (menu : List SlotFields) (needs : List Need) → 1 ≤ length 
 unfolding AreChosenAreas tops_of
 tops-chosen menu [] some = tt
 tops-chosen menu (need ∷ needs) some = (
-  has-greatest (class_of need.header) menu need.header.protected some,
+  has-greatest_number (class_of need.header) menu need.header.protected some,
   tops-chosen menu needs some,
 )
 
@@ -114,7 +115,7 @@ lead-chosen : (class : ClassFields) (menu : List SlotFields) (opens : List OpenF
     → AreChosenAreas (open_frame (lead_in_item class menu) ∷ opens)
     (tops_of (open_frame (lead_in_item class menu) ∷ opens))
 unfolding AreChosenAreas tops_of
-lead-chosen class menu opens some chosen = (has-greatest class menu false some, chosen)
+lead-chosen class menu opens some chosen = (has-greatest_number class menu false some, chosen)
 
 -- frames with a layout after a lead-in fit in their largest slots after the largest lead-in
 pub laid-fit : (window : ℕ) (class : ClassFields) (menu : List SlotFields) (needs : List Need)

@@ -7,7 +7,7 @@ use Rattle.frame_header.specs.{Slots.largest_slot, Tables.{area_of, class_of, wi
 use Rattle.rate_plan.proofs.FitLemmas.{fit-laid, most_area, start_of, top_frame}
 use Rattle.rate_plan.specs.Laws.{LargestSlotFits}
 use Rattle.slot_plan.proofs.AreaLemmas.{Contains-area}
-use Rattle.slot_plan.proofs.ReserveLemmas.{AllFit, fit-from, greatest-most}
+use Rattle.slot_plan.proofs.ReserveLemmas.{AllFit, fit-from, greatest_number-most}
 use Rattle.slot_plan.specs.Parts.{AreNeedsOfClass, own_frame, own_slot_area, slot_areas}
 use Rattle.slot_plan.specs.{Reserve.{free_bytes_behind, greatest_number}, declared.needs.Need.Need}
 
@@ -17,7 +17,7 @@ most-is : (class : ClassFields) (menu : List SlotFields) (slot : SlotFields) (pr
     → area_of class slot protected ≤ greatest_number (slot_areas class protected menu)
 most-is class menu slot protected sound is has =
     let largest = area-largest class slot protected sound is in
-    let most = greatest-most (slot_areas class protected menu)
+    let most = greatest_number-most (slot_areas class protected menu)
     (area_of class largest_slot protected) (Contains-area class protected menu largest_slot has) in
     omega (arith, largest, most)
 
@@ -50,7 +50,7 @@ some-slot menu has = omega (arith, has.1)
 pub largest-fits : LargestSlotFits
 largest-fits = λ class menu needs i sound same are has feasible unfit.
     let window : ℕ = window_of class.version in
-    let most = greatest-most (slot_areas class false menu) (area_of class largest_slot false)
+    let most = greatest_number-most (slot_areas class false menu) (area_of class largest_slot false)
     (Contains-area class false menu largest_slot has) in
     let all : window ≤ start_of window class menu =
     omega (arith, most, window-spanned class sound) in

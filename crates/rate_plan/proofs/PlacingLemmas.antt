@@ -5,7 +5,7 @@ use Rattle.std.proofs.lemmas.List.{append-nil}
 use Rattle.frame_header.specs.{Fields.{ClassFields, SlotFields}, Tables.class_of}
 use Rattle.rate_plan.specs.Menus.{IsMenuPlan, menu_choices, menu_items}
 use Rattle.slot_plan.proofs.{AreaLemmas.only_one, PlacedLemmas.plan-placed}
-use Rattle.slot_plan.proofs.ReserveLemmas.{needed-can}
+use Rattle.slot_plan.proofs.ReserveLemmas.{reserve_before-can}
 use Rattle.slot_plan.specs.Parts.{lead_in_item, need_item, open_frame, part_items, PlanItem}
 use Rattle.slot_plan.specs.Reserve.{AreItemsPlaced, IsLeastSlot, IsPlacedLeadIn, PlacesMore}
 use Rattle.slot_plan.specs.{Reserve.{PlacesPart, reserve_before}, declared.needs.Need.Need}
@@ -61,7 +61,8 @@ menu-placed window menu (first ∷ needs) (Some slot) placed is all =
       lead_in = true;
       without = (
         (λ e. absurd (true≢false e)),
-        (λ can. absurd (omega (arith, is.0, (needed-can window (map open_frame items) can).0))),
+        (λ can.
+            absurd (omega (arith, is.0, (reserve_before-can window (map open_frame items) can).0))),
       );
       whole = plan-placed window (menu_items true menu (first ∷ needs)) placed
           (lead-among window (class_of first.header) menu slot items placed is.2 all);

@@ -6,8 +6,8 @@ use Rattle.std.proofs.Common.{sym, true, zero, ℕ, [], ◌&&◌, ◌++◌, ◌+
 use Rattle.std.proofs.{Common.{◌≡◌, ◌≤◌}, lemmas.Bool.{not-false, or_left, or_right}}
 use Rattle.std.specs.List.{cons_option, enumerate_from}
 use Rattle.frame_header.specs.{Fields.{ClassFields, HeaderFields, same_class}, Tables.class_of}
-use Rattle.salvage.proofs.ProgressLemmas.{few_counted}
-use Rattle.salvage.proofs.SearchLemmas.{first_here, first_later, next_usable-some, not_usable}
+use Rattle.salvage.proofs.ProgressLemmas.{no_frame_or_damaged-few}
+use Rattle.salvage.proofs.SearchLemmas.{first_here, first_later, next_usable_frame-some, not_usable}
 use Rattle.salvage.proofs.WalkLemmas.{things-item, things-past}
 use Rattle.salvage.specs.DamagedFiles.{damaged_by, damaged_fields, damaged_from, damaged_with_count}
 use Rattle.salvage.specs.DamagedFiles.{DamagedFields, gap_between, things_from}
@@ -20,13 +20,14 @@ use Rattle.salvage.specs.Walk.{blocks_of_things, first_frame, gaps_of, is_item_r
 use Rattle.salvage.specs.Walk.{item_if_read, item_read, PlacedThing, things}
 use Rattle.salvage.specs.declared.usable.Role.{Role, TheVariants.{First, Later}}
 use Rattle.side_info.specs.Frame.{right_crc, stored_crc}
-use Rattle.sync_survey.proofs.{FaultsLemmas.marked-length, ProgressLemmas.first_of_stream}
-use Rattle.sync_survey.proofs.RunsLemmas.{frames-next, item_of-is, run-ends}
+use Rattle.sync_survey.proofs.{FaultsLemmas.length-marked_rows, ProgressLemmas.first_of_stream}
+use Rattle.sync_survey.proofs.RunsLemmas.{frames-next, item_run-ends, whole_item_at-is}
 use Rattle.sync_survey.proofs.StartLemmas.{anchored_frame-is, first_of-is, start-front, start_is}
 use Rattle.sync_survey.proofs.SurveyPartsLemmas.{all_faults-none_sound, AreSound, frames_from}
-use Rattle.sync_survey.proofs.SurveyPartsLemmas.{some_frames, StandWell, surveyed-parts, told_from}
-use Rattle.sync_survey.proofs.WalkLemmas.{no_fault, nothing_left, numbered-blocks, numbered-frames}
-use Rattle.sync_survey.proofs.WalkLemmas.{numbered-stop}
+use Rattle.sync_survey.proofs.SurveyPartsLemmas.{some_frames, StandWell, survey_fields-parts}
+use Rattle.sync_survey.proofs.SurveyPartsLemmas.{told_from}
+use Rattle.sync_survey.proofs.WalkLemmas.{no_fault, nothing_left, numbered-blocks, numbered-stop}
+use Rattle.sync_survey.proofs.WalkLemmas.{numbered_frames-run}
 use Rattle.sync_survey.specs.Faults.{class_from, has_wrong_crc, overlaps, overruns, SurveyFields}
 use Rattle.sync_survey.specs.Items.{item_at, item_fits, size_of}
 use Rattle.sync_survey.specs.MainData.{data_end_after, data_end_before, end_of_data, is_lost}
@@ -206,11 +207,11 @@ each_same f g n (x ∷ xs) same =
     (each_same f g (n + 1) xs (λ i y is. let next : n + suc i ≡ n + 1 + i = omega arith in
     subst (λ m. f m y ≡ g m y) next (same (suc i) y is)))
 
-judged-marked : (file : List ℕ) (head : Option Head) (class : ClassFields) (allowed : ℕ)
+judged_rows-marked_rows : (file : List ℕ) (head : Option Head) (class : ClassFields) (allowed : ℕ)
     (rows : List Row) → AreSound file head class allowed rows
     → judged_rows head rows ≡ marked_rows head rows
 unfolding judged_rows marked_rows
-judged-marked file head class allowed rows sound =
+judged_rows-marked_rows file head class allowed rows sound =
     each_same (judged_row head rows) (marked_row head rows) 0 rows
     (λ i r is. let same : i ≡ 0 + i = omega arith in subst (λ m. judged_row head rows m r
     ≡ marked_row head rows m r) same (row_same file head class allowed rows sound i r is))
@@ -289,7 +290,7 @@ module _ (file : List ℕ) (at : ℕ) (start : Start)
       let first = first_of-is (anchored_frame file) longest_junk (at + 1) start.first found in
       let place = (anchored_frame-is file first.0 start.first first.1.here).offset in
       first_later file at (no_frame file at item true is none)
-      ∙ next_usable-some file First (at + 1) first.0 start.first first.1.low (omega
+      ∙ next_usable_frame-some file First (at + 1) first.0 start.first first.1.low (omega
       (arith, place, within, some)) (usable_here file First first.0 start.first first.1.here usable)
       (λ k low high. not_usable file First k (first.1.none k low high))
 
@@ -324,11 +325,11 @@ module _ (file : List ℕ) (at : ℕ) (start : Start)
 
 -- ---- all that is read
 
-damaged_first : (file : List ℕ) (first : PlacedFrame)
+damaged_fields-first : (file : List ℕ) (first : PlacedFrame)
     → first_frame file (front_end_of file) ≡ Some first → damaged_fields file
     ≡ damaged_with_count (front_end_of file) (damaged_from file (front_end_of file) first)
 unfolding damaged_fields
-damaged_first file first is = ap (damaged_by file (front_end_of file)) is
+damaged_fields-first file first is = ap (damaged_by file (front_end_of file)) is
 
 -- what a survey says is read, and the junk is a gap
 abbrev with_junk : SurveyFields → DamagedFields
@@ -378,7 +379,7 @@ length_rows file (p ∷ ps) = ap suc (length_rows file ps)
 -- everything in the survey of a file without fault is read
 pub keeps_streams : SalvageKeepsStreams
 keeps_streams = λ file allowed s is few.
-    let parts = surveyed-parts file allowed s is in
+    let parts = survey_fields-parts file allowed s is in
     let start = parts.0 in
     let read = parts.1 in
     let told = parts.2 in
@@ -389,14 +390,14 @@ keeps_streams = λ file allowed s is few.
     → HasNoFault file (class_from start) r =
     λ i r is. record { same = (sound i r is).same; word = (sound i r is).word } in
     let here = first_of_stream file start read.start_is in
-    let item = item_of-is Stream file start.first.offset (Frame start.first.header) here in
+    let item = whole_item_at-is Stream file start.first.offset (Frame start.first.header) here in
     let usable = first_usable file (class_from start) start head here refl fine in
     let at = front_end_of file in
     let first = first_by file at start item.within usable (item_at file at) refl
     (sym (start_is file at (item_at file at) refl refl) ∙ read.start_is) here item.some in
     let from = numbered_offset start.first head in
     let items = (item_run Stream file from).items in
-    let frames = numbered-frames file start head here in
+    let frames = numbered_frames-run file start head here in
     let nothing = nothing_left file
     (stream_run file start).stop (no_fault file (frames_from file start) _ read.end) in
     let past : length file ≤ (item_run Stream file from).stop = omega (
@@ -406,18 +407,18 @@ keeps_streams = λ file allowed s is few.
       numbered-stop file start head here,
     ) in
     let are = things_are file (class_from start) from items (item_run Stream file from).stop
-    (run-ends Stream file from) (subst (AreUsable file (class_from start)) (sym frames)
+    (item_run-ends Stream file from) (subst (AreUsable file (class_from start)) (sym frames)
     (usable_all file (class_from start) (frames_from file start) fine)) past in
-    let marks = judged-marked file head (class_from start) allowed rows sound in
+    let marks = judged_rows-marked_rows file head (class_from start) allowed rows sound in
     let all_read = told_read file start items (start-front file start read.start_is) are frames
     (numbered-blocks file start head here) marks ∙ ap with_junk told in
     let some : s.frames ≡ [] → ⊥ = λ none. absurd (omega (
       arith,
       some_frames file (frames_from file start) _ read.end,
       length_rows file (frames_from file start),
-      marked-length head rows,
+      length-marked_rows head rows,
       ap (λ (t : SurveyFields). length t.frames) told,
       ap length none,
     )) in
-    damaged_first file start.first first ∙ ap (damaged_with_count at) all_read
-    ∙ few_counted at s.frames (with_junk s) some few
+    damaged_fields-first file start.first first ∙ ap (damaged_with_count at) all_read
+    ∙ no_frame_or_damaged-few at s.frames (with_junk s) some few

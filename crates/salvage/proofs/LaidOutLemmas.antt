@@ -7,9 +7,11 @@ use Rattle.std.proofs.lemmas.{Bool.{and_parts, ltb-false, ltb-true}, Option.slic
 use Rattle.std.specs.{List.cons_option, Option.option_or}
 use Rattle.frame_header.proofs.{ClassLemmas.same_class-is, HeaderLemmas.IsClass-class_of}
 use Rattle.frame_header.specs.{Fields.{ClassFields, HeaderFields, IsHeader}, Tables.class_of}
-use Rattle.salvage.proofs.{KeptLemmas.{kept_frame, kept_gap, kept_none}, ProgressLemmas.few_counted}
-use Rattle.salvage.proofs.{ReadFaultLemmas.damaged_of-short, SoundLemmas.runs-left}
-use Rattle.salvage.proofs.WalkLemmas.{gap_end-is, IsGapTo, IsNext, item_read-is, next_usable-is}
+use Rattle.salvage.proofs.KeptLemmas.{kept_frame, kept_gap, kept_none}
+use Rattle.salvage.proofs.{ProgressLemmas.no_frame_or_damaged-few, ReadFaultLemmas.damaged_of-short}
+use Rattle.salvage.proofs.SoundLemmas.{runs-left}
+use Rattle.salvage.proofs.WalkLemmas.{gap_end-is, IsGapTo, IsNext, item_read-is}
+use Rattle.salvage.proofs.WalkLemmas.{next_usable_frame-is}
 use Rattle.salvage.specs.DamagedFiles.{damaged_by, damaged_fields, damaged_from, damaged_of}
 use Rattle.salvage.specs.DamagedFiles.{DamagedFields, excess_or_damaged, most_frames}
 use Rattle.salvage.specs.DamagedFiles.{no_frame_or_damaged, things_from}
@@ -25,7 +27,7 @@ use Rattle.salvage.specs.{Walk.{things, things_up_to}, declared.{gap.Gap.Gap, us
 use Rattle.salvage.specs.declared.usable.Role.TheVariants.{First, Later}
 use Rattle.side_info.proofs.FrameLemmas.{fits-side_in}
 use Rattle.sync_survey.proofs.ItemsLemmas.{header_front-in_range, stands-at}
-use Rattle.sync_survey.proofs.RunsLemmas.{IsItemOf, run-ends, whole_cases}
+use Rattle.sync_survey.proofs.RunsLemmas.{IsItemOf, item_run-ends, whole_cases}
 use Rattle.sync_survey.specs.{Faults.longest_file, Items.size_of, MainData.{head_area, row_in}}
 use Rattle.sync_survey.specs.Row.{Row}
 use Rattle.sync_survey.specs.Runs.{AreEndToEnd, block_of_item, blocks_of, frame_of_item, item_run}
@@ -268,7 +270,7 @@ pub first_frame-is : (file : List ℕ) (at : ℕ) (first : PlacedFrame)
 unfolding first_frame
 first_frame-is file at first e =
     first-by file at (item_read file First at) (next_usable_frame file First
-    (at + 1)) first (item_read-is file First at) (next_usable-is file First (at + 1)) e
+    (at + 1)) first (item_read-is file First at) (next_usable_frame-is file First (at + 1)) e
 
 -- a head is whole in the file and is the first frame, and the numbered frames begin after it
 record IsBehindHead (file : List ℕ) (first : PlacedFrame) (head : Option Head) : Type 0 where
@@ -304,11 +306,11 @@ pub record IsFromFirst (file : List ℕ) (d : DamagedFields) : Type 0 where
   pub some : 0 < length d.survey.frames
   pub few : length d.survey.frames ≤ most_frames
 
-counted-is : (front_end : ℕ) (rows : List Row) (d e : DamagedFields)
+no_frame_or_damaged-is : (front_end : ℕ) (rows : List Row) (d e : DamagedFields)
     → no_frame_or_damaged front_end rows d ≡ Ok e
     → (d ≡ e) × (0 < length rows) × (length rows ≤ most_frames)
-counted-is front_end [] d e is = absurd cc
-counted-is front_end (r ∷ rows) d e is =
+no_frame_or_damaged-is front_end [] d e is = absurd cc
+no_frame_or_damaged-is front_end (r ∷ rows) d e is =
     elim (slice_get_cases (r ∷ rows) most_frames).1 as (λ _. (d ≡ e) × (0 < length (r ∷ rows))
     × (length (r ∷ rows) ≤ most_frames)) [
       | inl found ↦ absurd (not-ok found.0 (sym (ap (λ o. excess_or_damaged o d) found.2) ∙ is))
@@ -327,7 +329,7 @@ from-first : (file : List ℕ) (o : Option PlacedFrame) (d : DamagedFields)
 from-first file None d is e = absurd cc
 from-first file (Some first) d is e =
     let all = damaged_from file (front_end_of file) first in
-    let found = counted-is (front_end_of file) all.survey.frames all d e in
+    let found = no_frame_or_damaged-is (front_end_of file) all.survey.frames all d e in
     record {
       first = first;
       first_is = is;
@@ -337,17 +339,17 @@ from-first file (Some first) d is e =
     }
 
 -- what is read of a file is read from its first frame on
-pub damaged-from : (file : List ℕ) (d : DamagedFields) → damaged_fields file ≡ Ok d
+pub damaged_fields-from : (file : List ℕ) (d : DamagedFields) → damaged_fields file ≡ Ok d
     → IsFromFirst file d
 unfolding damaged_fields
-damaged-from file d e = from-first file (first_frame file (front_end_of file)) d refl e
+damaged_fields-from file d e = from-first file (first_frame file (front_end_of file)) d refl e
 
 front-order : (file : List ℕ)
     → BlocksAreLaid 0 (blocks_of (item_run Front file 0).items) (front_end_of file)
 unfolding front_end_of
 front-order file =
     ends-order Front file 0
-    (item_run Front file 0).items (item_run Front file 0).stop (run-ends Front file 0)
+    (item_run Front file 0).items (item_run Front file 0).stop (item_run-ends Front file 0)
 
 module _ (file : List ℕ) (first : PlacedFrame)
     (is : first_frame file (front_end_of file) ≡ Some first) where
@@ -403,10 +405,10 @@ module _ (file : List ℕ) (first : PlacedFrame)
   }
 
 -- what is read of a file that isn't too long is in order within it
-pub damaged-laid : (file : List ℕ) (d : DamagedFields) → damaged_fields file ≡ Ok d
+pub damaged_fields-laid : (file : List ℕ) (d : DamagedFields) → damaged_fields file ≡ Ok d
     → length file ≤ longest_file → IsDamagedLaidOut d
-damaged-laid file d e long =
-    let is = damaged-from file d e in
+damaged_fields-laid file d e long =
+    let is = damaged_fields-from file d e in
     subst IsDamagedLaidOut is.same
     (from-laid file is.first is.first_is long
     (subst (λ (c : DamagedFields). 0 < length c.survey.frames) (sym is.same) is.some)
@@ -429,7 +431,7 @@ damaged_of-is file d e =
 
 -- what is read of any file is in order within it
 pub read-laid : (file : List ℕ) (d : DamagedFields) → damaged_of file ≡ Ok d → IsDamagedLaidOut d
-read-laid file d e = let read = damaged_of-is file d e in damaged-laid file d read.1 read.0
+read-laid file d e = let read = damaged_of-is file d e in damaged_fields-laid file d read.1 read.0
 
 -- ---- when something is read
 
@@ -467,7 +469,7 @@ pub record HasFrames (file : List ℕ) : Type 0 where
 pub read-frames : (file : List ℕ) (d : DamagedFields) → damaged_of file ≡ Ok d → HasFrames file
 read-frames file d e =
     let read = damaged_of-is file d e in
-    let is = damaged-from file d read.1 in
+    let is = damaged_fields-from file d read.1 in
     let many : length d.survey.frames ≡ length (frames_of_things (things_from file is.first)) =
     ap (λ (c : DamagedFields). length c.survey.frames) (sym is.same)
     ∙ frames-many file (front_end_of file) is.first in
@@ -493,5 +495,5 @@ frames-read file is =
     let many = frames-many file (front_end_of file) is.first in
     damaged_of-short file is.long
     ∙ first-read file is.first is.begins
-    ∙ few_counted (front_end_of file) all.survey.frames all
+    ∙ no_frame_or_damaged-few (front_end_of file) all.survey.frames all
     (λ none. absurd (omega (arith, ap length none, many, is.some))) (omega (arith, many, is.few))

@@ -269,10 +269,10 @@ module _ (b : Begun) (old new : DamagedSoFar) (laid : IsLaidTo b old) where
 -- ---- what is read of the whole file
 
 -- the file is read from its first frame on
-pub damaged_is : (file : List ℕ) (b : Begun) → BeginsAsRead file b
+pub damaged_fields-is : (file : List ℕ) (b : Begun) → BeginsAsRead file b
     → damaged_fields file ≡ damaged_with_count b.start.front_end (whole_damaged file b)
 unfolding damaged_fields
-damaged_is file b begins =
+damaged_fields-is file b begins =
     ap (λ n. damaged_by file n (first_frame file n)) (sym begins.front)
     ∙ ap (damaged_by file b.start.front_end) begins.first
 
@@ -282,11 +282,11 @@ get_first [] ys r n is = ap (slice_get (r ∷ ys)) (sym is)
 get_first (x ∷ xs) ys r n is =
     ap (slice_get (x ∷ (xs ++ r ∷ ys))) (sym is) ∙ get_first xs ys r (length xs) refl
 
-many_counted : (front_end : ℕ) (rows : List Row) (d : DamagedFields) (r : Row)
+no_frame_or_damaged-many : (front_end : ℕ) (rows : List Row) (d : DamagedFields) (r : Row)
     → slice_get rows most_frames ≡ Some r
     → no_frame_or_damaged front_end rows d ≡ Err (TooManyFrames r.offset)
-many_counted front_end [] d r is = absurd cc
-many_counted front_end (q ∷ rows) d r is = ap (λ o. excess_or_damaged o d) is
+no_frame_or_damaged-many front_end [] d r is = absurd cc
+no_frame_or_damaged-many front_end (q ∷ rows) d r is = ap (λ o. excess_or_damaged o d) is
 
 -- a frame past the number that there may be is the fault of the file
 pub past_most : (file : List ℕ) (b : Begun) (found : DamagedSoFar) (item : Item)
@@ -302,24 +302,26 @@ past_most file b found (Frame h) fault begins few so_far is past =
     let rows : found.rows.items ++ row ∷ rest ≡ (whole_damaged file b).survey.frames =
     sym (ap (λ l. found.rows.items ++ rows_left file found.before l) here) ∙ so_far.rows in
     damaged_of-short file few
-    ∙ damaged_is file b begins
-    ∙ many_counted b.start.front_end (whole_damaged file b).survey.frames (whole_damaged file b) row
+    ∙ damaged_fields-is file b begins
+    ∙ no_frame_or_damaged-many b.start.front_end (whole_damaged file b).survey.frames
+    (whole_damaged file b) row
     (ap (λ l.
     slice_get l most_frames) (sym rows) ∙ get_first found.rows.items rest row most_frames past.1)
     ∙ ap Err (sym past.0)
 past_most file b found _ fault begins few so_far is past = absurd past
 
 -- rows without a frame besides the head have that fault
-none_counted : (front_end : ℕ) (rows : List Row) (d : DamagedFields) → rows ≡ []
+no_frame_or_damaged-none : (front_end : ℕ) (rows : List Row) (d : DamagedFields) → rows ≡ []
     → no_frame_or_damaged front_end rows d ≡ Err (NoFrame front_end)
-none_counted front_end rows d is = ap (λ l. no_frame_or_damaged front_end l d) is
+no_frame_or_damaged-none front_end rows d is = ap (λ l. no_frame_or_damaged front_end l d) is
 
 -- if no frame was found, the file is refused where its front ends
 pub no_frames : (file : List ℕ) (b : Begun) (found : DamagedSoFar) → BeginsAsRead file b
     → length file ≤ longest_file → IsReadWhole file b found → found.rows.items ≡ []
     → damaged_of file ≡ Err (NoFrame b.start.front_end)
 no_frames file b found begins few read none =
-    damaged_of-short file few ∙ damaged_is file b begins ∙ none_counted b.start.front_end
+    damaged_of-short file few ∙ damaged_fields-is file b begins
+    ∙ no_frame_or_damaged-none b.start.front_end
     (whole_damaged file b).survey.frames (whole_damaged file b) (sym read.rows ∙ none)
 
 -- a file without a first frame has that fault
@@ -336,10 +338,10 @@ no_first file front_end front few none =
     damaged_of-short file few ∙ first_none file front_end front none
 
 -- frames that are some, and not too many, have no fault by their number
-pub few_counted : (front_end : ℕ) (rows : List Row) (d : DamagedFields) → (rows ≡ [] → ⊥)
-    → length rows ≤ most_frames → no_frame_or_damaged front_end rows d ≡ Ok d
-few_counted front_end [] d some few = absurd (some refl)
-few_counted front_end (r ∷ rows) d some few =
+pub no_frame_or_damaged-few : (front_end : ℕ) (rows : List Row) (d : DamagedFields)
+    → (rows ≡ [] → ⊥) → length rows ≤ most_frames → no_frame_or_damaged front_end rows d ≡ Ok d
+no_frame_or_damaged-few front_end [] d some few = absurd (some refl)
+no_frame_or_damaged-few front_end (r ∷ rows) d some few =
     ap (λ o. excess_or_damaged o d) (slice_get_past (r ∷ rows) most_frames few)
 
 -- what the code returns is what is read
@@ -366,8 +368,9 @@ pub all_read : (file : List ℕ) (b : Begun) (found : DamagedSoFar) → BeginsAs
     → length found.rows.items ≤ most_frames → damaged_of file ≡ Ok (found_view b found)
 all_read file b found begins few size read some most =
     damaged_of-short file few
-    ∙ damaged_is file b begins
-    ∙ few_counted b.start.front_end (whole_damaged file b).survey.frames (whole_damaged file b)
+    ∙ damaged_fields-is file b begins
+    ∙ no_frame_or_damaged-few b.start.front_end (whole_damaged file b).survey.frames
+    (whole_damaged file b)
     (λ none. some (read.rows ∙ none)) (subst (λ l. length l ≤ most_frames) read.rows most)
     ∙ ap Ok (told_is file b found begins size read)
 

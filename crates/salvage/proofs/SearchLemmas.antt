@@ -174,12 +174,12 @@ none_later file role from at later earlier before here behind low high =
 -- ---- the search
 
 -- a usable frame with none before it is the next one
-pub next_usable-some : (file : List ℕ) (role : Role) (from at : ℕ) (p : PlacedFrame) → from ≤ at
-    → at < length file → usable_frame_at file role at ≡ Some p
+pub next_usable_frame-some : (file : List ℕ) (role : Role) (from at : ℕ) (p : PlacedFrame)
+    → from ≤ at → at < length file → usable_frame_at file role at ≡ Some p
     → ((k : ℕ) → from ≤ k → k < at → usable_frame_at file role k ≡ None)
     → next_usable_frame file role from ≡ Some p
 unfolding next_usable_frame
-next_usable-some file role from at p low high here none =
+next_usable_frame-some file role from at p low high here none =
     first_of-some (usable_frame_at file role) (length file) from at p
     (record { low = low; high = omega (arith, high); here = here; none = none })
 
@@ -191,11 +191,11 @@ none_by_end file role from to at end none low true e =
 none_by_end file role from to at end none low false e = none at low (leb-false to at e)
 
 -- if there is no usable frame before the end of the file, there is no next one
-pub next_usable-none : (file : List ℕ) (role : Role) (from to : ℕ) → length file ≤ to
+pub next_usable_frame-none : (file : List ℕ) (role : Role) (from to : ℕ) → length file ≤ to
     → ((k : ℕ) → from ≤ k → k < to → usable_frame_at file role k ≡ None)
     → next_usable_frame file role from ≡ None
 unfolding next_usable_frame
-next_usable-none file role from to end none =
+next_usable_frame-none file role from to end none =
     first_of-none (usable_frame_at file role) (length file) from
     (λ at low high. none_by_end file role from to at end none low (leb to at) refl)
 

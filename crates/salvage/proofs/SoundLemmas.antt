@@ -58,10 +58,10 @@ module _ (head : Option Head) where
   behind-none = ap (λ n. record { place = n; ended = 0 }) (sym (place-none head))
 
   -- the first frame is judged with the place after the head's area
-  pub judged-from : (rows : List Row)
+  pub judged_rows-from : (rows : List Row)
       → judged_rows head rows ≡ judged_from (record { place = head_area head; ended = 0 }) rows
   unfolding judged_rows
-  judged-from rows = judged_rest [] rows ∙ ap (λ b. judged_from b rows) behind-none
+  judged_rows-from rows = judged_rest [] rows ∙ ap (λ b. judged_from b rows) behind-none
 
 -- ---- all runs
 
@@ -74,12 +74,13 @@ later_same : (file : List ℕ) (later : List (List PlacedFrame))
     ≡ flat_map (λ run. judged_from empty_state (rows_of file run)) later
 later_same file [] = refl
 later_same file (run ∷ later) =
-    ap₂ (λ (a b : List Row). a ++ b) (judged-from None (rows_of file run)) (later_same file later)
+    ap₂ (λ (a b : List Row). a ++ b) (judged_rows-from None (rows_of file run))
+    (later_same file later)
 
 runs-from : (file : List ℕ) (head : Option Head) (runs : FrameRuns) → judged_runs file head runs
     ≡ runs_from file (record { place = head_area head; ended = 0 }) runs
 runs-from file head runs = ap₂ (λ (a b : List Row). a ++ b)
-    (judged-from head (rows_of file runs.first)) (later_same file runs.later)
+    (judged_rows-from head (rows_of file runs.first)) (later_same file runs.later)
 
 -- one more thing before the others
 thing_first : (file : List ℕ) (b : ReservoirState) (at : ℕ) (thing : ItemOrGap) (runs : FrameRuns)

@@ -9,8 +9,8 @@ use Rattle.bit_fields.{proofs.BitsLemmas.{bits-append, length-bits}, specs.Bits.
 use Rattle.frame_header.specs.Fields.{ClassFields, HeaderFields}
 use Rattle.frame_header.specs.Tables.{area_of, class_of, length_of, overhead_of}
 use Rattle.salvage.proofs.KeptLemmas.{sound_within}
-use Rattle.salvage.proofs.LaidOutLemmas.{damaged-from, damaged_of-is, read-laid}
-use Rattle.salvage.proofs.SoundLemmas.{judged-from, judged_from}
+use Rattle.salvage.proofs.LaidOutLemmas.{damaged_fields-from, damaged_of-is, read-laid}
+use Rattle.salvage.proofs.SoundLemmas.{judged_from, judged_rows-from}
 use Rattle.salvage.specs.DamagedFiles.{damaged_fields, damaged_from, DamagedFields, things_from}
 use Rattle.salvage.specs.{JudgedFrames.state_after_frame, Laws.SalvageTellsStreams}
 use Rattle.salvage.specs.Progress.{IsDamagedLaidOut}
@@ -241,9 +241,9 @@ module _ (file : List ℕ) where
       → AllFit size (head_area head) (judged_rows head rows)
   run_fits head rows size room =
       let from : ReservoirState = record { place = head_area head; ended = 0 } in
-      subst (AllFit size (head_area head)) (sym (judged-from head rows))
+      subst (AllFit size (head_area head)) (sym (judged_rows-from head rows))
       (judged_fit size from rows
-      (omega (arith, room, ap areas (judged-from head rows), areas_judged from rows)))
+      (omega (arith, room, ap areas (judged_rows-from head rows), areas_judged from rows)))
 
   later_stream : (before : List ℕ) (later : List (List PlacedFrame))
       → AreWhole file (flat_map of_run later)
@@ -336,7 +336,7 @@ told_stream file front_end first laid =
 pub stream-told : (file : List ℕ) (d : DamagedFields) → damaged_fields file ≡ Ok d
     → IsDamagedLaidOut d → stream_of_survey file d.survey ≡ salvaged_stream file
 stream-told file d e laid =
-    let is = damaged-from file d e in
+    let is = damaged_fields-from file d e in
     ap (λ (c : DamagedFields). stream_of_survey file c.survey) (sym is.same)
     ∙ told_stream file (front_end_of file) is.first (subst IsDamagedLaidOut (sym is.same) laid)
     ∙ from_first file is.first is.first_is

@@ -12,10 +12,10 @@ use Rattle.salvage.specs.UsableFrames.{frame_if_usable, has_right_crc, is_head, 
 use Rattle.salvage.specs.UsableFrames.{usable_frame_at}
 use Rattle.salvage.specs.{Walk.{is_item_read, item_if_read, item_read}, declared.usable.Role.Role}
 use Rattle.salvage.specs.declared.usable.Role.TheVariants.{First, Later}
-use Rattle.side_info.proofs.FrameLemmas.{overhead-few, side_in-take, word_said-take}
+use Rattle.side_info.proofs.FrameLemmas.{overhead-few, side_in-take, stored_crc-take}
 use Rattle.side_info.specs.{CheckWord.check_word_of, Frame.{side_in, side_part, side_place}}
 use Rattle.side_info.specs.Side.{side_at}
-use Rattle.sync_survey.proofs.{LooksLemmas.item_at-shown, RunsLemmas.item_of-whole}
+use Rattle.sync_survey.proofs.{LooksLemmas.item_at-shown, RunsLemmas.whole_item_at-whole}
 use Rattle.sync_survey.proofs.StepLemmas.{length_few, overhead_few}
 use Rattle.sync_survey.specs.Items.{header_front, item_front, size_of}
 use Rattle.sync_survey.specs.{Looks.{look_size, PassesFront, Shows}, Runs.{belongs, whole_item_at}}
@@ -52,7 +52,7 @@ word-take : (h : HeaderFields) (n : ℕ) (bytes : List ℕ) → 6 ≤ n
     → overhead_of (class_of h) h.protected ≤ n
     → has_right_crc h (take n bytes) ≡ has_right_crc h bytes
 word-take h n bytes six room =
-    ap₂ (λ (said right : ℕ). not h.protected || (said == right)) (word_said-take n bytes six)
+    ap₂ (λ (said right : ℕ). not h.protected || (said == right)) (stored_crc-take n bytes six)
     (ap (check_word_of h) (side_in-take h n bytes room))
 
 head-take : (p : PlacedFrame) (n : ℕ) (bytes : List ℕ)
@@ -138,7 +138,8 @@ module _ (file : List ℕ) (at : ℕ) (front : List ℕ) (left : ℕ)
   whole_by : (item : Item) (size : ℕ) → item ≡ item_front front → belongs Stream item ≡ true → 0
       < size_of item → size_of item ≤ size → size ≤ left → whole_item_at Stream file at ≡ Some item
   whole_by item size is here some least within =
-      item_of-whole Stream file at item (sym (item_at-shown file at front left shows) ∙ sym is) here
+      whole_item_at-whole Stream file at item
+      (sym (item_at-shown file at front left shows) ∙ sym is) here
       (omega (arith, some, least, within, shows.left_is))
 
   step_whole : (item : Item) (size : ℕ) → item ≡ item_front front

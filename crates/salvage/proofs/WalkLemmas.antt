@@ -11,7 +11,7 @@ use Rattle.salvage.specs.Walk.{item_read, ItemOrGap, offset_or_end, PlacedThing,
 use Rattle.salvage.specs.Walk.{thing_at, thing_or_gap, things, things_up_to}
 use Rattle.salvage.specs.declared.usable.Role.{Role, TheVariants.Later}
 use Rattle.sync_survey.proofs.LooksLemmas.{zero_at, zero_test, zeros_shown}
-use Rattle.sync_survey.proofs.RunsLemmas.{cons_list, IsItemOf, item_of-is, whole_cases}
+use Rattle.sync_survey.proofs.RunsLemmas.{cons_list, IsItemOf, whole_cases, whole_item_at-is}
 use Rattle.sync_survey.proofs.StartLemmas.{anchored_frame-is, first_of-is, IsAnchoredAt}
 use Rattle.sync_survey.specs.{Items.size_of, Looks.Shows, Runs.{block_of_item, whole_item_at}}
 use Rattle.sync_survey.specs.{Start.anchored_frame, declared.items.Item.Item}
@@ -33,7 +33,8 @@ pub item_read-is : (file : List ℕ) (role : Role) (at : ℕ) (item : Item)
     → item_read file role at ≡ Some item → IsItemOf Stream file at item
 unfolding item_read
 item_read-is file role at item e =
-    item_of-is Stream file at item (read_by file role at (whole_item_at Stream file at) item refl e)
+    whole_item_at-is Stream file at item
+    (read_by file role at (whole_item_at Stream file at) item refl e)
 
 -- ---- the next frame
 
@@ -47,10 +48,10 @@ usable_by : (file : List ℕ) (role : Role) (at : ℕ) (o : Option PlacedFrame) 
 usable_by file role at None p is e = absurd cc
 usable_by file role at (Some q) p is e = is ∙ ap Some (usable_cases _ q p e)
 
-usable_anchored-is : (file : List ℕ) (role : Role) (at : ℕ) (p : PlacedFrame)
+usable_frame_at-is : (file : List ℕ) (role : Role) (at : ℕ) (p : PlacedFrame)
     → usable_frame_at file role at ≡ Some p → IsAnchoredAt file at p
 unfolding usable_frame_at
-usable_anchored-is file role at p e =
+usable_frame_at-is file role at p e =
     anchored_frame-is file at p (usable_by file role at (anchored_frame file at) p refl e)
 
 -- a frame is within the file, and not before the offset from which it is looked for
@@ -59,12 +60,12 @@ pub record IsNext (file : List ℕ) (from : ℕ) (p : PlacedFrame) : Type 0 wher
   pub frame : IsItemOf Stream file p.offset (Frame p.header)
 
 -- the next usable frame is within the file, and not before the offset from which it is looked for
-pub next_usable-is : (file : List ℕ) (role : Role) (from : ℕ) (p : PlacedFrame)
+pub next_usable_frame-is : (file : List ℕ) (role : Role) (from : ℕ) (p : PlacedFrame)
     → next_usable_frame file role from ≡ Some p → IsNext file from p
 unfolding next_usable_frame
-next_usable-is file role from p e =
+next_usable_frame-is file role from p e =
     let first = first_of-is (usable_frame_at file role) (length file) from p e in
-    let there = usable_anchored-is file role first.0 p first.1.here in
+    let there = usable_frame_at-is file role first.0 p first.1.here in
     record { low = omega (arith, first.1.low, there.offset); frame = there.frame }
 
 -- ---- a gap
@@ -78,7 +79,7 @@ gap_by : (file : List ℕ) (class : ClassFields) (at : ℕ) (o : Option PlacedFr
     → next_usable_frame file (Later class) (at + 1) ≡ o → IsGapTo file at (offset_or_end file o)
 gap_by file class at None before is = record { some = before; within = omega arith }
 gap_by file class at (Some p) before is =
-    let next = next_usable-is file (Later class) (at + 1) p is in
+    let next = next_usable_frame-is file (Later class) (at + 1) p is in
     record { some = omega (arith, next.low); within = omega (arith, next.frame.within) }
 
 -- a gap has at least one byte, and ends within the file

@@ -5,7 +5,8 @@ use Rattle.std.{proofs.lemmas.List.length-map, specs.Result.IsErrAnd}
 use Rattle.bit_fields.specs.Bits.{AreBytes}
 use Rattle.commands.proofs.MakeLemmas.{clash_left, early_left, one_done, one_left, one_streams}
 use Rattle.commands.proofs.RefusingLemmas.{before_first}
-use Rattle.commands.proofs.TellingLemmas.{telling-done, telling-left, telling-streams, telling-text}
+use Rattle.commands.proofs.TellingLemmas.{telling_command-done, telling_command-left}
+use Rattle.commands.proofs.TellingLemmas.{telling_command-streams, telling_command-text}
 use Rattle.commands.specs.AfterCall.{HasNumbers, HasPassNumbers, IsCommandDone, IsCommandFault}
 use Rattle.commands.specs.{AfterCall.IsLateFault, Command.{AreSoundFiles, Command, HoldsStreams}}
 use Rattle.commands.specs.{FaultKinds.input_edit_fault, SentText.IsCommandText}
@@ -27,7 +28,7 @@ use Rattle.salvage.specs.DamagedFiles.{DamagedFields, excess_or_damaged, IsDamag
 use Rattle.salvage.specs.DamagedFiles.{IsDamagedOf, most_frames, no_frame_or_damaged}
 use Rattle.salvage.specs.{DamagedFiles.RefusesDamaged, EmptiedFrames.emptied_from}
 use Rattle.salvage.specs.{Text.salvage_text, Walk.first_frame, declared.mended.Mended.Mended}
-use Rattle.salvage_edits.proofs.HadLemmas.{damaged-had}
+use Rattle.salvage_edits.proofs.HadLemmas.{damaged_fields-relaid}
 use Rattle.salvage_edits.proofs.OrderLemmas.{report-text-same, reports-order}
 use Rattle.salvage_edits.proofs.StreamLemmas.{salvaged-holds}
 use Rattle.salvage_edits.specs.Ordered.{IsReportInOrder, report_text}
@@ -72,20 +73,22 @@ many-late : (file : List ℕ) (o : Option Row) (d : DamagedFields)
 many-late file None d = tt
 many-late file (Some r) d = refl
 
-counted-late : (file : List ℕ) (front_end : ℕ) (rows : List Row) (d : DamagedFields)
+no_frame_or_damaged-late : (file : List ℕ) (front_end : ℕ) (rows : List Row) (d : DamagedFields)
     → IfErr (salvaged_or_fault file (no_frame_or_damaged front_end rows d)) IsLateFault
-counted-late file front_end [] d = refl
-counted-late file front_end (r ∷ rows) d = many-late file (slice_get (r ∷ rows) most_frames) d
+no_frame_or_damaged-late file front_end [] d = refl
+no_frame_or_damaged-late file front_end (r ∷ rows) d =
+    many-late file (slice_get (r ∷ rows) most_frames) d
 
 read-late : (file : List ℕ) (front_end : ℕ) (o : Option PlacedFrame)
     → IfErr (salvaged_or_fault file (damaged_by file front_end o)) IsLateFault
 read-late file front_end None = refl
-read-late file front_end (Some first) = counted-late file front_end
+read-late file front_end (Some first) = no_frame_or_damaged-late file front_end
     (damaged_from file front_end first).survey.frames (damaged_from file front_end first)
 
-damaged-late : (file : List ℕ) → IfErr (salvaged_or_fault file (damaged_fields file)) IsLateFault
+damaged_fields-late : (file : List ℕ)
+    → IfErr (salvaged_or_fault file (damaged_fields file)) IsLateFault
 unfolding damaged_fields
-damaged-late file = read-late file (front_end_of file) (first_frame file (front_end_of file))
+damaged_fields-late file = read-late file (front_end_of file) (first_frame file (front_end_of file))
 
 -- the refusals of a file that isn't too long are late
 pub salvage-late : (input : List ℕ) (f : Contents) (bytes : List ℕ) → f input ≡ Some bytes
@@ -93,7 +96,7 @@ pub salvage-late : (input : List ℕ) (f : Contents) (bytes : List ℕ) → f in
 salvage-late input f bytes held few =
     subst (λ o. IfErr (input_salvaged o) IsLateFault) (sym held)
     (subst (λ r. IfErr (salvaged_or_fault bytes r) IsLateFault)
-    (sym (damaged_of-short bytes few)) (damaged-late bytes))
+    (sym (damaged_of-short bytes few)) (damaged_fields-late bytes))
 
 -- ---- a fault of the reading
 
@@ -184,7 +187,8 @@ module _ (input : List ℕ) where
   mended-has : (files : Files) (m : Mended) (is : IsMended input files m) → (bytes : List ℕ)
       → Holds files input bytes → CanBeRelaid bytes (survey_view m.survey)
   mended-has files m is bytes holds = subst (CanBeRelaid bytes) (sym is.survey)
-      (damaged-had bytes is.of (damaged_of-is bytes is.of (is.read bytes holds)).1 is.laid)
+      (damaged_fields-relaid bytes
+      is.of (damaged_of-is bytes is.of (is.read bytes holds)).1 is.laid)
 
   -- the work that was made from what is left is prepared for the pass
   pub ready-of : (files : Files) (m : Mended) (selected : Selected) (work : SalvageWork)
@@ -260,7 +264,7 @@ module _ (input : List ℕ) where
     pub ready-text : (output all : List ℕ) → IsCommandText (salvage_command input output) files all
         → all ≡ report_text (length (survey_view work.laid.survey).frames) work.report
     ready-text output all is =
-        let told = telling-text (λ f. input_salvage_text (f input))
+        let told = telling_command-text (λ f. input_salvage_text (f input))
         (one_command (salvage_task input) output) files all is in
         told.2 ∙ at files told.1 ready.layable.there ready.read
         ∙ sym (report-text-same ready.of work.report ready.reports)
@@ -288,7 +292,7 @@ pub left-clash : (input output : List ℕ) (place : ℕ) (now : Seen)
     → clash_in (salvage_task input) output ≡ Some place
     → IsCommandFault (salvage_command input output) now now (EqualNames place)
 left-clash input output place now clash =
-    telling-left (λ f. input_salvage_text (f input))
+    telling_command-left (λ f. input_salvage_text (f input))
     (one_command (salvage_task input) output) now now
     (EqualNames place) (clash_left (salvage_task input) output place now clash)
 
@@ -303,7 +307,7 @@ module _ (input output : List ℕ) (free : clash_in (salvage_task input) output 
   pub left-early : (old new : Seen) (fault : EditFault)
       → IsEarlyFault (salvage_task input) old new fault
       → IsCommandFault (salvage_command input output) old new fault
-  left-early old new fault h = telling-left text silent old new fault
+  left-early old new fault h = telling_command-left text silent old new fault
       (early_left (salvage_task input) output free (salvage-late input) old new fault h)
 
   module _ (old mid new : Seen) (work : SalvageWork) (stays : mid ≡ old)
@@ -319,7 +323,8 @@ module _ (input output : List ℕ) (free : clash_in (salvage_task input) output 
     pub left-done : ((bytes : List ℕ) → Holds mid.files input bytes
         → new.files ≡ files_holding mid.files output (made bytes)) → new.counts ≡ mid.counts
         → IsCommandDone (salvage_command input output) old new
-    left-done wrote counts = telling-done text silent old new (one_done (salvage_task input) output
+    left-done wrote counts =
+        telling_command-done text silent old new (one_done (salvage_task input) output
         free made old mid new stays making touches done wrote counts)
       where
         done : Result (Unit {0}) EditFault
@@ -330,7 +335,8 @@ module _ (input output : List ℕ) (free : clash_in (salvage_task input) output 
         → IsPassFault made (input ∷ []) output mid new fault
         → IsCommandFault (salvage_command input output) old new fault
     left-part fault numbers h =
-        telling-left text silent old new fault (one_left (salvage_task input) output free made old
+        telling_command-left text silent old new fault
+        (one_left (salvage_task input) output free made old
         mid new stays making touches refl failed numbers h)
       where
         failed : Result (Unit {0}) EditFault
@@ -340,7 +346,7 @@ module _ (input output : List ℕ) (free : clash_in (salvage_task input) output 
   pub left-streams : (files : Files) (work : SalvageWork) → IsSalvageReady input files work
       → HoldsStreams (salvage_command input output) files
   left-streams files work ready =
-      telling-streams text silent files
+      telling_command-streams text silent files
       (one_streams (salvage_task input) output free (work_file work.laid) files
       (ready-makes input files work ready) (ready-holds input files work ready) done)
     where

@@ -9,8 +9,9 @@ use Rattle.laying.proofs.BlockLemmas.{block_more, blocks-append, ends-blocks}
 use Rattle.laying.proofs.{ReadLemmas.laid-behind, SurveyFrameLemmas.{head-whole, shaped_pairs}}
 use Rattle.laying.specs.LaidFiles.{AreBlocks, block_bytes, HasPairs}
 use Rattle.laying.specs.Surveys.{AreWholeRows, CanBeRelaid, IsWholeFrameAt}
-use Rattle.salvage.proofs.{LaidOutLemmas.{damaged-from, first_frame-is}, MendedLemmas.survey-mended}
-use Rattle.salvage.proofs.{SoundLemmas.runs-left, WalkLemmas.item_read-is}
+use Rattle.salvage.proofs.LaidOutLemmas.{damaged_fields-from, first_frame-is}
+use Rattle.salvage.proofs.{MendedLemmas.survey-mended, SoundLemmas.runs-left}
+use Rattle.salvage.proofs.WalkLemmas.{item_read-is}
 use Rattle.salvage.specs.DamagedFiles.{damaged_fields, damaged_from, DamagedFields, things_from}
 use Rattle.salvage.specs.JudgedFrames.{rows_left, state_after_thing, thing_rows}
 use Rattle.salvage.specs.Progress.{IsDamagedLaidOut, RowsAreOfClass}
@@ -20,7 +21,7 @@ use Rattle.salvage.specs.Walk.{PlacedThing, size_of_thing, thing_at, thing_or_ga
 use Rattle.salvage.specs.Walk.{things_up_to}
 use Rattle.side_info.{proofs.FrameLemmas.shaped-side_in, specs.Frame.side_in}
 use Rattle.sync_survey.proofs.ItemsLemmas.{header_front-in_range, stands-at}
-use Rattle.sync_survey.{proofs.RunsLemmas.{IsItemOf, run-ends}, specs.HeadApart.emptied_survey}
+use Rattle.sync_survey.{proofs.RunsLemmas.{IsItemOf, item_run-ends}, specs.HeadApart.emptied_survey}
 use Rattle.sync_survey.specs.{MainData.head_area, Row.Row, Runs.{blocks_of, item_run}}
 use Rattle.sync_survey.specs.{Start.front_end_of, Survey.FramesAreLaid, Walk.head_of}
 use Rattle.sync_survey.specs.declared.{items.Item.{Item, TheVariants.Frame}, places.Head.Head}
@@ -135,7 +136,7 @@ module _ (file : List ℕ) where
       (sym (map-append (block_bytes file) (blocks_of front.items) (blocks_of_things found)))
       (blocks-append (map (block_bytes file) (blocks_of front.items))
       (map (block_bytes file) (blocks_of_things found))
-      (ends-blocks Front file 0 front.items front.stop (run-ends Front file 0))
+      (ends-blocks Front file 0 front.items front.stop (item_run-ends Front file 0))
       (things-blocks (class_of first.header) _))
 
   -- ---- the whole file
@@ -158,10 +159,10 @@ module _ (file : List ℕ) where
       }
 
 -- what is left of a damaged file is in the file as its survey says
-pub damaged-had : (file : List ℕ) (d : DamagedFields) → damaged_fields file ≡ Ok d
+pub damaged_fields-relaid : (file : List ℕ) (d : DamagedFields) → damaged_fields file ≡ Ok d
     → IsDamagedLaidOut d → CanBeRelaid file (emptied_survey d.survey)
-damaged-had file d e laid =
-    let is = damaged-from file d e in
+damaged_fields-relaid file d e laid =
+    let is = damaged_fields-from file d e in
     subst (λ (c : DamagedFields). CanBeRelaid file (emptied_survey c.survey)) is.same
     (begun-had file (front_end_of file) is.first (first-whole file
     (front_end_of file) is.first is.first_is) (subst IsDamagedLaidOut (sym is.same) laid))

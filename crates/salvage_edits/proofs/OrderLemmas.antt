@@ -65,10 +65,10 @@ lines-all r order = ordered_both line_offset (map First r.gaps.items)
     (map Second r.emptied.items) 0 0 order.gaps order.emptied
 
 -- a walk over the report begins with all its entries left
-pub all-left : (m : Merge Gap Emptied) (r : Report) → IsReportInOrder r
+pub entries_left-all : (m : Merge Gap Emptied) (r : Report) → IsReportInOrder r
     → firsts_left m ≡ r.gaps.items → seconds_left m ≡ r.emptied.items
     → entries_left (λ g. g.offset) (λ e. e.offset) m ≡ damage_lines r.gaps.items r.emptied.items
 unfolding entries_left
-all-left m r order gaps emptied =
+entries_left-all m r order gaps emptied =
     ap₂ (λ gs es. merged_list line_offset (map First gs) (map Second es)) gaps emptied
     ∙ sym (lines-all r order)

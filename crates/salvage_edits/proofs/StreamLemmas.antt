@@ -8,7 +8,7 @@ use Rattle.laying.{proofs.PlacesLemmas.range-whole, specs.Relaid.stream_with_lea
 use Rattle.salvage.proofs.{MendedLemmas.survey-mended, StreamLemmas.{payload_none, stream-told}}
 use Rattle.salvage.specs.{DamagedFiles.{damaged_fields, DamagedFields}, Progress.IsDamagedLaidOut}
 use Rattle.salvage.specs.Stream.{salvaged_stream}
-use Rattle.salvage_edits.proofs.HadLemmas.{damaged-had}
+use Rattle.salvage_edits.proofs.HadLemmas.{damaged_fields-relaid}
 use Rattle.salvage_edits.specs.Salvaged.{all_chosen, left_stream, salvaged_file}
 use Rattle.side_info.specs.{Side.no_side, declared.side.Side.Side}
 use Rattle.sync_survey.proofs.EmptiedLemmas.{empty_row, place-same}
@@ -113,5 +113,5 @@ module _ (file : List ℕ) (d : DamagedFields) (is : damaged_fields file ≡ Ok 
   unfolding salvaged_file
   salvaged-holds =
       subst (HoldsStream (chosen_file (all_chosen own) file own)) (sym left-is)
-      (chosen-holds (all_chosen own) file own (damaged-had file d is laid)
+      (chosen-holds (all_chosen own) file own (damaged_fields-relaid file d is laid)
       (survey-mended d laid).some (omega arith) refl)

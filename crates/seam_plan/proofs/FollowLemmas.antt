@@ -65,11 +65,11 @@ alike-sounds (f ∷ fs) (g ∷ gs) is =
     (alike-sounds fs gs parts.1)
 
 -- joining changes no sound
-pub joining-sounds : (window : ℕ) (run rest frames : List RunFrame)
+pub joining_frames-sounds : (window : ℕ) (run rest frames : List RunFrame)
     → joining_frames window run rest ≡ Some frames → sounds frames ≡ sounds rest
 unfolding joining_frames
-joining-sounds window run [] frames is = let same : [] ≡ frames = cc in ap sounds (sym same)
-joining-sounds window run (f ∷ fs) frames is =
+joining_frames-sounds window run [] frames is = let same : [] ≡ frames = cc in ap sounds (sym same)
+joining_frames-sounds window run (f ∷ fs) frames is =
     at (join_slot window (needs_of run) f.need (needs_of fs)) is
   where
     at : (o : Option SlotFields) → option_map (λ slot. frame_in_slot slot f ∷ fs) o ≡ Some frames
@@ -205,10 +205,10 @@ module _ (class : ClassFields) (run : List RunFrame) (before input : Brought) wh
     by_ended None ended_is none = absurd cc
     by_ended (Some p) ended_is some = by_played p input.played ended_is refl some
 
-    is-following : following_joint class run before input ≡ Some joint
+    following_joint-is : following_joint class run before input ≡ Some joint
         → IsFollowing class run before input joint
     unfolding following_joint
-    is-following is = by_ended before.played refl is
+    following_joint-is is = by_ended before.played refl is
 
   -- what becomes of an input that follows is the joint with which it can follow
   joint-follows : (out : ℕ) → (joint_of class run before input).seam ≡ Follows out
@@ -240,8 +240,8 @@ module _ (class : ClassFields) (run : List RunFrame) (before input : Brought) wh
     abbrev new : List RunFrame
     new = run ++ joint.frames
 
-    compared-length : length (compared_frames is.overlap input) ≡ shared - first
-    compared-length =
+    length-compared_frames : length (compared_frames is.overlap input) ≡ shared - first
+    length-compared_frames =
         length-take-le (shared - first) (drop first input.frames)
         (omega (arith, length-drop first input.frames, is.shared.there))
 
@@ -256,19 +256,19 @@ module _ (class : ClassFields) (run : List RunFrame) (before input : Brought) wh
     enough : shared - first ≤ length run
     enough = omega (
       arith,
-      compared-length,
+      length-compared_frames,
       leb-true (length (compared_frames is.overlap input)) (length run) alike-parts.0,
     )
 
     last-sounds : sounds (drop from_end run) ≡ sounds (compared_frames is.overlap input)
     last-sounds =
-        ap (λ n. sounds (drop (length run - n) run)) (sym compared-length)
+        ap (λ n. sounds (drop (length run - n) run)) (sym length-compared_frames)
         ∙ alike-sounds (drop (length run - length (compared_frames is.overlap input)) run)
         (compared_frames is.overlap input) alike-parts.1
 
     added-sounds : sounds joint.frames ≡ sounds (drop shared input.frames)
     added-sounds =
-        joining-sounds (window_of class.version) run (drop shared input.frames) joint.frames
+        joining_frames-sounds (window_of class.version) run (drop shared input.frames) joint.frames
         is.frames
 
     -- the frames that are alike and the added ones are the input's from the first of these on
@@ -398,7 +398,7 @@ followers-on class first inputs number before input joint out is_before is_input
     is_joint in
     let follows =
     joint-follows class run before input out (sym (ap (λ (j : JointFrames). j.seam) here) ∙ seam) in
-    let is = is-following class run before input joint
+    let is = following_joint-is class run before input joint
     (follows ∙ ap (λ (j : JointFrames). Some j) (sym here)) in
     let next : number + 1 ≡ suc number = omega arith in
     let after : run ++ joint.frames ≡ run_after first joints (number + 1) =

@@ -120,12 +120,13 @@ joining-as window left seam run first frames None is known none =
 -- ---- what `joins` returns
 
 -- an empty list of frames joins any run, without a slot
-pub joining-empty : (window : ℕ) (seam : Seam) (run rest : List RunFrame) (needs : List Need)
+pub joining_frames-empty : (window : ℕ) (seam : Seam) (run rest : List RunFrame) (needs : List Need)
     → needs ≡ needs_of rest → length needs ≡ 0 → IsJointOfFrames seam
     (joining_frames window run rest) (Some (record { seam = seam; slot = None }))
 unfolding joining_frames
-joining-empty window seam run [] needs is none = record { seam = refl; slot = refl }
-joining-empty window seam run (f ∷ fs) needs is none = absurd (omega (arith, none, ap length is))
+joining_frames-empty window seam run [] needs is none = record { seam = refl; slot = refl }
+joining_frames-empty window seam run (f ∷ fs) needs is none =
+    absurd (omega (arith, none, ap length is))
 
 first-known : (class : ClassFields) (first : RunFrame) (frames : List RunFrame) (needs : List Need)
     → needs ≡ needs_of (first ∷ frames) → AreNeedsOfClass class needs → IsClass class

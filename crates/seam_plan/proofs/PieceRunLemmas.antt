@@ -99,12 +99,12 @@ own-slot window run first needs known fits =
     (fits_behind window window (run ++ need_in_slot other first ∷ needs)) passes).0)
 
 -- frames that fit as they are join as they are
-pub own-joining : (window : ℕ) (run frames : List RunFrame) → AreHeadersKnown frames
+pub joining_frames-own : (window : ℕ) (run frames : List RunFrame) → AreHeadersKnown frames
     → fits_behind window window (needs_of (run ++ frames)) ≡ true
     → joining_frames window run frames ≡ Some frames
 unfolding joining_frames
-own-joining window run [] known fits = refl
-own-joining window run (f ∷ frames) known fits =
+joining_frames-own window run [] known fits = refl
+joining_frames-own window run (f ∷ frames) known fits =
     let fit =
     subst (λ l. fits_behind window window l ≡ true) (needs-append run (f ∷ frames)) fits in
     ap (option_map (λ slot. frame_in_slot slot f ∷ frames))
@@ -172,7 +172,7 @@ module _ (class : ClassFields) where
         at false is =
             ap₂ (λ (x y : Option JointFrames). unwrap_or (option_or x y) (whole_joint input))
             (none-follows piece.uncounted)
-            (led-without frames (piece.led is) is (own-joining window run frames known fits))
+            (led-without frames (piece.led is) is (joining_frames-own window run frames known fits))
 
   -- ---- all later pieces
 

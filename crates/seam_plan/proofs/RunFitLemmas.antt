@@ -146,8 +146,8 @@ module _ (class : ClassFields) (run : List RunFrame) (before input : Brought)
   abbrev window : ℕ
   window = window_of class.version
 
-  whole-added : FitsAlone class input → IsAdded class run input (whole_joint input)
-  whole-added alone =
+  whole_joint-added : FitsAlone class input → IsAdded class run input (whole_joint input)
+  whole_joint-added alone =
       let needs = map-append (λ (f : RunFrame). f.need) run input.frames in
       record {
         fits = subst (FitsBehind window window) (sym needs)
@@ -163,7 +163,7 @@ module _ (class : ClassFields) (run : List RunFrame) (before input : Brought)
       (λ seam frames is.
       let rest : List RunFrame = drop (left_out_count seam) input.frames in
       let joins = subst (JoinIn window run rest) is (joins-in window run rest fits) in
-      record { fits = joins.0; own = joins.1 }) (whole-added alone)
+      record { fits = joins.0; own = joins.1 }) (whole_joint-added alone)
 
 -- ---- all inputs
 

@@ -167,20 +167,20 @@ module _ (class : ClassFields) (run : List RunFrame) (before brought : Brought)
   HoldsIf None = Unit {0}
   HoldsIf (Some joint) = P joint
 
-  by-joining : (seam : Seam) (o : Option (List RunFrame))
+  by-joining_frames : (seam : Seam) (o : Option (List RunFrame))
       → joining_frames (window_of class.version) run (drop (left_out_count seam) brought.frames) ≡ o
       → HoldsIf (option_map (joint_with seam) o)
-  by-joining seam None is = tt
-  by-joining seam (Some frames) is = joins seam frames is
+  by-joining_frames seam None is = tt
+  by-joining_frames seam (Some frames) is = joins seam frames is
 
-  of-following : HoldsIf (following_joint class run before brought)
-  of-following = subst HoldsIf (sym (follow-is class run before brought))
+  of-following_joint : HoldsIf (following_joint class run before brought)
+  of-following_joint = subst HoldsIf (sym (follow-is class run before brought))
       (at (alike_overlap class run before brought))
     where
       at : (o : Option Overlap) → HoldsIf (option_and_then (follows_with class run brought) o)
       at None = tt
       at (Some overlap) =
-          by-joining (Follows overlap.frames)
+          by-joining_frames (Follows overlap.frames)
           (joining_frames (window_of class.version) run (drop overlap.frames brought.frames)) refl
 
   of-without : HoldsIf (joint_without_lead_in class run brought)
@@ -189,7 +189,7 @@ module _ (class : ClassFields) (run : List RunFrame) (before brought : Brought)
     where
       at : (b : Bool) → HoldsIf (without_if class run brought b)
       at true =
-          by-joining LeadIn
+          by-joining_frames LeadIn
           (joining_frames (window_of class.version) run (drop 1 brought.frames)) refl
       at false = tt
 
@@ -198,7 +198,7 @@ module _ (class : ClassFields) (run : List RunFrame) (before brought : Brought)
   pub joint-by : P (joint_of class run before brought)
   joint-by =
       at (following_joint class run before brought)
-      (joint_without_lead_in class run brought) of-following
+      (joint_without_lead_in class run brought) of-following_joint
       of-without
     where
       at : (x y : Option JointFrames) → HoldsIf x → HoldsIf y
@@ -221,11 +221,12 @@ Moves seam rest None = Unit {0}
 Moves seam rest (Some frames) = (result : CodeJoint) → IsJoint (joint_with seam frames) result
     → needs_of frames ≡ joined_needs result.slot (needs_of rest)
 
-joining-moves : (window : ℕ) (seam : Seam) (run rest : List RunFrame)
+joining_frames-moves : (window : ℕ) (seam : Seam) (run rest : List RunFrame)
     → Moves seam rest (joining_frames window run rest)
 unfolding joining_frames needs_with_first_slot
-joining-moves window seam run [] = λ result is. ap (λ o. joined_needs o []) (sym is.slot)
-joining-moves window seam run (f ∷ fs) = at (join_slot window (needs_of run) f.need (needs_of fs))
+joining_frames-moves window seam run [] = λ result is. ap (λ o. joined_needs o []) (sym is.slot)
+joining_frames-moves window seam run (f ∷ fs) =
+    at (join_slot window (needs_of run) f.need (needs_of fs))
   where
     at : (o : Option SlotFields) → Moves seam (f ∷ fs) (option_map (λ s. frame_in_slot s f ∷ fs) o)
     at None = tt
@@ -245,7 +246,7 @@ joint-adds class run before brought =
     (λ seam frames is result joined.
     let rest : List RunFrame = drop (left_out_count seam) brought.frames in
     let window = window_of class.version in
-    subst (Moves seam rest) is (joining-moves window seam run rest) result joined
+    subst (Moves seam rest) is (joining_frames-moves window seam run rest) result joined
     ∙ ap (joined_needs result.slot)
     (sym (drop-map (λ (f : RunFrame). f.need) (left_out_count seam) brought.frames)))
     (all-moves brought.frames)
@@ -261,10 +262,11 @@ length-moved (Some slot) (need ∷ needs) = refl
 -- ---- a whole input
 
 -- an input that is left whole joins in the slot of its first frame
-pub whole-joint : (input : Input) (brought : Brought) (first : Need) → IsBroughtInput input brought
-    → 0 < length input.needs.now → first ≡ slice_index_or input.needs.now 0 first
+pub whole_joint-is : (input : Input) (brought : Brought) (first : Need)
+    → IsBroughtInput input brought → 0 < length input.needs.now
+    → first ≡ slice_index_or input.needs.now 0 first
     → IsJoint (whole_joint brought) (record { seam = Whole; slot = Some first.header.slot })
-whole-joint input brought first is some at = record {
+whole_joint-is input brought first is some at = record {
   seam = refl;
   slot = first-slot brought.frames first (subst (λ l. 0 < length l) is.needs some)
       (subst (λ l. first ≡ slice_index_or l 0 first) is.needs at);

@@ -14,8 +14,9 @@ use Rattle.exact_span.specs.declared.{overlap.Overlap.Overlap, played.Played.Pla
 use Rattle.frame_header.specs.{Fields.ClassFields, Tables.{samples_of, window_of}}
 use Rattle.frame_header.specs.declared.version.Version.{Version, TheVariants.{One, Two, TwoFive}}
 use Rattle.seam_plan.proofs.{FitLemmas.fits-tested, FollowLemmas.added}
-use Rattle.seam_plan.proofs.PieceRunLemmas.{empty-fits, front-fits, known-behind, known-front}
-use Rattle.seam_plan.{proofs.PieceRunLemmas.own-joining, specs.Frames.{Brought, needs_of, RunFrame}}
+use Rattle.seam_plan.proofs.PieceRunLemmas.{empty-fits, front-fits, joining_frames-own}
+use Rattle.seam_plan.proofs.PieceRunLemmas.{known-behind, known-front}
+use Rattle.seam_plan.specs.Frames.{Brought, needs_of, RunFrame}
 use Rattle.seam_plan.specs.Joins.{fits_behind, joining_frames}
 use Rattle.seam_plan.specs.Laws.{AreEmptyFrames, AreHeadersKnown, AreSpansOf, is_following_seam}
 use Rattle.seam_plan.specs.Laws.{IsSpanOf, spans_end, SpansAreOneRun}
@@ -240,16 +241,16 @@ module _ (class : ClassFields) (all : List RunFrame) (known : AreHeadersKnown al
       abbrev alike_from : ℕ
       alike_from = is.from + (first - z)
 
-      compared-is : compared_frames overlap input ≡ slice_range all alike_from last
-      compared-is =
+      compared_frames-is : compared_frames overlap input ≡ slice_range all alike_from last
+      compared_frames-is =
           let end_is : alike_from + (shared - first) ≡ last = omega (arith, leads-before, some) in
           ap (take (shared - first)) (input-drop first leads-before (omega (arith, within)))
           ∙ take-range all alike_from is.to (shared - first) (omega (arith, leads-before, some, on))
           ∙ ap (slice_range all alike_from) end_is
 
-      compared-many : length (compared_frames overlap input) ≡ last - alike_from
-      compared-many =
-          ap (λ (l : List RunFrame). length l) compared-is
+      compared_frames-many : length (compared_frames overlap input) ≡ last - alike_from
+      compared_frames-many =
+          ap (λ (l : List RunFrame). length l) compared_frames-is
           ∙ length-range all alike_from last one.within
 
       run-many : length run ≡ length leads + (last - low)
@@ -262,7 +263,7 @@ module _ (class : ClassFields) (all : List RunFrame) (known : AreHeadersKnown al
       run-drop =
           let there : length run - length (compared_frames overlap input)
           ≡ length leads + (alike_from - low) =
-          omega (arith, run-many, compared-many, late, low_last, leads-before, some) in
+          omega (arith, run-many, compared_frames-many, late, low_last, leads-before, some) in
           let from_is : low + (alike_from - low) ≡ alike_from = omega (arith, late) in
           ap (λ n. drop n run) there
           ∙ drop-append-add leads (slice_range all low last) (alike_from - low)
@@ -275,8 +276,8 @@ module _ (class : ClassFields) (all : List RunFrame) (known : AreHeadersKnown al
           (are_frames_alike (drop (length run - length (compared_frames overlap input)) run)
           (compared_frames overlap input))
           (le-leb (length (compared_frames overlap input)) (length run)
-          (omega (arith, run-many, compared-many, late)))
-          (ap₂ (λ (x y : List RunFrame). are_frames_alike x y) run-drop compared-is
+          (omega (arith, run-many, compared_frames-many, late)))
+          (ap₂ (λ (x y : List RunFrame). are_frames_alike x y) run-drop compared_frames-is
           ∙ alike-same (slice_range all alike_from last))
 
       added-is : drop shared input.frames ≡ slice_range all last is.to
@@ -293,7 +294,8 @@ module _ (class : ClassFields) (all : List RunFrame) (known : AreHeadersKnown al
           ≡ Some (slice_range all last is.to)
       joins =
           ap (joining_frames window run) added-is
-          ∙ own-joining window run (slice_range all last is.to) (range-known all last is.to known)
+          ∙ joining_frames-own window run (slice_range all last is.to)
+          (range-known all last is.to known)
           (ap (λ (l : List RunFrame). fits_behind window window (needs_of l)) run-on
           ∙ leads-fit window leads (slice_range all low is.to) empty
           (range-fits all window low is.to fits))

@@ -126,24 +126,24 @@ length-word n = length-bytes 2 (bits_of 16 n) (length-bits_of 16 n)
 
 -- a protected frame gets the side information and the right check word, and keeps its header and
 -- area
-pub frame_with-protected : (h : HeaderFields) (s : Side) (frame : List ℕ) → h.protected ≡ true
+pub frame_with_side-protected : (h : HeaderFields) (s : Side) (frame : List ℕ) → h.protected ≡ true
     → frame_with_side h s frame ≡ take 4 frame ++ (bytes (bits_of 16 (check_word_of h s))
     ++ (bytes (side_bits (class_of h) s) ++ drop (6 + side_size_of (class_of h)) frame))
 unfolding frame_with_side overhead_of
-frame_with-protected h s frame is = rw is refl
+frame_with_side-protected h s frame is = rw is refl
 
 -- an unprotected frame gets the side information, and keeps its header and area
-pub frame_with-unprotected : (h : HeaderFields) (s : Side) (frame : List ℕ) → h.protected ≡ false
-    → frame_with_side h s frame ≡ take 4 frame
+pub frame_with_side-unprotected : (h : HeaderFields) (s : Side) (frame : List ℕ)
+    → h.protected ≡ false → frame_with_side h s frame ≡ take 4 frame
     ++ (bytes (side_bits (class_of h) s) ++ drop (4 + side_size_of (class_of h)) frame)
 unfolding frame_with_side overhead_of
-frame_with-unprotected h s frame is = rw is refl
+frame_with_side-unprotected h s frame is = rw is refl
 
 -- the header and the check word, where there is one, are the bytes before the side information
-pub length-word_part : (h : HeaderFields) (s : Side) (b : Bool)
+pub length-crc_part : (h : HeaderFields) (s : Side) (b : Bool)
     → length (cond b (bytes (bits_of 16 (check_word_of h s))) []) + 4 ≡ side_place b
-length-word_part h s true = ap (λ n. n + 4) (length-word (check_word_of h s))
-length-word_part h s false = refl
+length-crc_part h s true = ap (λ n. n + 4) (length-word (check_word_of h s))
+length-crc_part h s false = refl
 
 -- the parts of a frame with other side information
 record IsMade (h : HeaderFields) (s : Side) (frame : List ℕ) : Type 0 where
@@ -164,7 +164,7 @@ made h s frame class shaped room =
     record {
       front = omega
           (arith, room, overhead-is c h.protected, place-least h.protected, length-take 4 frame);
-      word = length-word_part h s h.protected;
+      word = length-crc_part h s h.protected;
       part = length-bytes (side_size_of c) (side_bits c s) (length-side_bits c class s shaped);
       whole = sym (append_assoc (take 4 frame ++ crc_part h s) part rest
           ∙ append_assoc (take 4 frame) (crc_part h s) (part ++ rest));
@@ -173,9 +173,9 @@ made h s frame class shaped room =
 -- ---- what stays
 
 -- a frame with other side information is as long as before
-pub length-frame_with : (h : HeaderFields) (s : Side) (frame : List ℕ) → IsClass (class_of h)
+pub length-frame_with_side : (h : HeaderFields) (s : Side) (frame : List ℕ) → IsClass (class_of h)
     → IsShaped s → HasRoom h frame → length (frame_with_side h s frame) ≡ length frame
-length-frame_with h s frame class shaped room =
+length-frame_with_side h s frame class shaped room =
     let is = made h s frame class shaped room in
     let part = bytes (side_bits (class_of h) s) in
     let rest = drop (overhead_of (class_of h) h.protected) frame in
@@ -194,10 +194,10 @@ length-frame_with h s frame class shaped room =
     )
 
 -- a frame with other side information keeps its header
-pub header-frame_with : (h : HeaderFields) (s : Side) (frame : List ℕ) → HasRoom h frame
+pub header-frame_with_side : (h : HeaderFields) (s : Side) (frame : List ℕ) → HasRoom h frame
     → take 4 (frame_with_side h s frame) ≡ take 4 frame
 unfolding frame_with_side
-header-frame_with h s frame room =
+header-frame_with_side h s frame room =
     take_at (take 4 frame) _ 4 (omega (arith, room-least h frame room, length-take 4 frame))
 
 -- the bytes before the area of a frame with other side information
@@ -216,11 +216,11 @@ front_length h s frame is =
     )
 
 -- a frame with other side information keeps its area
-pub area-frame_with : (h : HeaderFields) (s : Side) (frame : List ℕ) → IsClass (class_of h)
+pub area-frame_with_side : (h : HeaderFields) (s : Side) (frame : List ℕ) → IsClass (class_of h)
     → IsShaped s → HasRoom h frame
     → drop (overhead_of (class_of h) h.protected) (frame_with_side h s frame)
     ≡ drop (overhead_of (class_of h) h.protected) frame
-area-frame_with h s frame class shaped room =
+area-frame_with_side h s frame class shaped room =
     let is = made h s frame class shaped room in
     ap (drop (overhead_of (class_of h) h.protected)) is.whole
     ∙ drop_at _ (drop (overhead_of (class_of h) h.protected) frame)
@@ -229,11 +229,11 @@ area-frame_with h s frame class shaped room =
 -- ---- what is read back
 
 -- the side information of the frame is the bytes that were put in
-pub side_part-frame_with : (h : HeaderFields) (s : Side) (frame : List ℕ) → IsClass (class_of h)
-    → IsShaped s → HasRoom h frame
+pub side_part-frame_with_side : (h : HeaderFields) (s : Side) (frame : List ℕ)
+    → IsClass (class_of h) → IsShaped s → HasRoom h frame
     → side_part h (frame_with_side h s frame) ≡ bytes (side_bits (class_of h) s)
 unfolding side_part
-side_part-frame_with h s frame class shaped room =
+side_part-frame_with_side h s frame class shaped room =
     let is = made h s frame class shaped room in
     let part = bytes (side_bits (class_of h) s) in
     let rest = drop (overhead_of (class_of h) h.protected) frame in
@@ -247,14 +247,14 @@ side_part-frame_with h s frame class shaped room =
     ∙ take_at part rest (side_size_of (class_of h)) is.part
 
 -- the side information that was put in is read from the frame
-pub side_in-frame_with : (h : HeaderFields) (s : Side) (frame : List ℕ) → IsClass (class_of h)
+pub side_in-frame_with_side : (h : HeaderFields) (s : Side) (frame : List ℕ) → IsClass (class_of h)
     → IsShaped s → SideFits (class_of h) s → HasRoom h frame
     → side_in h (frame_with_side h s frame) ≡ s
 unfolding side_in
-side_in-frame_with h s frame class shaped fits room =
+side_in-frame_with_side h s frame class shaped fits room =
     let c = class_of h in
     let long = length-side_bits c class s shaped in
-    ap (λ (l : List ℕ). side_at c (bits l)) (side_part-frame_with h s frame class shaped room)
+    ap (λ (l : List ℕ). side_at c (bits l)) (side_part-frame_with_side h s frame class shaped room)
     ∙ ap (side_at c) (bits-bytes (side_size_of c) (side_bits c s) (AreBits-side_bits c s) long)
     ∙ side_at-side_bits c class s shaped fits
 
@@ -262,53 +262,52 @@ step_below : (b : Bool) (word : ℕ) → word < 65536 → cond b word (bit_xor w
 step_below true word few = few
 step_below false word few = xor_lt 16 word polynomial few (lit< tt)
 
-bit_step-below : (word bit : ℕ) → crc_bit word bit < 65536
+crc_bit-below : (word bit : ℕ) → crc_bit word bit < 65536
 unfolding crc_bit
-bit_step-below word bit = step_below _ (word * 2 % 65536) (mod_below (word * 2) 65536 (lit< tt))
+crc_bit-below word bit = step_below _ (word * 2 % 65536) (mod_below (word * 2) 65536 (lit< tt))
 
 remainder-below : (word : ℕ) (bs : List ℕ) → word < 65536 → remainder word bs < 65536
 unfolding remainder
 remainder-below word [] few = few
-remainder-below word (bit ∷ bs) few =
-    remainder-below (crc_bit word bit) bs (bit_step-below word bit)
+remainder-below word (bit ∷ bs) few = remainder-below (crc_bit word bit) bs (crc_bit-below word bit)
 
 -- a check word has 16 bits
 pub check_word-below : (h : HeaderFields) (s : Side) → check_word_of h s < 65536
 unfolding check_word_of
 check_word-below h s = remainder-below crc_start _ (lit< tt)
 
-word_said-protected : (h : HeaderFields) (s : Side) (frame : List ℕ) → h.protected ≡ true
+stored_crc-protected : (h : HeaderFields) (s : Side) (frame : List ℕ) → h.protected ≡ true
     → HasRoom h frame → stored_crc (frame_with_side h s frame)
     ≡ number (bits (bytes (bits_of 16 (check_word_of h s))))
 unfolding stored_crc
-word_said-protected h s frame is room =
+stored_crc-protected h s frame is room =
     let word = bytes (bits_of 16 (check_word_of h s)) in
     let rest = bytes (side_bits (class_of h) s) ++ drop (6 + side_size_of (class_of h)) frame in
-    ap (λ (l : List ℕ). number (bits (take 2 (drop 4 l)))) (frame_with-protected h s frame is)
+    ap (λ (l : List ℕ). number (bits (take 2 (drop 4 l)))) (frame_with_side-protected h s frame is)
     ∙ ap (λ (l : List ℕ). number (bits (take 2 l))) (drop_at (take 4 frame) (word ++ rest) 4
     (omega (arith, room-least h frame room, length-take 4 frame)))
     ∙ ap (λ (l : List ℕ). number (bits l)) (take_at word rest 2 (length-word (check_word_of h s)))
 
 -- the check word that was put in is the right one
-pub word_said-frame_with : (h : HeaderFields) (s : Side) (frame : List ℕ) → h.protected ≡ true
+pub stored_crc-frame_with_side : (h : HeaderFields) (s : Side) (frame : List ℕ) → h.protected ≡ true
     → HasRoom h frame → stored_crc (frame_with_side h s frame) ≡ check_word_of h s
-word_said-frame_with h s frame is room =
+stored_crc-frame_with_side h s frame is room =
     let word = check_word_of h s in
-    word_said-protected h s frame is room
+    stored_crc-protected h s frame is room
     ∙ ap number (bits-bytes 2 (bits_of 16 word) (AreBits-bits_of 16 word) (length-bits_of 16 word))
     ∙ number-bits_of-below 16 word (check_word-below h s)
 
 -- ---- a frame whose side information is put in again
 
 -- if side information is put into a frame twice, the last one counts
-pub frame_with-again : (h : HeaderFields) (s t : Side) (frame : List ℕ) → IsClass (class_of h)
+pub frame_with_side-again : (h : HeaderFields) (s t : Side) (frame : List ℕ) → IsClass (class_of h)
     → IsShaped t → HasRoom h frame
     → frame_with_side h s (frame_with_side h t frame) ≡ frame_with_side h s frame
 unfolding frame_with_side
-frame_with-again h s t frame class shaped room =
+frame_with_side-again h s t frame class shaped room =
     let part = bytes (side_bits (class_of h) s) in
     ap₂ (λ (xs ys : List ℕ). xs ++ (crc_part h s ++ (part ++ ys)))
-    (header-frame_with h t frame room) (area-frame_with h t frame class shaped room)
+    (header-frame_with_side h t frame room) (area-frame_with_side h t frame class shaped room)
 
 -- the check word of a protected frame is right
 abbrev pub IsRight : HeaderFields → List ℕ → Type 0
@@ -357,10 +356,11 @@ side_there h frame class all room =
 
 -- putting a frame's own side information into it doesn't change the frame, if its check word is
 -- right
-pub frame_with-own : (h : HeaderFields) (frame : List ℕ) → IsClass (class_of h) → AreBytes frame
-    → HasRoom h frame → IsRight h frame → frame_with_side h (side_in h frame) frame ≡ frame
+pub frame_with_side-own : (h : HeaderFields) (frame : List ℕ) → IsClass (class_of h)
+    → AreBytes frame → HasRoom h frame → IsRight h frame
+    → frame_with_side h (side_in h frame) frame ≡ frame
 unfolding frame_with_side side_part
-frame_with-own h frame class all room right =
+frame_with_side-own h frame class all room right =
     let c = class_of h in
     let s = side_in h frame in
     let place = side_place h.protected in
@@ -414,7 +414,7 @@ side_in-take h len xs room =
     (omega (arith, room, overhead-is (class_of h) h.protected)))
 
 -- the check word is the same in any first bytes of the frame, at least six
-pub word_said-take : (len : ℕ) (xs : List ℕ) → 6 ≤ len → stored_crc (take len xs) ≡ stored_crc xs
+pub stored_crc-take : (len : ℕ) (xs : List ℕ) → 6 ≤ len → stored_crc (take len xs) ≡ stored_crc xs
 unfolding stored_crc
-word_said-take len xs room =
+stored_crc-take len xs room =
     ap (λ (word : List ℕ). number (bits word)) (take-drop-take 2 4 len xs (omega (arith, room)))

@@ -15,7 +15,7 @@ use Rattle.frame_header.specs.Fields.{ClassFields, HeaderFields, IsClass, IsHead
 use Rattle.frame_header.specs.HeaderBits.{flag_of, header_bits, header_numbers}
 use Rattle.frame_header.specs.{Reading.{header_at, header_fields}, Tables.{class_of, side_size_of}}
 use Rattle.frame_header.specs.declared.version.Version.TheVariants.{One, Two, TwoFive}
-use Rattle.side_info.proofs.FrameLemmas.{length-word_part}
+use Rattle.side_info.proofs.FrameLemmas.{length-crc_part}
 use Rattle.side_info.proofs.SideLemmas.{AreBits-side_bits, each_class, IsShaped, IsShaped-side_at}
 use Rattle.side_info.proofs.SideLemmas.{length-side_bits, side_at-side_bits, side_bits-side_at}
 use Rattle.side_info.{proofs.SideLemmas.SideFits-side_at, specs.CheckWord.check_word_of}
@@ -223,20 +223,20 @@ unfolding own_side
 written_size a w = (written a w).size
 
 -- other side bytes of the same length are followed by zeros too
-pub padded-other : (a : Inside) → AreFrontBytes a → (part : List ℕ)
+pub padded_side-other : (a : Inside) → AreFrontBytes a → (part : List ℕ)
     → length part ≡ side_size_of (class_of (header_of a))
     → part ++ drop (side_size_of (class_of (header_of a))) a.side ≡ padded_side part
 unfolding padded_side
-padded-other a w part size =
+padded_side-other a w part size =
     ap (λ xs. part ++ xs) ((written a w).rest ∙ ap (λ k. drop k (replicate 32 0)) (sym size))
 
 -- the 32 bytes are the side information, with zeros after it
-pub padded-own : (a : Inside) → AreFrontBytes a
+pub padded_side-own : (a : Inside) → AreFrontBytes a
     → a.side ≡ padded_side (own_side (class_of (header_of a)) a.side)
 unfolding own_side
-padded-own a w =
+padded_side-own a w =
     sym (take-append-drop (side_size_of (class_of (header_of a))) a.side)
-    ∙ padded-other a w (take (side_size_of (class_of (header_of a))) a.side) (written_size a w)
+    ∙ padded_side-other a w (take (side_size_of (class_of (header_of a))) a.side) (written_size a w)
 
 -- another header of the same class before the same side information
 module _ (a : Inside) (w : AreFrontBytes a) (h : HeaderFields) (known : IsHeader h) (four : List ℕ)
@@ -245,14 +245,15 @@ module _ (a : Inside) (w : AreFrontBytes a) (h : HeaderFields) (known : IsHeader
   -- these bytes are the ones that their fields are written as
   pub header_written : AreFrontBytes (front_with four a.side)
   header_written = are_written h known four (own_side (class_of (header_of a)) a.side) a.side head
-      octets ((written a w).size ∙ ap side_size_of (sym same)) (written a w).all (padded-own a w)
+      octets ((written a w).size ∙ ap side_size_of (sym same))
+      (written a w).all (padded_side-own a w)
 
   -- their fields are that header and the side information from before
   pub header_fields-written : front_view (front_with four a.side)
       ≡ record { header = h; side = side_of a }
   header_fields-written =
       written_fields h known four (own_side (class_of (header_of a)) a.side) a.side head octets
-      ((written a w).size ∙ ap side_size_of (sym same)) (written a w).all (padded-own a w)
+      ((written a w).size ∙ ap side_size_of (sym same)) (written a w).all (padded_side-own a w)
       ∙ ap (λ (s : Side). record { header = h; side = s }) (ap (λ k. side_at k
       (bits (own_side (class_of (header_of a)) a.side))) same ∙ sym (side_read a))
 
@@ -263,14 +264,14 @@ module _ (a : Inside) (w : AreFrontBytes a) (part : List ℕ)
   pub side_written : AreFrontBytes
       (front_with a.header (part ++ drop (side_size_of (class_of (header_of a))) a.side))
   side_written = are_written (header_of a) w.known a.header part _
-      (written a w).head (written a w).octets size all (padded-other a w part size)
+      (written a w).head (written a w).octets size all (padded_side-other a w part size)
 
   -- their fields are the header from before and that side information
   pub side_fields-written : front_view
       (front_with a.header (part ++ drop (side_size_of (class_of (header_of a))) a.side))
       ≡ record { header = header_of a; side = side_at (class_of (header_of a)) (bits part) }
   side_fields-written = written_fields (header_of a) w.known a.header part _
-      (written a w).head (written a w).octets size all (padded-other a w part size)
+      (written a w).head (written a w).octets size all (padded_side-other a w part size)
 
 -- ---- main_data_begin
 -- main_data_begin takes up the first bits and nothing more
@@ -367,7 +368,7 @@ head-word h s word four frame new is protected right put =
     ap (λ n. bytes (bits_of 16 n)) right
     ∙ ap (λ b. cond b (bytes (bits_of 16 (check_word_of h s))) []) (sym protected) in
     let size : length (crc_part h s) + 4 ≡ 6 =
-    length-word_part h s h.protected ∙ ap side_place protected in
+    length-crc_part h s h.protected ∙ ap side_place protected in
     ap (take 6)
     (put
     ∙ ap₂ (λ (xs ys : List ℕ). xs ++ (ys ++ rest))

@@ -4,12 +4,12 @@ use Rattle.std.proofs.Common.{false, get_or, length, length-append, List, refl, 
 use Rattle.std.proofs.Common.{take-append-drop, true, ℕ, [], ◌*◌, ◌++◌, ◌+◌, ◌∙◌, ◌∷◌, ◌≡◌, ◌≤◌}
 use Rattle.std.proofs.lemmas.List.{drop-drop, drop_at, length-take-le, take-take, take_at}
 use Rattle.bit_fields.proofs.BitsLemmas.{AreBelow-drop, AreBelow-take, bytes-bits, length-bits_of}
-use Rattle.bit_fields.proofs.GroupsLemmas.{length-spelled}
+use Rattle.bit_fields.proofs.GroupsLemmas.{length-group_bits}
 use Rattle.bit_fields.specs.{Bits.{AreBytes, bits, bits_of, bytes}, Groups.group_bits}
 use Rattle.frame_header.specs.{Fields.{ClassFields, HeaderFields, IsClass}, HeaderBits.flag_of}
 use Rattle.frame_header.specs.{Tables.{class_of, side_size_of}, declared.version.Version.Version}
 use Rattle.frame_header.specs.declared.version.Version.TheVariants.{One}
-use Rattle.side_info.proofs.FrameLemmas.{frame_with-protected, frame_with-unprotected}
+use Rattle.side_info.proofs.FrameLemmas.{frame_with_side-protected, frame_with_side-unprotected}
 use Rattle.side_info.proofs.GranuleLemmas.{bits-parts, length-flat, length-granule_bits}
 use Rattle.side_info.proofs.{SideLemmas.IsShaped, WriteLemmas.{flat_one, flat_two, side_bits-parts}}
 use Rattle.side_info.specs.{CheckWord.check_word_of, Frame.frame_with_side}
@@ -51,7 +51,7 @@ gain_put version g gain at before after old new put l e =
     ∷ flag_of g.scalefac_scale ∷ flag_of g.count1table_select ∷ []) in
     put
     ∙ put_between before front (bits_of 8 g.global_gain) rest after (bits_of 8 gain) old at l
-    (length-spelled (12 ∷ 9 ∷ []) (g.part2_3_length ∷ g.big_values ∷ []) refl)
+    (length-group_bits (12 ∷ 9 ∷ []) (g.part2_3_length ∷ g.big_values ∷ []) refl)
     (length-bits_of 8 g.global_gain)
     (e ∙ ap (λ bs. before ++ (bs ++ after)) (bits-parts version g))
     ∙ ap (λ bs. before ++ (bs ++ after))
@@ -130,7 +130,7 @@ four_widths _ channels =
 length-front : (version : Version) (channels m p : ℕ) (cs : List ℕ) → length cs ≡ 2
     → length (group_bits (front_widths_of version channels) (m ∷ p ∷ cs))
     ≡ front_size version channels
-length-front version channels m p cs two = length-spelled (front_widths_of version channels)
+length-front version channels m p cs two = length-group_bits (front_widths_of version channels)
     (m ∷ p ∷ cs) (omega (arith, four_widths version channels))
 
 -- the granules of a frame get their gains in order
@@ -191,7 +191,7 @@ gains-unprotected h s old new is all front behind side =
     sym (take-append-drop 4 new)
     ∙ ap₂ (λ xs ys. xs ++ ys) front (bytes_there 4 size new (side_bits (class_of h) s)
     (AreBelow-drop 256 4 new all) side ∙ ap (λ ys. bytes (side_bits (class_of h) s) ++ ys) behind)
-    ∙ sym (frame_with-unprotected h s old is)
+    ∙ sym (frame_with_side-unprotected h s old is)
 
 -- a protected frame whose side bytes and check word were replaced is the frame with this side
 -- information
@@ -209,4 +209,4 @@ gains-protected h s old middle new is all front behind side put =
     put
     ∙ ap₂ (λ xs ys. xs ++ (word ++ ys)) four (bytes_there 6 size middle
     (side_bits (class_of h) s) all side ∙ ap (λ ys. bytes (side_bits (class_of h) s) ++ ys) behind)
-    ∙ sym (frame_with-protected h s old is)
+    ∙ sym (frame_with_side-protected h s old is)

@@ -6,10 +6,11 @@ use Rattle.std.proofs.Math.Nat.{add-mul, add_assoc, add_comm, one-mul, suc-mul, 
 use Rattle.std.proofs.{Math.Seq.{drop-append-add, take-add}, lemmas.List.drop-drop}
 use Rattle.std.specs.List.{flat_map}
 use Rattle.bit_fields.proofs.BitsLemmas.{AreBelow-append, AreBelow-drop}
-use Rattle.bit_fields.proofs.GroupsLemmas.{AreBits-spelled, Fits-numbers_at, length-Fits}
-use Rattle.bit_fields.proofs.GroupsLemmas.{length-spelled, numbers_at-spelled_more, spelled-append}
-use Rattle.bit_fields.proofs.GroupsLemmas.{spelled-cons, spelled-numbers_at_front}
-use Rattle.bit_fields.specs.{Bits.{AreBits, bits_of}, Groups.{group_bits, numbers_at, NumbersFit}}
+use Rattle.bit_fields.proofs.GroupsLemmas.{AreBits-group_bits, group_bits-append, group_bits-cons}
+use Rattle.bit_fields.proofs.GroupsLemmas.{group_bits-numbers_at_front, length-group_bits}
+use Rattle.bit_fields.proofs.GroupsLemmas.{length-NumbersFit, numbers_at-group_bits_more}
+use Rattle.bit_fields.{proofs.GroupsLemmas.NumbersFit-numbers_at, specs.Bits.{AreBits, bits_of}}
+use Rattle.bit_fields.specs.Groups.{group_bits, numbers_at, NumbersFit}
 use Rattle.frame_header.specs.{HeaderBits.flag_of, declared.version.Version.Version}
 use Rattle.frame_header.specs.declared.version.Version.TheVariants.{One}
 use Rattle.side_info.specs.Granule.{compress_width, granule_at, granule_bits, granule_numbers}
@@ -35,10 +36,10 @@ flag_of-below false = omega arith
 
 -- ---- fields and the numbers of the groups
 -- the fields of a granule that fits are within the widths of its groups
-pub Fits-granule : (version : Version) (g : Granule) → GranuleFits version g
+pub NumbersFit-granule : (version : Version) (g : Granule) → GranuleFits version g
     → NumbersFit (granule_widths version) (granule_numbers g)
 unfolding granule_numbers
-Fits-granule version g h = (
+NumbersFit-granule version g h = (
   h.part2_3_length,
   (
     h.big_values,
@@ -91,7 +92,7 @@ numbers_same version ns fit l = absurd (omega arith)
 pub numbers-granule_of : (version : Version) (ns : List ℕ) → NumbersFit (granule_widths version) ns
     → granule_numbers (granule_of ns) ≡ ns
 numbers-granule_of version ns fit =
-    numbers_same version ns fit (length-Fits (granule_widths version) ns fit)
+    numbers_same version ns fit (length-NumbersFit (granule_widths version) ns fit)
 
 fields_fit : (version : Version) (ns : List ℕ) → NumbersFit (granule_widths version) ns
     → length ns ≡ 9 → GranuleFits version (granule_of ns)
@@ -111,7 +112,7 @@ fields_fit version ns fit l = absurd (omega arith)
 pub GranuleFits-granule_of : (version : Version) (ns : List ℕ)
     → NumbersFit (granule_widths version) ns → GranuleFits version (granule_of ns)
 GranuleFits-granule_of version ns fit =
-    fields_fit version ns fit (length-Fits (granule_widths version) ns fit)
+    fields_fit version ns fit (length-NumbersFit (granule_widths version) ns fit)
 
 -- ---- fields and bits
 -- a granule has nine numbers
@@ -124,12 +125,12 @@ pub length-granule_bits : (version : Version) (g : Granule)
     → length (granule_bits version g) ≡ granule_size version
 unfolding granule_bits
 length-granule_bits version g =
-    length-spelled (granule_widths version) (granule_numbers g) (length-granule_numbers g)
+    length-group_bits (granule_widths version) (granule_numbers g) (length-granule_numbers g)
 
 -- a granule is written as zeros and ones
 pub AreBits-granule_bits : (version : Version) (g : Granule) → AreBits (granule_bits version g)
 unfolding granule_bits
-AreBits-granule_bits version g = AreBits-spelled (granule_widths version) (granule_numbers g)
+AreBits-granule_bits version g = AreBits-group_bits (granule_widths version) (granule_numbers g)
 
 -- the fields of a granule that was read are within their bits
 pub GranuleFits-granule_at : (version : Version) (bs : List ℕ) → AreBits bs
@@ -137,15 +138,15 @@ pub GranuleFits-granule_at : (version : Version) (bs : List ℕ) → AreBits bs
 unfolding granule_at
 GranuleFits-granule_at version bs h =
     GranuleFits-granule_of version (numbers_at (granule_widths version) bs)
-    (Fits-numbers_at (granule_widths version) bs h)
+    (NumbersFit-numbers_at (granule_widths version) bs h)
 
 -- a granule is read from its bits, whatever follows
 pub granule_at-granule_bits : (version : Version) (g : Granule) (more : List ℕ)
     → GranuleFits version g → granule_at version (granule_bits version g ++ more) ≡ g
 unfolding granule_at granule_bits
 granule_at-granule_bits version g more h =
-    ap granule_of (numbers_at-spelled_more (granule_widths version) (granule_numbers g) more
-    (Fits-granule version g h))
+    ap granule_of (numbers_at-group_bits_more (granule_widths version) (granule_numbers g) more
+    (NumbersFit-granule version g h))
     ∙ granule_of-numbers g
 
 -- the granule with which bits begin is written as these bits
@@ -154,8 +155,9 @@ pub granule_bits-granule_at : (version : Version) (bs : List ℕ) → AreBits bs
 unfolding granule_at granule_bits
 granule_bits-granule_at version bs all h =
     ap (group_bits (granule_widths version)) (numbers-granule_of version
-    (numbers_at (granule_widths version) bs) (Fits-numbers_at (granule_widths version) bs all))
-    ∙ spelled-numbers_at_front (granule_widths version) bs all h
+    (numbers_at (granule_widths version) bs)
+    (NumbersFit-numbers_at (granule_widths version) bs all))
+    ∙ group_bits-numbers_at_front (granule_widths version) bs all h
 
 -- ---- granules in order
 -- `count` granules, from the nth on
@@ -247,11 +249,12 @@ pub bits-parts : (version : Version) (g : Granule)
     ∷ flag_of g.scalefac_scale ∷ flag_of g.count1table_select ∷ []))
 unfolding granule_bits granule_numbers
 bits-parts version g =
-    spelled-append (12 ∷ 9 ∷ []) (8 ∷ compress_width version ∷ 1 ∷ 22 ∷ preflag_width version ∷ 1
+    group_bits-append (12 ∷ 9 ∷ []) (8 ∷ compress_width version ∷ 1 ∷ 22 ∷ preflag_width version ∷ 1
     ∷ 1 ∷ []) (g.part2_3_length ∷ g.big_values ∷ [])
     (g.global_gain ∷ g.scalefac_compress ∷ flag_of g.window_switching ∷ g.detail ∷ flag_of g.preflag
     ∷ flag_of g.scalefac_scale ∷ flag_of g.count1table_select ∷ []) refl
     ∙ ap (λ bs. group_bits (12 ∷ 9 ∷ []) (g.part2_3_length ∷ g.big_values ∷ []) ++ bs)
-    (spelled-cons 8 g.global_gain (compress_width version ∷ 1 ∷ 22 ∷ preflag_width version ∷ 1 ∷ 1
+    (group_bits-cons 8
+    g.global_gain (compress_width version ∷ 1 ∷ 22 ∷ preflag_width version ∷ 1 ∷ 1
     ∷ []) (g.scalefac_compress ∷ flag_of g.window_switching ∷ g.detail ∷ flag_of g.preflag
     ∷ flag_of g.scalefac_scale ∷ flag_of g.count1table_select ∷ []))

@@ -5,14 +5,15 @@ use Rattle.std.proofs.Common.{ap, append-nil, append_assoc, ap₂, arith, drop, 
 use Rattle.std.proofs.Common.{List, refl, sum, sym, take, ℕ, [], ◌*◌, ◌++◌, ◌+◌, ◌-◌, ◌∙◌, ◌∷◌, ◌≡◌}
 use Rattle.std.proofs.{Common.◌≤◌, lemmas.{Grind.flat_map-append, List.{drop-drop, drop_at}}}
 use Rattle.std.specs.List.{flat_map}
-use Rattle.bit_fields.proofs.{BitsLemmas.drop-bytes, GroupsLemmas.{length-spelled, spelled-append}}
+use Rattle.bit_fields.proofs.BitsLemmas.{drop-bytes}
+use Rattle.bit_fields.proofs.GroupsLemmas.{group_bits-append, length-group_bits}
 use Rattle.bit_fields.specs.{Bits.{AreBytes, bytes}, Groups.group_bits}
 use Rattle.frame_header.specs.Fields.{ClassFields, HeaderFields, IsClass}
 use Rattle.frame_header.specs.Tables.{class_of, granules_of, overhead_of, side_size_of}
 use Rattle.frame_header.specs.declared.version.Version.{Version, TheVariants.{One, Two, TwoFive}}
-use Rattle.side_info.proofs.FrameLemmas.{area-frame_with, drop-take-append, HasRoom, overhead-is}
-use Rattle.side_info.proofs.FrameLemmas.{shaped-side_in, side_part-frame_with, side_there}
-use Rattle.side_info.proofs.GranuleLemmas.{length-flat}
+use Rattle.side_info.proofs.FrameLemmas.{area-frame_with_side, drop-take-append, HasRoom}
+use Rattle.side_info.proofs.FrameLemmas.{overhead-is, shaped-side_in, side_part-frame_with_side}
+use Rattle.side_info.proofs.{FrameLemmas.side_there, GranuleLemmas.length-flat}
 use Rattle.side_info.proofs.SideLemmas.{each_class, each_side, IsShaped, length-side_bits}
 use Rattle.side_info.specs.Frame.{frame_with_side, side_in, side_part, side_place}
 use Rattle.side_info.specs.{Granule.{granule_bits, granule_numbers, granule_size}, Parts.class_with}
@@ -26,9 +27,9 @@ behind_three : (more ms : List ℕ) (a b gain : ℕ)
     → drop 29 (group_bits (12 ∷ 9 ∷ 8 ∷ more) (a ∷ b ∷ gain ∷ ms)) ≡ group_bits more ms
 behind_three more ms a b gain =
     let front = group_bits (12 ∷ 9 ∷ 8 ∷ []) (a ∷ b ∷ gain ∷ []) in
-    ap (drop 29) (spelled-append (12 ∷ 9 ∷ 8 ∷ []) more (a ∷ b ∷ gain ∷ []) ms refl)
+    ap (drop 29) (group_bits-append (12 ∷ 9 ∷ 8 ∷ []) more (a ∷ b ∷ gain ∷ []) ms refl)
     ∙ drop_at front (group_bits more ms) 29
-    (length-spelled (12 ∷ 9 ∷ 8 ∷ []) (a ∷ b ∷ gain ∷ []) refl)
+    (length-group_bits (12 ∷ 9 ∷ 8 ∷ []) (a ∷ b ∷ gain ∷ []) refl)
 
 -- the bits after global_gain don't change with another gain
 behind_gain : (version : Version) (g : Granule) (gain : ℕ)
@@ -76,7 +77,7 @@ behind_others c ns gs last long =
     ≡ sum (front_widths c) + length gs * granule_size c.version = omega (
       arith,
       length-append front others,
-      length-spelled (front_widths c) ns long,
+      length-group_bits (front_widths c) ns long,
       length-flat c.version gs,
     ) in
     let split : flat_map (granule_bits c.version) (gs ++ (last ∷ [])) ≡ others ++ end =
@@ -163,12 +164,12 @@ behind_part h n frame within =
 
 -- From two bytes before its area on, a frame stays as it is if it gets side information whose last
 -- granule and channel differs in no field but global_gain.
-pub last_bytes-frame_with : (h : HeaderFields) (s : Side) (frame : List ℕ) → IsClass (class_of h)
-    → AreBytes frame → IsShaped s → HasRoom h frame
+pub last_bytes-frame_with_side : (h : HeaderFields) (s : Side) (frame : List ℕ)
+    → IsClass (class_of h) → AreBytes frame → IsShaped s → HasRoom h frame
     → AreGranulesAlike (last_granule (class_of h) (side_in h frame)) (last_granule (class_of h) s)
     → drop (overhead_of (class_of h) h.protected - 2) (frame_with_side h s frame)
     ≡ drop (overhead_of (class_of h) h.protected - 2) frame
-last_bytes-frame_with h s frame class all shaped room alike =
+last_bytes-frame_with_side h s frame class all shaped room alike =
     let c = class_of h in
     let n = side_size_of c - 2 in
     let area = drop (overhead_of c h.protected) frame in
@@ -180,7 +181,8 @@ last_bytes-frame_with h s frame class all shaped room alike =
     λ l. ap (λ k. drop k l) place ∙ behind_part h n l (omega arith) in
     from (frame_with_side h s frame)
     ∙ ap₂ (λ (part rest : List ℕ). drop n part ++ rest)
-    (side_part-frame_with h s frame class shaped room) (area-frame_with h s frame class shaped room)
+    (side_part-frame_with_side h s frame class shaped room)
+    (area-frame_with_side h s frame class shaped room)
     ∙ ap (λ (l : List ℕ). l ++ area)
     (last_bytes c class (side_in h frame) s (shaped-side_in h frame) shaped alike)
     ∙ ap (λ (l : List ℕ). drop n l ++ area) (side_there h frame class all room)

@@ -6,9 +6,10 @@ use Rattle.std.proofs.Common.{◌+◌, ◌/◌, ◌<◌, ◌^◌, ◌∙◌, ◌
 use Rattle.std.proofs.{Math.Nat.{zero-add, zero-mul}, lemmas.{List.drop_at, Nat.pow_pos}}
 use Rattle.std.specs.{Bool.MatchBool, Int.div_ceil, List.{flat_map, sum_by}}
 use Rattle.bit_fields.proofs.BitsLemmas.{AreBelow-append, AreBelow-drop, AreBits-bits, length-bits}
-use Rattle.bit_fields.proofs.GroupsLemmas.{AreBits-spelled, Fits-numbers_at, length-spelled}
-use Rattle.bit_fields.proofs.GroupsLemmas.{numbers_at-spelled_more, spelled-numbers_at_front}
-use Rattle.bit_fields.specs.{Bits.{AreBits, bits}, Groups.{group_bits, numbers_at, NumbersFit}}
+use Rattle.bit_fields.proofs.GroupsLemmas.{AreBits-group_bits, group_bits-numbers_at_front}
+use Rattle.bit_fields.proofs.GroupsLemmas.{length-group_bits, numbers_at-group_bits_more}
+use Rattle.bit_fields.{proofs.GroupsLemmas.NumbersFit-numbers_at, specs.Bits.{AreBits, bits}}
+use Rattle.bit_fields.specs.Groups.{group_bits, numbers_at, NumbersFit}
 use Rattle.frame_header.specs.{Fields.{ClassFields, IsClass}, Tables.{granules_of, side_size_of}}
 use Rattle.frame_header.specs.declared.version.Version.{Version, TheVariants.{One, Two, TwoFive}}
 use Rattle.side_info.proofs.GranuleLemmas.{AreBits-flat, flat-granules_from, GranuleFits-granule_at}
@@ -84,7 +85,7 @@ side_bits-side_at c class bs all h =
     let most : (0 + granule_count c) * granule_size c.version ≤ length rest =
     rw zero-add (omega arith) in
     ap₂ (λ cs ds. cs ++ ds)
-    (front-side_at c class bs ∙ spelled-numbers_at_front (front_widths c) bs all (omega arith))
+    (front-side_at c class bs ∙ group_bits-numbers_at_front (front_widths c) bs all (omega arith))
     (ap (flat_map (granule_bits c.version)) (granules_in-side_at c class bs)
     ∙ flat-granules_from c.version 0 (granule_count c) rest (AreBelow-drop 2 front bs all) most
     ∙ ap (λ k. take (granule_count c * granule_size c.version) (drop k rest))
@@ -186,9 +187,9 @@ back : (c : ClassFields) (ns : List ℕ) (gs : List Granule) → NumbersFit (fro
 back c ns gs fits l =
     side_at-built c (group_bits (front_widths c) ns ++ flat_map (granule_bits c.version) gs)
     ∙ ap₂ (built c)
-    (numbers_at-spelled_more (front_widths c) ns (flat_map (granule_bits c.version) gs) fits)
+    (numbers_at-group_bits_more (front_widths c) ns (flat_map (granule_bits c.version) gs) fits)
     (drop_at (group_bits (front_widths c) ns) (flat_map (granule_bits c.version) gs)
-    (sum (front_widths c)) (length-spelled (front_widths c) ns l))
+    (sum (front_widths c)) (length-group_bits (front_widths c) ns l))
 
 nth : (version : Version) (gs : List Granule) (n : ℕ) → n < length gs
     → GranuleFits version (get_or gs n no_granule)
@@ -276,7 +277,7 @@ unfolding side_bits
 AreBits-side_bits c s =
     AreBelow-append 2 (group_bits (front_widths c) (s.main_data_begin ∷ s.private_bits ∷ s.scfsi))
     (flat_map (granule_bits c.version) (granules_in c s))
-    (AreBits-spelled (front_widths c) (s.main_data_begin ∷ s.private_bits ∷ s.scfsi))
+    (AreBits-group_bits (front_widths c) (s.main_data_begin ∷ s.private_bits ∷ s.scfsi))
     (AreBits-flat c.version (granules_in c s))
 
 -- the bits of the fields before the granules and of the granules are as many as their widths
@@ -286,7 +287,7 @@ long : (c : ClassFields) (ns : List ℕ) (gs : List Granule) → length ns ≡ l
     ≡ sum (front_widths c) + length gs * granule_size c.version
 long c ns gs l =
     length-append (group_bits (front_widths c) ns) (flat_map (granule_bits c.version) gs)
-    ∙ ap₂ (λ m n. m + n) (length-spelled (front_widths c) ns l) (length-flat c.version gs)
+    ∙ ap₂ (λ m n. m + n) (length-group_bits (front_widths c) ns l) (length-flat c.version gs)
 
 -- side information is written in as many bits as its bytes have
 pub length-side_bits : (c : ClassFields) → IsClass c → (s : Side) → IsShaped s
@@ -392,7 +393,7 @@ unfolding side_at numbers_at
 fits_one_mono f bs all =
     let rest : AreBits (drop 18 bs) = AreBelow-drop 2 18 bs all in
     fits_by (class_with One f 1) _ _ _ _ _ no_granule _ no_granule
-    (Fits-numbers_at (front_widths (class_with One f 1)) bs all)
+    (NumbersFit-numbers_at (front_widths (class_with One f 1)) bs all)
     (some_fits One (drop 18 bs) 0 rest) refl (some_fits One (drop 18 bs) 1 rest) refl
 
 fits_one_stereo : (f : ℕ) (bs : List ℕ) → AreBits bs
@@ -401,7 +402,8 @@ unfolding side_at numbers_at
 fits_one_stereo f bs all =
     let rest : AreBits (drop 20 bs) = AreBelow-drop 2 20 bs all in
     fits_by (class_with One f 2) _ _ _ _ _ _ _ _
-    (Fits-numbers_at (front_widths (class_with One f 2)) bs all) (some_fits One (drop 20 bs) 0 rest)
+    (NumbersFit-numbers_at (front_widths (class_with One f 2)) bs all)
+    (some_fits One (drop 20 bs) 0 rest)
     (some_fits One (drop 20 bs) 1 rest) (some_fits One (drop 20 bs) 2 rest)
     (some_fits One (drop 20 bs) 3 rest)
 
@@ -411,7 +413,7 @@ unfolding side_at numbers_at
 fits_two_mono f bs all =
     let rest : AreBits (drop 9 bs) = AreBelow-drop 2 9 bs all in
     fits_by (class_with Two f 1) _ _ _ _ _ no_granule no_granule no_granule
-    (Fits-numbers_at (front_widths (class_with Two f 1)) bs all)
+    (NumbersFit-numbers_at (front_widths (class_with Two f 1)) bs all)
     (some_fits Two (drop 9 bs) 0 rest) refl refl refl
 
 fits_two_stereo : (f : ℕ) (bs : List ℕ) → AreBits bs
@@ -420,7 +422,8 @@ unfolding side_at numbers_at
 fits_two_stereo f bs all =
     let rest : AreBits (drop 10 bs) = AreBelow-drop 2 10 bs all in
     fits_by (class_with Two f 2) _ _ _ _ _ _ no_granule no_granule
-    (Fits-numbers_at (front_widths (class_with Two f 2)) bs all) (some_fits Two (drop 10 bs) 0 rest)
+    (NumbersFit-numbers_at (front_widths (class_with Two f 2)) bs all)
+    (some_fits Two (drop 10 bs) 0 rest)
     (some_fits Two (drop 10 bs) 1 rest) refl refl
 
 fits_as_two : (f channels : ℕ) (bs : List ℕ)

@@ -4,13 +4,13 @@ use Rattle.std.proofs.Common.{get_or, length, List, lit≤, refl, subst, suc, su
 use Rattle.std.proofs.Common.{take_all, true, zero, ℕ, [], ◌%◌, ◌*◌, ◌++◌, ◌+◌, ◌-◌, ◌/◌, ◌<◌, ◌^◌}
 use Rattle.std.proofs.{Common.{◌∙◌, ◌∷◌, ◌≡◌, ◌≤◌}, Math.Nat.div-one, lemmas.Bool.ne_eqb}
 use Rattle.std.{proofs.lemmas.{Grind.flat_map-append, Nat.one_shl}, specs.List.flat_map}
-use Rattle.bit_fields.proofs.GroupsLemmas.{joined, joined-below, spelled-joined}
+use Rattle.bit_fields.proofs.GroupsLemmas.{group_bits-joined, joined, joined-below}
 use Rattle.bit_fields.{proofs.WordLemmas.{into_last, into_word, put_next}, specs.Bits.bits_of}
 use Rattle.bit_fields.specs.Groups.{group_bits}
 use Rattle.frame_header.specs.{Fields.ClassFields, HeaderBits.flag_of}
 use Rattle.frame_header.specs.{Tables.{granules_of, side_size_of}, declared.version.Version.Version}
 use Rattle.frame_header.specs.declared.version.Version.TheVariants.{One, Two, TwoFive}
-use Rattle.side_info.proofs.GranuleLemmas.{Fits-granule, flag_of-below}
+use Rattle.side_info.proofs.GranuleLemmas.{flag_of-below, NumbersFit-granule}
 use Rattle.side_info.specs.Granule.{compress_width, granule_bits, granule_numbers, granule_size}
 use Rattle.side_info.specs.Granule.{granule_widths, GranuleFits, no_granule, preflag_width}
 use Rattle.side_info.specs.Parts.{class_with, front_size, second_pair_bits}
@@ -113,7 +113,8 @@ module _ (version : Version) (g : Granule) (fits : GranuleFits version g)
   pub word_below : (first * (1 * 2 ^ (compress + 23) % 2 ^ 64) + middle)
       * (1 * 2 ^ (preflag + 2) % 2 ^ 64) + last < 2 ^ granule_size version
   word_below = rw word-joined
-      (joined-below (granule_widths version) (granule_numbers g) (Fits-granule version g fits))
+      (joined-below (granule_widths version) (granule_numbers g)
+      (NumbersFit-granule version g fits))
 
   -- the word fits in 64 bits
   pub word_fits : (first * (1 * 2 ^ (compress + 23) % 2 ^ 64) + middle)
@@ -126,7 +127,8 @@ module _ (version : Version) (g : Granule) (fits : GranuleFits version g)
       + last) ≡ granule_bits version g
   unfolding granule_bits
   word_bits = ap (bits_of (granule_size version)) word-joined ∙ sym
-      (spelled-joined (granule_widths version) (granule_numbers g) (Fits-granule version g fits))
+      (group_bits-joined (granule_widths version) (granule_numbers g)
+      (NumbersFit-granule version g fits))
 
 -- ---- the fields before the granules as one number
 -- for these four widths, the number that joins the fields before the granules has their bits
@@ -140,7 +142,7 @@ front_is : (begin private first second : ℕ) → FrontIs (begin ∷ private ∷
 front_is begin private first second m p (a ∷ b ∷ []) n hm hp hs l e =
     let ws : List ℕ = begin ∷ private ∷ first ∷ second ∷ [] in
     ap (bits_of (sum ws)) e
-    ∙ sym (spelled-joined ws (m ∷ p ∷ a ∷ b ∷ []) (hm, (hp, (hs 0, (hs 1, tt)))))
+    ∙ sym (group_bits-joined ws (m ∷ p ∷ a ∷ b ∷ []) (hm, (hp, (hs 0, (hs 1, tt)))))
 front_is begin private first second m p cs n hm hp hs l e = absurd (omega arith)
 
 -- the widths before the granules are the ones for one channel where there is one
@@ -156,13 +158,13 @@ front_of_two One channels h = let test : eqb channels 1 ≡ false = ne_eqb chann
 front_of_two _ channels h = let test : eqb channels 1 ≡ false = ne_eqb channels 1 h in rw test refl
 
 -- the four fields before the granules, joined to a number, spell their bits
-pub front_spelled : (begin private first second : ℕ) (ws : List ℕ)
+pub front-group_bits : (begin private first second : ℕ) (ws : List ℕ)
     → begin ∷ private ∷ first ∷ second ∷ [] ≡ ws → (m p : ℕ) (cs : List ℕ) (n : ℕ)
     → m < 2 ^ get_or ws 0 0 → p < 2 ^ get_or ws 1 0
     → ((k : ℕ) → get_or cs k 0 < 2 ^ get_or ws (2 + k) 0) → length cs ≡ 2 → n
     ≡ joined (begin ∷ private ∷ first ∷ second ∷ []) (m ∷ p ∷ get_or cs 0 0 ∷ get_or cs 1 0 ∷ [])
     → bits_of (sum ws) n ≡ group_bits ws (m ∷ p ∷ cs)
-front_spelled begin private first second ws is m p cs n hm hp hs l e =
+front-group_bits begin private first second ws is m p cs n hm hp hs l e =
     subst FrontIs is (front_is begin private first second) m p cs n hm hp hs l
     (e ∙ ap (λ vs. joined vs (m ∷ p ∷ get_or cs 0 0 ∷ get_or cs 1 0 ∷ [])) is)
 

@@ -7,24 +7,24 @@ use Rattle.frame_header.proofs.SlotLemmas.{areas-ascend, Contains-all_slots, get
 use Rattle.frame_header.proofs.SlotLemmas.{length-all_slots}
 use Rattle.frame_header.specs.Fields.{ClassFields, IsClass, SlotFields}
 use Rattle.frame_header.specs.{Slots.{all_slots, areas_of, largest_slot}, Tables.area_of}
-use Rattle.slot_plan.proofs.ReserveLemmas.{Contains-greatest, greatest-most}
+use Rattle.slot_plan.proofs.ReserveLemmas.{Contains-greatest_number, greatest_number-most}
 use Rattle.slot_plan.specs.{Parts.slot_areas, Reserve.{greatest_number, IsLeastSlot}}
 
 abbrev pub Ascend : List ℕ → Type 0
 Ascend ns = AllPairs (λ m n. m < n) ns
 
-greatest-last : (ns : List ℕ) (d : ℕ) → 0 < length ns → Ascend ns
+greatest_number-last : (ns : List ℕ) (d : ℕ) → 0 < length ns → Ascend ns
     → get_or ns (length ns - 1) d ≡ greatest_number ns
-greatest-last ns d some ascend =
+greatest_number-last ns d some ascend =
     let last : ℕ = get_or ns (length ns - 1) 0 in
     let e : get_or ns (length ns - 1) d ≡ last =
     get_or_default ns (length ns - 1) d 0 (omega arith) in
     let is : Contains ns last =
     (length ns - 1, omega arith, get_or_default ns (length ns - 1) last 0 (omega arith)) in
-    let g = Contains-greatest ns last is in
+    let g = Contains-greatest_number ns last is in
     let at : get_or ns g.0 0 ≡ greatest_number ns =
     get_or_default ns g.0 0 (greatest_number ns) g.1 ∙ g.2 in
-    let most = greatest-most ns last is in
+    let most = greatest_number-most ns last is in
     elim (cases_lt g.0 (length ns - 1)) as (λ _. get_or ns (length ns - 1) d ≡ greatest_number ns) [
       | inl before ↦ let less = ascend g.0 (length ns - 1) 0 before (omega arith) in omega arith
       | inr here ↦
@@ -51,7 +51,7 @@ area-last c p slots slot d some ascend is =
     ap (λ s. area_of c s p) is
     ∙ sym (area-at c p slots (length slots - 1) 0 d (omega arith))
     ∙ ap (λ n. get_or (slot_areas c p slots) (n - 1) 0) (sym many)
-    ∙ greatest-last (slot_areas c p slots) 0 (omega arith) ascend
+    ∙ greatest_number-last (slot_areas c p slots) 0 (omega arith) ascend
 
 -- an area of the list is the area of a slot
 pub slot-area : (c : ClassFields) (p : Bool) (slots : List SlotFields) (n : ℕ)
@@ -155,7 +155,7 @@ pub leads-span : (c : ClassFields) (window : ℕ) → window ≤ area_of c large
 leads-span c window spanned =
     omega (
       arith,
-      greatest-most (slot_areas c false all_slots) (area_of c largest_slot false)
+      greatest_number-most (slot_areas c false all_slots) (area_of c largest_slot false)
           (Contains-area c false all_slots largest_slot
           (Contains-all_slots largest_slot (omega arith, omega arith))),
     )
@@ -172,10 +172,10 @@ class-ascend class c p slots all is ascend = subst (λ l. Ascend (slot_areas c p
     (subst (λ k. Ascend (slot_areas k p all_slots)) is ascend)
 
 -- the largest slot has the greatest of all areas
-pub greatest-all : (c : ClassFields) (p : Bool) → IsClass c
+pub greatest_number-all : (c : ClassFields) (p : Bool) → IsClass c
     → area_of c largest_slot p ≡ greatest_number (slot_areas c p all_slots)
 unfolding areas_of
-greatest-all c p class =
+greatest_number-all c p class =
     area-last c p all_slots largest_slot largest_slot (omega (arith, length-all_slots))
     (areas-ascend c class p)
     (sym (get_or-place_of largest_slot largest_slot (lit≤ tt, lit≤ tt))
@@ -188,15 +188,15 @@ only_one slot other (zero, within, at) = at
 only_one slot other (suc k, within, at) = absurd (omega arith)
 
 -- the greatest of one number is that number
-pub greatest-one : (n : ℕ) → greatest_number (n ∷ []) ≡ n
+pub greatest_number-one : (n : ℕ) → greatest_number (n ∷ []) ≡ n
 unfolding greatest_number
-greatest-one n = omega arith
+greatest_number-one n = omega arith
 
 -- the only slot is the least if its area is large enough
 pub least-one : (wanted : ℕ) (c : ClassFields) (p : Bool) (slot : SlotFields) → wanted
     ≤ greatest_number (slot_areas c p (slot ∷ [])) → IsLeastSlot wanted c p (slot ∷ []) slot
 least-one wanted c p slot enough = record {
   chosen = (0, omega arith, refl);
-  enough = omega (arith, greatest-one (area_of c slot p));
+  enough = omega (arith, greatest_number-one (area_of c slot p));
   least = λ other has fits. omega (arith, ap (λ s. area_of c s p) (only_one slot other has));
 }

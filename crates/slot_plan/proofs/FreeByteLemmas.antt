@@ -6,9 +6,9 @@ use Rattle.std.{proofs.lemmas.List.{drop-map, drop_all, map-append}, specs.Prelu
 use Rattle.frame_header.specs.Fields.{ClassFields, HeaderFields, SlotFields}
 use Rattle.frame_header.specs.{Tables.{class_of, window_of}, declared.version.Version.Version}
 use Rattle.frame_header.specs.declared.version.Version.TheVariants.{One, Two, TwoFive}
-use Rattle.slot_plan.proofs.AreaLemmas.{greatest-one}
-use Rattle.slot_plan.proofs.PartLemmas.{needed-first, needed-from, next_need, nothing_needed}
-use Rattle.slot_plan.proofs.PartLemmas.{same-class}
+use Rattle.slot_plan.proofs.AreaLemmas.{greatest_number-one}
+use Rattle.slot_plan.proofs.PartLemmas.{next_need, reserve_before-first, reserve_before-from}
+use Rattle.slot_plan.proofs.PartLemmas.{reserve_before-nothing, same-class}
 use Rattle.slot_plan.proofs.ReserveLemmas.{AllFit, fit-after, fit-layout, fit-more, layout-fit}
 use Rattle.slot_plan.proofs.ReserveLemmas.{starts_of}
 use Rattle.slot_plan.specs.FreeBytes.{FitsBehind, frame_without_area, IsLeastWanted, IsMostLeft}
@@ -114,7 +114,7 @@ chosen-own (need ∷ needs) = ((zero, omega arith, refl), chosen-own needs)
 pub own-cons : (need : Need) (needs : List Need)
     → own_needed (need ∷ needs) ≡ (need.bytes + own_needed needs) - own_slot_area need
 unfolding reserve_before
-own-cons need needs = omega (arith, greatest-one (own_slot_area need))
+own-cons need needs = omega (arith, greatest_number-one (own_slot_area need))
 
 -- frames fit if what they need is free
 pub fit-own : (window free : ℕ) (needs : List Need) → own_needed needs ≤ free
@@ -135,7 +135,7 @@ pub own-from : (window free k : ℕ) (needs : List Need) → FitsBehind window f
     → (own_needed (drop k needs) ≤ window)
     × AreReservesInWindow window (open_frames own_slot (drop k needs))
 own-from window free k needs fits =
-    needed-from window free k own_slot own_area_of needs fits (chosen-own (drop k needs))
+    reserve_before-from window free k own_slot own_area_of needs fits (chosen-own (drop k needs))
 
 -- What frames need is the least number of bytes after which they fit.
 pub own-wanted : (window free : ℕ) (needs : List Need) → FitsBehind window free needs
@@ -145,7 +145,7 @@ own-wanted window free needs fits =
     record {
       fits = within-fit window (own_needed needs)
           (map own_frame needs) all.0 (fit-own window (own_needed needs) needs (omega arith) all.1);
-      least = λ other behind. needed-first window other own_slot own_area_of needs behind
+      least = λ other behind. reserve_before-first window other own_slot own_area_of needs behind
           (chosen-own needs);
     }
 
@@ -368,7 +368,8 @@ window-most TwoFive = omega arith
 -- after the last frame nothing is wanted
 pub wanted-none : (needs : List Need) → 0 ≡ own_needed (drop (length needs) needs)
 wanted-none needs =
-    sym (ap own_needed (drop_all (length needs) needs (omega arith)) ∙ nothing_needed own_slot)
+    sym (ap own_needed (drop_all (length needs) needs (omega arith))
+    ∙ reserve_before-nothing own_slot)
 
 -- the place after the one before is the place itself
 pub wanted-before : (needs : List Need) (at wanted : ℕ) → 0 < at

@@ -8,7 +8,7 @@ use Rattle.frame_header.specs.{Slots.{all_slots, areas_of}, Tables.{area_of, cla
 use Rattle.slot_plan.proofs.AreaLemmas.{class-ascend, Contains-area, lead-any, leads-span}
 use Rattle.slot_plan.proofs.FreeByteLemmas.{cons-fits, fits-cons, fits-drop, more-behind}
 use Rattle.slot_plan.proofs.PartLemmas.{class-drop, next_need}
-use Rattle.slot_plan.proofs.ReserveLemmas.{greatest-most, max-is}
+use Rattle.slot_plan.proofs.ReserveLemmas.{greatest_number-most, max-is}
 use Rattle.slot_plan.specs.FreeBytes.{CanJoinBehind, FitBehindWindow, FitsBehind, IsJoinSlot}
 use Rattle.slot_plan.specs.FreeBytes.{IsLeadInHeader, IsLeadInSlot, IsLeastWanted, JoinsInSlot}
 use Rattle.slot_plan.specs.FreeBytes.{need_in_slot}
@@ -112,7 +112,7 @@ module _ (window free wanted area : ℕ) (first : Need) (needs : List Need) (wit
   unfolding IsJoinSlot
   none-joins less slot joins =
       let class : ClassFields = class_of first.header in
-      let most_area = greatest-most (slot_areas class first.header.protected all_slots)
+      let most_area = greatest_number-most (slot_areas class first.header.protected all_slots)
       (area_of class slot first.header.protected)
       (Contains-area class first.header.protected all_slots slot joins.chosen) in
       omega (arith, less, most_area, joins-area slot joins)
@@ -149,9 +149,9 @@ least-in m n c d p q xs ys slot same_wanted same_class same_protected same_slots
     same_protected (subst (λ k. IsLeastSlot m c p k slot) same_slots least)))
 
 -- the greatest area is the same for equal classes and lists
-pub greatest-in : (c d : ClassFields) (p q : Bool) (xs ys : List SlotFields) → c ≡ d → p ≡ q
+pub greatest_number-in : (c d : ClassFields) (p q : Bool) (xs ys : List SlotFields) → c ≡ d → p ≡ q
     → xs ≡ ys → greatest_number (slot_areas c p xs) ≡ greatest_number (slot_areas d q ys)
-greatest-in c d p q xs ys same_class same_protected same_slots =
+greatest_number-in c d p q xs ys same_class same_protected same_slots =
     ap (λ k. greatest_number (slot_areas k p xs)) same_class
     ∙ ap (λ k. greatest_number (slot_areas d k xs)) same_protected
     ∙ ap (λ k. greatest_number (slot_areas d q k)) same_slots

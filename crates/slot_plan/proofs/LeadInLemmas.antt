@@ -5,9 +5,9 @@ use Rattle.std.proofs.lemmas.Bool.{cases_lt}
 use Rattle.frame_header.specs.{Fields.{ClassFields, HeaderFields, SlotFields}, Slots.all_slots}
 use Rattle.frame_header.specs.Tables.{area_of, class_of}
 use Rattle.slot_plan.proofs.AreaLemmas.{Contains-area, slot-area}
-use Rattle.slot_plan.proofs.PlacedLemmas.{lead-chosen, lead-needed, lead-within}
-use Rattle.slot_plan.proofs.ReserveLemmas.{AreLeastAreas, can-needed, Contains-greatest, least-is}
-use Rattle.slot_plan.proofs.ReserveLemmas.{needed-can}
+use Rattle.slot_plan.proofs.PlacedLemmas.{lead-chosen, lead-reserve_before, lead-within}
+use Rattle.slot_plan.proofs.ReserveLemmas.{AreLeastAreas, can-reserve_before}
+use Rattle.slot_plan.proofs.ReserveLemmas.{Contains-greatest_number, least-is, reserve_before-can}
 use Rattle.slot_plan.specs.{Laws.{LeadInsComeFirst, led_open_frames}, Layouts.HasLayout}
 use Rattle.slot_plan.specs.Lists.{AreChosenAreas, CanBeLaid, frames_with_areas, IsLeastList}
 use Rattle.slot_plan.specs.Lists.{IsNotBehind, OpenFrame}
@@ -94,7 +94,7 @@ least-areas window free (o ∷ opens) [] chosen enough within = absurd chosen
 least-areas window free (o ∷ opens) (area ∷ some) chosen enough within =
     let all : (o.bytes + reserve_before opens) - greatest_number o.areas ≤ free = enough in
     let later : reserve_before opens ≤ window = within.0 in
-    let greatest_is = Contains-greatest o.areas area chosen.0 in
+    let greatest_is = Contains-greatest_number o.areas area chosen.0 in
     let pick =
     least-from ((o.bytes + reserve_before opens) - free)
     (greatest_number o.areas) o.areas (omega arith) in
@@ -193,9 +193,9 @@ module _ (window : ℕ) (choices : HeaderFields → List SlotFields) (first : Ne
       let opens : List OpenFrame = open_frames choices (first ∷ part) in
       let lead : OpenFrame = open_frame (lead_in_item class (slot ∷ [])) in
       let can = alone.1 in
-      let none = needed-can window (lead ∷ opens) can in
+      let none = reserve_before-can window (lead ∷ opens) can in
       let enough : reserve_before opens ≤ area_of class slot false =
-      omega (arith, none.0, lead-needed class slot opens) in
+      omega (arith, none.0, lead-reserve_before class slot opens) in
       let within = within-tail window lead opens none.1 in
       let some = chosen-tail lead opens can.0 can.1 in
       first-least window class slot opens some.0 alone.2 some.1 within.0 within.1 enough
@@ -204,9 +204,9 @@ module _ (window : ℕ) (choices : HeaderFields → List SlotFields) (first : Ne
       as (λ _. area_of class slot false ≤ area_of class other false) [
         | inl less ↦
             absurd (alone.3 other is less
-            (can-needed window (open_frame (lead_in_item class (other ∷ [])) ∷ opens)
+            (can-reserve_before window (open_frame (lead_in_item class (other ∷ [])) ∷ opens)
             (area_of class other false ∷ some.0) (lead-chosen class other opens some.0 some.1)
-            (omega (arith, lead-needed class other opens))
+            (omega (arith, lead-reserve_before class other opens))
             (lead-within window class other opens within.0 within.1)))
         | inr most ↦ most
       ])

@@ -16,10 +16,10 @@ use Rattle.slot_plan.proofs.LeadInLemmas.{lead-first}
 use Rattle.slot_plan.proofs.OnePlanLemmas.{all_in_order, AllInOrder, AreInOrder, AreOrdered}
 use Rattle.slot_plan.proofs.OnePlanLemmas.{one_lead, one_plan_for, ordered_frames, ordered_whole}
 use Rattle.slot_plan.proofs.OnePlanLemmas.{slots_ascend}
-use Rattle.slot_plan.proofs.PartLemmas.{chosen-cons, needed-from, nothing_chosen}
+use Rattle.slot_plan.proofs.PartLemmas.{chosen-cons, nothing_chosen, reserve_before-from}
 use Rattle.slot_plan.proofs.PlacedLemmas.{nothing-can, whole-can}
-use Rattle.slot_plan.proofs.ReserveLemmas.{AllFit, can-needed, fit-layout, layout-fit, max-is}
-use Rattle.slot_plan.proofs.ReserveLemmas.{needed-can, starts_of}
+use Rattle.slot_plan.proofs.ReserveLemmas.{AllFit, can-reserve_before, fit-layout, layout-fit}
+use Rattle.slot_plan.proofs.ReserveLemmas.{max-is, reserve_before-can, starts_of}
 use Rattle.slot_plan.specs.Laws.{LedPlanIsLeast, PartsChooseInOrder}
 use Rattle.slot_plan.specs.Layouts.{begins_of, FrameLengths, has_layout, HasLayout}
 use Rattle.slot_plan.specs.LeastPlan.{all_lists, earliest_placement, first_list, frames_in_slots}
@@ -496,16 +496,16 @@ module _ (window : ℕ) (choices : HeaderFields → List SlotFields) where
   abbrev CanBeLaidAfter : Need → List Need → Type 0
   CanBeLaidAfter first part = CanBeLaid window (map open_frame (after_any first part))
 
-  after-needed : (first : Need) (part : List Need) (areas : List ℕ)
+  after-reserve_before : (first : Need) (part : List Need) (areas : List ℕ)
       → AreChosenAreas (open_frames choices (first ∷ part)) areas
       → reserve_before (open_frames choices (first ∷ part)) ≤ window
       → reserve_before (open_frames choices (first ∷ part))
       ≤ greatest_number (slot_areas (class_of first.header) false all_slots)
       → AreReservesInWindow window (open_frames choices (first ∷ part)) → CanBeLaidAfter first part
   unfolding AreChosenAreas reserve_before AreReservesInWindow
-  after-needed first part areas chosen most room within =
+  after-reserve_before first part areas chosen most room within =
       let class : ClassFields = class_of first.header in
-      can-needed window (map open_frame (after_any first part))
+      can-reserve_before window (map open_frame (after_any first part))
       (area_of class largest_slot false ∷ areas) (
         Contains-area class false all_slots largest_slot
             (Contains-all_slots largest_slot (lit≤ tt, lit≤ tt)),
@@ -516,8 +516,9 @@ module _ (window : ℕ) (choices : HeaderFields → List SlotFields) where
       → IsLeadIn window choices (first ∷ part) lead_in → CanBeLaidAfter first part
   unfolding IsLeadIn part_items CanBeLaid
   after-lead first part None can =
-      let none = needed-can window (open_frames choices (first ∷ part)) can in
-      after-needed first part can.0 can.1 (omega (arith, none.0)) (omega (arith, none.0)) none.1
+      let none = reserve_before-can window (open_frames choices (first ∷ part)) can in
+      after-reserve_before first part can.0 can.1 (omega (arith, none.0))
+      (omega (arith, none.0)) none.1
   after-lead first part (Some slot) is =
       let least = (lead-first window choices first part slot is.0 is.2).0 is in
       (area_of (class_of first.header) slot false ∷ least.0, least.1.chosen, least.1.feasible)
@@ -627,11 +628,12 @@ module _ (class : ClassFields) (choices : HeaderFields → List SlotFields) wher
   after-feasible first part same order feasible =
       let chosen = own-chosen choices (first ∷ part) order in
       let all =
-      needed-from window_is window_is 0 choices own_area_of (first ∷ part) feasible chosen in
+      reserve_before-from window_is window_is 0 choices own_area_of
+      (first ∷ part) feasible chosen in
       let spanned =
       subst (λ k. window_of k.version ≤ area_of (class_of first.header) largest_slot false) same
       (window-spanned (class_of first.header) order.0.class) in
-      after-needed window_is choices first part
+      after-reserve_before window_is choices first part
       (map (area_by_header own_area_of) (first ∷ part)) chosen
       all.0 (omega (arith, all.0, leads-span (class_of first.header) window_is spanned)) all.1
 

@@ -7,8 +7,8 @@ use Rattle.slot_plan.proofs.AreaLemmas.{only_one}
 use Rattle.slot_plan.proofs.FreeByteLemmas.{chosen-own, fit-own, more-behind, own-from, own-wanted}
 use Rattle.slot_plan.proofs.FreeByteLemmas.{own_needed, own_slot, within-fit}
 use Rattle.slot_plan.proofs.LeadInLemmas.{within-tail}
-use Rattle.slot_plan.proofs.PlacedLemmas.{lead-chosen, lead-needed, lead-within}
-use Rattle.slot_plan.proofs.ReserveLemmas.{can-needed, needed-can}
+use Rattle.slot_plan.proofs.PlacedLemmas.{lead-chosen, lead-reserve_before, lead-within}
+use Rattle.slot_plan.proofs.ReserveLemmas.{can-reserve_before, reserve_before-can}
 use Rattle.slot_plan.specs.FreeBytes.{FitsBehind, IsLeadInSlot}
 use Rattle.slot_plan.specs.Laws.{AreInOwnSlots, AreLedInOwnSlots, LeadInWhereWanted}
 use Rattle.slot_plan.specs.Lists.{CanBeLaid, OpenFrame}
@@ -23,7 +23,7 @@ use Rattle.slot_plan.specs.declared.needs.{Need.Need, Placed.Placed}
 pub own-none : (window : ℕ) (needs : List Need) → CanBeLaid window (open_frames own_slot needs)
     → FitsBehind window 0 needs
 own-none window needs can =
-    let all = needed-can window (open_frames own_slot needs) can in
+    let all = reserve_before-can window (open_frames own_slot needs) can in
     within-fit window 0 (map own_frame needs) (omega arith)
     (fit-own window 0 needs (omega (arith, all.0)) all.1)
 
@@ -32,7 +32,7 @@ pub none-own : (window : ℕ) (needs : List Need) → FitsBehind window 0 needs
     → CanBeLaid window (open_frames own_slot needs)
 none-own window needs fits =
     let least = (own-wanted window 0 needs fits).least 0 fits in
-    can-needed window (open_frames own_slot needs) (map (area_by_header own_area_of) needs)
+    can-reserve_before window (open_frames own_slot needs) (map (area_by_header own_area_of) needs)
     (chosen-own needs)
     (omega (arith, least)) (own-from window 0 0 needs fits).1
 
@@ -45,10 +45,10 @@ lead-fits : (window : ℕ) (class : ClassFields) (slot : SlotFields) (needs : Li
     → FitsBehind window (area_of class slot false) needs
 lead-fits window class slot needs can =
     let opens = open_frames own_slot needs in
-    let all = needed-can window (behind_lead class slot needs) can in
+    let all = reserve_before-can window (behind_lead class slot needs) can in
     let within = within-tail window (open_frame (lead_in_item class (slot ∷ []))) opens all.1 in
     more-behind window (own_needed needs) (area_of class slot false) needs
-    (omega (arith, all.0, lead-needed class slot opens))
+    (omega (arith, all.0, lead-reserve_before class slot opens))
     (within-fit window (own_needed needs)
     (map own_frame needs) within.0 (fit-own window (own_needed needs) needs (omega arith) within.1))
 
@@ -60,10 +60,10 @@ fits-lead window class slot needs fits =
     let all = own-from window (area_of class slot false) 0 needs fits in
     let least = (own-wanted window (area_of class slot false) needs fits).least
     (area_of class slot false) fits in
-    can-needed window (behind_lead class slot needs)
+    can-reserve_before window (behind_lead class slot needs)
     (area_of class slot false ∷ map (area_by_header own_area_of) needs)
     (lead-chosen class slot opens (map (area_by_header own_area_of) needs) (chosen-own needs))
-    (omega (arith, lead-needed class slot opens, least))
+    (omega (arith, lead-reserve_before class slot opens, least))
     (lead-within window class slot opens all.0 all.1)
 
 led-slot : (window : ℕ) (first : Need) (needs : List Need) (slot : SlotFields)

@@ -10,7 +10,7 @@ use Rattle.frame_header.specs.Slots.{all_slots, largest_slot}
 use Rattle.frame_header.specs.Tables.{area_of, class_of, window_of}
 use Rattle.slot_plan.proofs.AreaLemmas.{leads-span}
 use Rattle.slot_plan.proofs.ReserveLemmas.{AllFit, feasible-windows, fit-after, fit-layout}
-use Rattle.slot_plan.{proofs.ReserveLemmas.needed-fit, specs.Layouts.HasLayout}
+use Rattle.slot_plan.{proofs.ReserveLemmas.reserve_before-fit, specs.Layouts.HasLayout}
 use Rattle.slot_plan.specs.Lists.{AreChosenAreas, frames_with_areas}
 use Rattle.slot_plan.specs.Parts.{AreNeedsOfClass, AreNeedsOfOneClass, ArePartsFeasible}
 use Rattle.slot_plan.specs.Parts.{CanBePlanned, need_item, needs_in_parts, open_frame, own_frame}
@@ -39,33 +39,34 @@ frames-by choices area (need ∷ part) =
     ap (λ l. frame_by_header area need ∷ l) (frames-by choices area part)
 
 -- if a part has a layout, no more is needed from any frame on than the window
-pub needed-from : (window before k : ℕ) (choices : HeaderFields → List SlotFields)
+pub reserve_before-from : (window before k : ℕ) (choices : HeaderFields → List SlotFields)
     (area : HeaderFields → ℕ) (part : List Need)
     → HasLayout window before (map (frame_by_header area) part)
     → AreChosenAreas (open_frames choices (drop k part)) (map (area_by_header area) (drop k part))
     → (reserve_before (open_frames choices (drop k part)) ≤ window)
     × AreReservesInWindow window (open_frames choices (drop k part))
-needed-from window before k choices area part feasible chosen =
+reserve_before-from window before k choices area part feasible chosen =
     let fit : AllFit window window (drop k (map (frame_by_header area) part)) =
     fit-after window before k (map (frame_by_header area) part) feasible in
     let same =
     drop-map (frame_by_header area) k part ∙ sym (frames-by choices area (drop k part)) in
-    needed-fit window window (open_frames choices (drop k part))
+    reserve_before-fit window window (open_frames choices (drop k part))
     (map (area_by_header area) (drop k part))
     (omega arith) chosen (subst (AllFit window window) same fit)
 
 -- if a part has a layout after some bytes, its frames need at most these
-pub needed-first : (window before : ℕ) (choices : HeaderFields → List SlotFields)
+pub reserve_before-first : (window before : ℕ) (choices : HeaderFields → List SlotFields)
     (area : HeaderFields → ℕ) (part : List Need)
     → HasLayout window before (map (frame_by_header area) part)
     → AreChosenAreas (open_frames choices part) (map (area_by_header area) part)
     → reserve_before (open_frames choices part) ≤ before
 unfolding HasLayout
-needed-first window before choices area part feasible chosen =
+reserve_before-first window before choices area part feasible chosen =
     let free : ℕ = before - (before - window) in
     let fit = fit-layout window 0 before free
     (map (frame_by_header area) part) feasible.0 (omega arith) feasible.1 in
-    let enough = (needed-fit window free (open_frames choices part) (map (area_by_header area) part)
+    let enough =
+    (reserve_before-fit window free (open_frames choices part) (map (area_by_header area) part)
     (omega arith) chosen (subst (AllFit window free) (sym (frames-by choices area part)) fit)).0 in
     omega (arith, enough)
 
@@ -79,12 +80,12 @@ behind-cons choices need part = refl
 
 -- a part needs its first frame's bytes and what the
 -- others need, less the first frame's largest area
-pub needed-cons : (choices : HeaderFields → List SlotFields) (need : Need) (part : List Need)
-    → reserve_before (open_frames choices (need ∷ part))
+pub reserve_before-cons : (choices : HeaderFields → List SlotFields) (need : Need)
+    (part : List Need) → reserve_before (open_frames choices (need ∷ part))
     ≡ (need.bytes + reserve_before (open_frames choices part))
     - greatest_number (open_frame (need_item choices need)).areas
 unfolding reserve_before
-needed-cons choices need part = refl
+reserve_before-cons choices need part = refl
 
 -- if what all frames need is within a window, so is what the others need
 pub within-cons : (window : ℕ) (choices : HeaderFields → List SlotFields) (need : Need)
@@ -109,10 +110,10 @@ unfolding reserves_behind
 nothing_behind choices = refl
 
 -- an empty part needs nothing
-pub nothing_needed : (choices : HeaderFields → List SlotFields)
+pub reserve_before-nothing : (choices : HeaderFields → List SlotFields)
     → reserve_before (open_frames choices []) ≡ 0
 unfolding reserve_before
-nothing_needed choices = refl
+reserve_before-nothing choices = refl
 
 -- an empty part needs at most a window
 pub nothing_within : (window : ℕ) (choices : HeaderFields → List SlotFields)
@@ -153,7 +154,8 @@ module _ (window : ℕ) (choices : HeaderFields → List SlotFields) (area : Hea
       let none : drop (length part) part ≡ [] = drop_all (length part) part (omega arith) in
       record {
         before =
-            sym (ap (λ l. reserve_before (open_frames choices l)) none ∙ nothing_needed choices);
+            sym (ap (λ l. reserve_before (open_frames choices l)) none
+            ∙ reserve_before-nothing choices);
         behind =
             sym (ap (λ l. reserves_behind (open_frames choices l)) none ∙ nothing_behind choices);
         most = omega arith;
@@ -178,12 +180,12 @@ module _ (window : ℕ) (choices : HeaderFields → List SlotFields) (area : Hea
       let chosen =
       subst (λ l. AreChosenAreas (open_frames choices l) (map (area_by_header area) l)) (sym here)
       (chosen-cons choices area need rest has from.chosen) in
-      let all = needed-from window before i choices area part feasible chosen in
+      let all = reserve_before-from window before i choices area part feasible chosen in
       let value : result ≡ reserve_before (open_frames choices (drop i part)) =
       gives
       ∙ ap (λ n. (need.bytes + n) - greatest_number (open_frame (need_item choices need)).areas)
       from.before
-      ∙ sym (needed-cons choices need rest)
+      ∙ sym (reserve_before-cons choices need rest)
       ∙ ap (λ l. reserve_before (open_frames choices l)) (sym here) in
       record {
         before = value;
@@ -238,14 +240,14 @@ next-wanted choices part i need behind rest many last wanted within is all count
 
 -- the frames from i on need the first one's bytes and
 -- what those after it need, less its largest area
-pub next-needed : (choices : HeaderFields → List SlotFields) (part : List Need) (i : ℕ)
+pub next-reserve_before : (choices : HeaderFields → List SlotFields) (part : List Need) (i : ℕ)
     (need : Need) → i < length part → need ≡ get_or part i need
     → reserve_before (open_frames choices (drop i part))
     ≡ (need.bytes + reserve_before (open_frames choices (drop (i + 1) part)))
     - greatest_number (open_frame (need_item choices need)).areas
-next-needed choices part i need within is =
+next-reserve_before choices part i need within is =
     ap (λ l. reserve_before (open_frames choices l)) (next_need part i need within is)
-    ∙ needed-cons choices need (drop (i + 1) part)
+    ∙ reserve_before-cons choices need (drop (i + 1) part)
 
 -- after the frame at i at most a window is needed either
 pub next-within : (window : ℕ) (choices : HeaderFields → List SlotFields) (part : List Need) (i : ℕ)

@@ -5,8 +5,9 @@ use Rattle.std.proofs.{Common.{◌-◌, ◌<◌, ◌∙◌, ◌∷◌, ◌≡◌
 use Rattle.frame_header.specs.{Fields.{ClassFields, HeaderFields, SlotFields}, Slots.all_slots}
 use Rattle.frame_header.specs.Tables.{area_of, class_of}
 use Rattle.slot_plan.proofs.{AreaLemmas.{Contains-area, only_one, slot-area}, PartLemmas.next_need}
-use Rattle.slot_plan.proofs.ReserveLemmas.{append-can, append-needed, AreLeastAreas, begins-frees}
-use Rattle.slot_plan.proofs.ReserveLemmas.{can-needed, fit-least, frees_of, least-is, needed-can}
+use Rattle.slot_plan.proofs.ReserveLemmas.{append-can, append-reserve_before, AreLeastAreas}
+use Rattle.slot_plan.proofs.ReserveLemmas.{begins-frees, can-reserve_before, fit-least, frees_of}
+use Rattle.slot_plan.proofs.ReserveLemmas.{least-is, reserve_before-can}
 use Rattle.slot_plan.specs.Layouts.{FrameLengths, HasLayout, IsDataLayout}
 use Rattle.slot_plan.specs.Lists.{AreChosenAreas, CanBeLaid, frames_with_areas, OpenFrame}
 use Rattle.slot_plan.specs.Parts.{all_items, AreLeadIns, AreNeedsOfClass, IsLeadIn, item_area}
@@ -81,11 +82,11 @@ plan-placed window items placed all =
 -- ---- the lead-in of a part
 
 -- with one lead-in at the front, the frames need less by its area
-pub lead-needed : (class : ClassFields) (slot : SlotFields) (opens : List OpenFrame)
+pub lead-reserve_before : (class : ClassFields) (slot : SlotFields) (opens : List OpenFrame)
     → reserve_before (open_frame (lead_in_item class (slot ∷ [])) ∷ opens)
     ≡ reserve_before opens - area_of class slot false
 unfolding reserve_before greatest_number
-lead-needed class slot opens = omega arith
+lead-reserve_before class slot opens = omega arith
 
 -- with a lead-in at the front, at most a window is needed anywhere
 pub lead-within : (window : ℕ) (class : ClassFields) (slot : SlotFields) (opens : List OpenFrame)
@@ -111,13 +112,14 @@ lead_in-alone window choices [] (Some slot) is = absurd is
 lead_in-alone window choices (first ∷ part) (Some slot) is =
     let opens : List OpenFrame = open_frames choices (first ∷ part) in
     let class : ClassFields = class_of first.header in (
-      (λ can. omega (arith, is.0, (needed-can window opens can).0)),
+      (λ can. omega (arith, is.0, (reserve_before-can window opens can).0)),
       is.1,
       is.2.chosen,
       (λ other has less can.
           let none =
-          (needed-can window (open_frame (lead_in_item class (other ∷ [])) ∷ opens) can).0 in
-          let value = lead-needed class other opens in
+          (reserve_before-can window (open_frame (lead_in_item class (other ∷ [])) ∷ opens) can).0
+          in
+          let value = lead-reserve_before class other opens in
           let before = is.2.least other has (omega arith) in
           omega arith),
     )
@@ -186,7 +188,7 @@ places-more window free now items item left old new p is begin least on = record
       let same : reserve_before (map open_frame left)
       ≡ reserve_before (map open_frame (left ++ rest)) = sym (ap reserve_before
       (map-append open_frame left rest)
-      ∙ append-needed (map open_frame left) (map open_frame rest) none) in
+      ∙ append-reserve_before (map open_frame left) (map open_frame rest) none) in
       let here = subst (λ n. IsLeastSlot ((item.bytes + n) - now)
       item.class item.protected item.choices p.slot) same least in
       subst (λ l. AreItemsPlaced window free (items ++ rest) l)
@@ -250,7 +252,7 @@ parts-more window choices all part left free after before behind part_placed on 
     alone rest =
     let lead_in : Option SlotFields = part_placed.lead_in in
     let more : List Placed = part_placed.places.more in
-    let none = (needed-can window (map open_frame (all_items choices left lead_ins))
+    let none = (reserve_before-can window (map open_frame (all_items choices left lead_ins))
     (whole-can window choices left lead_ins alone)).0 in
     let here : AreItemsPlaced window free (all_items choices (part ∷ left) (lead_in ∷ lead_ins))
     (more ++ placed) =
@@ -321,7 +323,7 @@ module _ (window : ℕ) (leads : List SlotFields) (choices : HeaderFields → Li
   unfolding IsPlacedLeadIn part_items
   part-without part reserves free after old new are none places = record {
     lead_in = None;
-    least = can-needed window (open_frames choices part)
+    least = can-reserve_before window (open_frames choices part)
         (map (area_by_header area) part) are.chosen (sym are.before ∙ none) are.within;
     places = places;
   }
@@ -388,10 +390,10 @@ module _ (window : ℕ) (leads : List SlotFields) (choices : HeaderFields → Li
       let value : reserve_before opens ≡ reserves.before = sym are.before in
       let enough = least.enough in (
         omega (arith, value, some),
-        can-needed window (open_frame (lead_in_item class (slot ∷ [])) ∷ opens)
+        can-reserve_before window (open_frame (lead_in_item class (slot ∷ [])) ∷ opens)
             (area_of class slot false ∷ map (area_by_header area) (first ∷ part))
             (lead-chosen class slot opens (map (area_by_header area) (first ∷ part)) are.chosen)
-            (omega (arith, lead-needed class slot opens, enough))
+            (omega (arith, lead-reserve_before class slot opens, enough))
             (lead-within window class slot opens (omega (arith, value, are.most)) are.within),
         least,
       )
@@ -433,9 +435,9 @@ led-items window choices (first ∷ part) slot placed least all =
     any-slot window (class_of first.header) slot
     (map (need_item choices) (first ∷ part)) placed least all
 
-nothing_needed : reserve_before (map open_frame []) ≡ 0
+reserve_before-nothing : reserve_before (map open_frame []) ≡ 0
 unfolding reserve_before
-nothing_needed = refl
+reserve_before-nothing = refl
 
 nothing_placed : (window free : ℕ) → AreItemsPlaced window free [] []
 unfolding AreItemsPlaced
@@ -446,7 +448,7 @@ pub led-placed : (window after : ℕ) (choices : HeaderFields → List SlotField
     (placed : List Placed) → PlacesLedPart window all_slots choices part 0 after [] placed
     → IsLedPlan window choices part placed
 led-placed window after choices part placed led =
-    let goes = led.places.goes [] [] nothing_needed (nothing_placed window after) in
+    let goes = led.places.goes [] [] reserve_before-nothing (nothing_placed window after) in
     let items : List PlanItem = part_items choices part (Some led.slot) in
     let all : AreItemsPlaced window 0 items placed =
     subst (AreItemsPlaced window 0 items) (append-nil led.places.more ∙ sym led.places.appended)

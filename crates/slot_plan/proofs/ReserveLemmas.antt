@@ -88,21 +88,24 @@ begins-frees window end before free (frame ∷ frames) ends is fit =
 
 -- ---- choices
 -- no member is larger than the greatest
-pub greatest-most : (ns : List ℕ) (n : ℕ) → Contains ns n → n ≤ greatest_number ns
+pub greatest_number-most : (ns : List ℕ) (n : ℕ) → Contains ns n → n ≤ greatest_number ns
 unfolding greatest_number
-greatest-most [] n c = absurd (omega (arith, c.1))
-greatest-most (m ∷ ns) n (zero, within, at) = omega (arith, le-max_left m (greatest_number ns), at)
-greatest-most (m ∷ ns) n (suc i, within, at) =
-    omega (arith, le-max_right m (greatest_number ns), greatest-most ns n (i, omega arith, at))
+greatest_number-most [] n c = absurd (omega (arith, c.1))
+greatest_number-most (m ∷ ns) n (zero, within, at) =
+    omega (arith, le-max_left m (greatest_number ns), at)
+greatest_number-most (m ∷ ns) n (suc i, within, at) =
+    omega
+    (arith, le-max_right m (greatest_number ns), greatest_number-most ns n (i, omega arith, at))
 
 -- a list with a member contains its greatest
-pub Contains-greatest : (ns : List ℕ) (n : ℕ) → Contains ns n → Contains ns (greatest_number ns)
+pub Contains-greatest_number : (ns : List ℕ) (n : ℕ) → Contains ns n
+    → Contains ns (greatest_number ns)
 unfolding greatest_number
-Contains-greatest [] n c = absurd (omega (arith, c.1))
-Contains-greatest (m ∷ []) n c = (zero, omega arith, sym (max-is m 0 ∙ omega arith))
-Contains-greatest (m ∷ k ∷ ns) n c =
+Contains-greatest_number [] n c = absurd (omega (arith, c.1))
+Contains-greatest_number (m ∷ []) n c = (zero, omega arith, sym (max-is m 0 ∙ omega arith))
+Contains-greatest_number (m ∷ k ∷ ns) n c =
     let rest : Contains (k ∷ ns) (greatest_number (k ∷ ns)) =
-    Contains-greatest (k ∷ ns) k (zero, omega arith, refl) in
+    Contains-greatest_number (k ∷ ns) k (zero, omega arith, refl) in
     elim (cases_lt m (greatest_number (k ∷ ns)))
     as (λ _. Contains (m ∷ k ∷ ns) (max m (greatest_number (k ∷ ns)))) [
       | inl less ↦
@@ -116,35 +119,35 @@ Contains-greatest (m ∷ k ∷ ns) n c =
     ]
 
 -- if some choice fits, at most the free bytes are needed, and never more than the window
-pub needed-fit : (window free : ℕ) (opens : List OpenFrame) (areas : List ℕ) → free ≤ window
+pub reserve_before-fit : (window free : ℕ) (opens : List OpenFrame) (areas : List ℕ) → free ≤ window
     → AreChosenAreas opens areas → AllFit window free (frames_with_areas opens areas)
     → (reserve_before opens ≤ free) × AreReservesInWindow window opens
 unfolding AreChosenAreas AllFit frames_with_areas reserve_before AreReservesInWindow
-needed-fit window free [] areas within chosen fit = (omega arith, tt)
-needed-fit window free (o ∷ opens) [] within chosen fit = absurd chosen
-needed-fit window free (o ∷ opens) (area ∷ areas) within chosen fit =
-    let rest = needed-fit window (free_bytes_behind window free o.bytes area) opens areas
+reserve_before-fit window free [] areas within chosen fit = (omega arith, tt)
+reserve_before-fit window free (o ∷ opens) [] within chosen fit = absurd chosen
+reserve_before-fit window free (o ∷ opens) (area ∷ areas) within chosen fit =
+    let rest = reserve_before-fit window (free_bytes_behind window free o.bytes area) opens areas
     (omega arith) chosen.1 fit.1 in
     let less : reserve_before opens ≤ free_bytes_behind window free o.bytes area = rest.0 in
-    let most = greatest-most o.areas area chosen.0 in
+    let most = greatest_number-most o.areas area chosen.0 in
     let room : o.bytes ≤ free + area = fit.0 in
     (omega arith, (omega arith, rest.1))
 
 -- if at most the free bytes are needed, some choice fits
-pub fit-needed : (window free : ℕ) (opens : List OpenFrame) (some : List ℕ)
+pub fit-reserve_before : (window free : ℕ) (opens : List OpenFrame) (some : List ℕ)
     → AreChosenAreas opens some → reserve_before opens ≤ free → AreReservesInWindow window opens
     → (areas : List ℕ) × AreChosenAreas opens areas
     × AllFit window free (frames_with_areas opens areas)
 unfolding AreChosenAreas AllFit frames_with_areas reserve_before AreReservesInWindow
-fit-needed window free [] some chosen enough within = ([], tt, tt)
-fit-needed window free (o ∷ opens) [] chosen enough within = absurd chosen
-fit-needed window free (o ∷ opens) (area ∷ some) chosen enough within =
+fit-reserve_before window free [] some chosen enough within = ([], tt, tt)
+fit-reserve_before window free (o ∷ opens) [] chosen enough within = absurd chosen
+fit-reserve_before window free (o ∷ opens) (area ∷ some) chosen enough within =
     let most : ℕ = greatest_number o.areas in
     let behind : reserve_before opens ≤ window = within.0 in
     let all : (o.bytes + reserve_before opens) - greatest_number o.areas ≤ free = enough in
-    let rest = fit-needed window
+    let rest = fit-reserve_before window
     (free_bytes_behind window free o.bytes most) opens some chosen.1 (omega arith) within.1 in
-    (most ∷ rest.0, (Contains-greatest o.areas area chosen.0, rest.1), (omega arith, rest.2))
+    (most ∷ rest.0, (Contains-greatest_number o.areas area chosen.0, rest.1), (omega arith, rest.2))
 
 -- each area is the smallest that leaves what is needed after it
 unfoldable pub AreLeastAreas : ℕ → ℕ → List OpenFrame → List ℕ → Type 0
@@ -188,7 +191,7 @@ not_behind-least window free [] (area ∷ areas) others within least chosen fit 
 not_behind-least window free (o ∷ opens) [] others within least chosen fit = absurd least
 not_behind-least window free (o ∷ opens) (area ∷ areas) [] within least chosen fit = absurd chosen
 not_behind-least window free (o ∷ opens) (area ∷ areas) (other ∷ others) within least chosen fit =
-    let rest = (needed-fit window (free_bytes_behind window free o.bytes other) opens others
+    let rest = (reserve_before-fit window (free_bytes_behind window free o.bytes other) opens others
     (omega arith) chosen.1 fit.1).0 in
     let room : o.bytes ≤ free + other = fit.0 in
     let less : area ≤ other = least.2 other chosen.0 (omega arith) in
@@ -211,21 +214,22 @@ not_behind-least window free (o ∷ opens) (area ∷ areas) (other ∷ others) w
 
 -- ---- what a choice that can be laid shows
 -- if some choice can be laid, nothing is needed before all frames, and at most a window anywhere
-pub needed-can : (window : ℕ) (opens : List OpenFrame) → CanBeLaid window opens
+pub reserve_before-can : (window : ℕ) (opens : List OpenFrame) → CanBeLaid window opens
     → (reserve_before opens ≡ 0) × AreReservesInWindow window opens
 unfolding CanBeLaid HasLayout
-needed-can window opens can =
+reserve_before-can window opens can =
     let fit =
     fit-layout window 0 0 0 (frames_with_areas opens can.0) can.2.0 (omega arith) can.2.1 in
-    let all = needed-fit window 0 opens can.0 (omega arith) can.1 fit in
+    let all = reserve_before-fit window 0 opens can.0 (omega arith) can.1 fit in
     (omega (arith, all.0), all.1)
 
 -- if nothing is needed before all frames, and at most a window anywhere, some choice can be laid
-pub can-needed : (window : ℕ) (opens : List OpenFrame) (some : List ℕ) → AreChosenAreas opens some
-    → reserve_before opens ≡ 0 → AreReservesInWindow window opens → CanBeLaid window opens
+pub can-reserve_before : (window : ℕ) (opens : List OpenFrame) (some : List ℕ)
+    → AreChosenAreas opens some → reserve_before opens ≡ 0 → AreReservesInWindow window opens
+    → CanBeLaid window opens
 unfolding CanBeLaid HasLayout
-can-needed window opens some chosen none within =
-    let fit = fit-needed window 0 opens some chosen (omega arith) within in (
+can-reserve_before window opens some chosen none within =
+    let fit = fit-reserve_before window 0 opens some chosen (omega arith) within in (
       fit.0,
       fit.1,
       (
@@ -254,12 +258,12 @@ least-is window opens areas least =
 
 -- ---- after more frames
 -- frames before others that need nothing need what they need alone
-pub append-needed : (xs ys : List OpenFrame) → reserve_before ys ≡ 0
+pub append-reserve_before : (xs ys : List OpenFrame) → reserve_before ys ≡ 0
     → reserve_before (xs ++ ys) ≡ reserve_before xs
 unfolding reserve_before
-append-needed [] ys none = none
-append-needed (x ∷ xs) ys none =
-    ap (λ n. (x.bytes + n) - greatest_number x.areas) (append-needed xs ys none)
+append-reserve_before [] ys none = none
+append-reserve_before (x ∷ xs) ys none =
+    ap (λ n. (x.bytes + n) - greatest_number x.areas) (append-reserve_before xs ys none)
 
 append-within : (window : ℕ) (xs ys : List OpenFrame) → reserve_before ys ≡ 0
     → AreReservesInWindow window xs → AreReservesInWindow window ys
@@ -267,7 +271,7 @@ append-within : (window : ℕ) (xs ys : List OpenFrame) → reserve_before ys �
 unfolding AreReservesInWindow
 append-within window [] ys none first second = second
 append-within window (x ∷ xs) ys none first second = (
-  omega (arith, first.0, append-needed xs ys none),
+  omega (arith, first.0, append-reserve_before xs ys none),
   append-within window xs ys none first.1 second,
 )
 
@@ -285,10 +289,11 @@ pub append-can : (window : ℕ) (xs ys : List OpenFrame) → CanBeLaid window xs
     → CanBeLaid window (xs ++ ys)
 unfolding CanBeLaid
 append-can window xs ys first second =
-    let here = needed-can window xs first in
-    let behind = needed-can window ys second in
-    can-needed window (xs ++ ys) (first.0 ++ second.0)
-    (append-chosen xs ys first.0 second.0 first.1 second.1) (append-needed xs ys behind.0 ∙ here.0)
+    let here = reserve_before-can window xs first in
+    let behind = reserve_before-can window ys second in
+    can-reserve_before window (xs ++ ys) (first.0 ++ second.0)
+    (append-chosen xs ys first.0 second.0 first.1 second.1)
+    (append-reserve_before xs ys behind.0 ∙ here.0)
     (append-within window xs ys behind.0 here.1 behind.1)
 
 -- ---- fewer of the frames, and more free bytes

@@ -8,7 +8,7 @@ use Rattle.frame_header.specs.{Fields.{ClassFields, SlotFields}, Slots.slot_of}
 use Rattle.frame_header.specs.Tables.{area_of, length_of, overhead_of, side_size_of}
 use Rattle.slot_plan.proofs.AreaLemmas.{area-at, areas-many, Ascend, Contains-area, slot-area}
 use Rattle.slot_plan.proofs.LengthLemmas.{overhead-side}
-use Rattle.slot_plan.proofs.ReserveLemmas.{Contains-greatest, greatest-most}
+use Rattle.slot_plan.proofs.ReserveLemmas.{Contains-greatest_number, greatest_number-most}
 use Rattle.slot_plan.specs.{Parts.slot_areas, Reserve.{greatest_number, IsLeastSlot}}
 use Rattle.slot_plan.specs.SlotTables.{IsShortestSlot, IsSlotTable}
 use Rattle.slot_plan.specs.declared.table.SlotTable.{SlotTable}
@@ -247,10 +247,11 @@ last-looked table slots p is =
     is.least (many - 1) (slot_of 1 false) (omega (arith, table-some table slots is)) in
     let has = Contains-area c p slots last longest.chosen in
     let found =
-    slot-area c p slots (greatest_number areas) (Contains-greatest areas (area_of c last p) has) in
+    slot-area c p slots (greatest_number areas)
+    (Contains-greatest_number areas (area_of c last p) has) in
     omega (
       arith,
-      greatest-most areas (area_of c last p) has,
+      greatest_number-most areas (area_of c last p) has,
       found.2,
       is.all found.0 found.1,
       is.all last longest.chosen,
@@ -267,7 +268,8 @@ table-within table slots p wanted is enough =
     let areas : List ℕ = slot_areas c p slots in
     let first : ℕ = get_or areas 0 0 in
     let within : 0 < length areas = omega (arith, is.some, areas-many c p slots) in
-    let has = Contains-greatest areas first (0, within, get_or_default areas 0 first 0 within) in
+    let has =
+    Contains-greatest_number areas first (0, within, get_or_default areas 0 first 0 within) in
     let found = slot-area c p slots (greatest_number areas) has in
     omega
     (arith, enough, found.2, is.room found.0 found.1, is.all found.0 found.1, overhead-side c p)

@@ -34,7 +34,7 @@ use Rattle.split_edits.specs.Steps.{IsPlacesFault, IsUnfinishedPart, IsWrittenPa
 use Rattle.split_edits.specs.Steps.{piece_outputs, piece_part, pieces_of, PiecesStopShort}
 use Rattle.split_edits.specs.Steps.{SaysPlaces, with_outputs, with_part}
 use Rattle.split_edits.specs.declared.piece.PlannedPiece.{PlannedPiece}
-use Rattle.sync_survey.proofs.BytesFaultLemmas.{IsOfBytes, surveyed_of_bytes}
+use Rattle.sync_survey.proofs.BytesFaultLemmas.{IsOfBytes, survey_fields-of_bytes}
 use Rattle.sync_survey.proofs.{FoldersLemmas.survey_of-short, SurveyedFileLemmas.survey_of-sound}
 use Rattle.sync_survey.specs.{Faults.{longest_file, survey_fields, SurveyFields}, Survey.survey_of}
 use Rattle.sync_survey.specs.declared.survey_fault.SurveyFault.{SurveyFault}
@@ -100,7 +100,8 @@ module _ {X : Type 0} (cut : Cutting X) (proper : IsProperCutting cut) where
   short-late prefix file f few =
       subst (λ r. IfErr (surveyed_pieces cut prefix (cut.places f) file r) IsLateFault)
       (sym (survey_of-short file most_frames few))
-      (by-late prefix file f (survey_fields file most_frames) (surveyed_of_bytes file most_frames))
+      (by-late prefix file f (survey_fields file most_frames)
+      (survey_fields-of_bytes file most_frames))
 
   -- ---- no refusal comes before the sheet is read
 

@@ -3,7 +3,8 @@
 use Rattle.std.proofs.Common.{ap, ap₂, arith, Bool, cond, Err, false, length, List, None, Ok}
 use Rattle.std.proofs.Common.{Option, refl, Result, Some, subst, sym, true, ℕ, ◌&&◌, ◌||◌, ◌∙◌, ◌≡◌}
 use Rattle.std.specs.Prelude.{IfErr, IfSome, nat_le, nat_lt, replicate}
-use Rattle.commands.proofs.{RefusingLemmas.{then_all, then_ok, unless_all}, SheetLemmas.sheet-all}
+use Rattle.commands.proofs.RefusingLemmas.{refusal_or-all, then_all, then_ok}
+use Rattle.commands.proofs.SheetLemmas.{sheet-all}
 use Rattle.commands.specs.{AfterCall.{IsEditRefusal, IsLateFault, IsNotBefore}, Refusing.then_made}
 use Rattle.commands.specs.{Sheet.sheet_in, SingleOutput.most_frames}
 use Rattle.commands.specs.declared.fault.EditFault.{EditFault, TheVariants.{Input, Refused}}
@@ -12,8 +13,10 @@ use Rattle.commands.specs.declared.fault.Refusal.TheVariants.{Range, Sheet, Shee
 use Rattle.commands.specs.declared.fault.Refusal.TheVariants.{Span as NoSpan}
 use Rattle.cue_sheet.specs.{Cues.cue_of, Places.frame_at, declared.cue_fault.CueFault.CueFault}
 use Rattle.cue_sheet.specs.declared.place.Place.{Place}
-use Rattle.cut_edits.proofs.{ChosenLemmas.{chosen-holds, with_right}, HeadLemmas.apart-length}
-use Rattle.cut_edits.proofs.PieceLemmas.{apart_had, head_long, piece-holds, span-there, span_apart}
+use Rattle.cut_edits.proofs.ChosenLemmas.{chosen-holds, with_right}
+use Rattle.cut_edits.proofs.HeadLemmas.{survey_without_head-length}
+use Rattle.cut_edits.proofs.PieceLemmas.{head_long, piece-holds, span-survey_without_head}
+use Rattle.cut_edits.proofs.PieceLemmas.{span-there, survey_without_head-relaid}
 use Rattle.cut_edits.specs.Chosen.{Chosen, chosen_file, chosen_needs, chosen_stream, cut_choice}
 use Rattle.cut_edits.specs.Chosen.{cut_refuses, first_plan, first_planning, laying_part}
 use Rattle.cut_edits.specs.Chosen.{outside_fault, own_slots_part, placed_part, planned_part}
@@ -78,7 +81,7 @@ module _ (P : EditFault → Type 0)
       let b = frame_at s.class (length s.frames) to in
       let n = length s.frames in
       then_all P (cut_choice from to file s) (planned_part (first_planning own_choice) s)
-      (unless_all P (outside_fault a b n) _
+      (refusal_or-all P (outside_fault a b n) _
       (unless-test P (Range a b n) (range a b n) (nat_lt a b && nat_le b n))) (λ chosen. tt)
 
 frames-hold : (from to : Place) (file : List ℕ) (s : SurveyFields) (laid : LaidPart)
@@ -156,7 +159,7 @@ module _ (P : EditFault → Type 0)
       let b = sample_at s.class samples to in
       then_all P (file_span from to head s)
       (λ span. Ok (span_piece head span file (survey_without_head s)))
-      (unless_all P (samples_fault a b samples) _ (unless-test P (NoSpan a b samples)
+      (refusal_or-all P (samples_fault a b samples) _ (unless-test P (NoSpan a b samples)
       (span a b samples) (nat_lt a b && nat_le b samples))) (λ span. tt)
 
 exact-hold : (from to : ExactPlace) (file : List ℕ) (s : SurveyFields) (laid : LaidPart)
@@ -173,8 +176,8 @@ exact-hold from to file s laid surveyed e =
     (stream_laid l file (survey_without_head s)))
     same
     (piece-holds head (head_long file s.head) parts.0 file (survey_without_head s)
-    (apart_had file s surveyed)
-    (span_apart s parts.0 (span-there from to head s parts.0 parts.1)))
+    (survey_without_head-relaid file s surveyed)
+    (span-survey_without_head s parts.0 (span-there from to head s parts.0 parts.1)))
 
 -- the cutting at places of samples is proper
 pub exact-points-proper : (points : ExactPoints) → IsProperCutting (exact_cutting_of points)
@@ -207,7 +210,8 @@ span_same : (from to : ExactPlace) (head : Option Info) (s : SurveyFields)
     → file_span from to head (survey_without_head s) ≡ file_span from to head s
 unfolding file_span
 span_same from to head s =
-    ap (λ (n : ℕ). span_between s.class (played_of head s.class n) from to) (apart-length s)
+    ap (λ (n : ℕ). span_between s.class (played_of head s.class n) from to)
+    (survey_without_head-length s)
 
 -- the span that was found, given the known survey and head
 module _ (from to : ExactPlace) (file : List ℕ) (s known : SurveyFields)

@@ -3,7 +3,7 @@
 use Rattle.std.proofs.Common.{ap, ap₂, arith, length, List, map, Ok, Option, refl, Some, subst, suc}
 use Rattle.std.proofs.Common.{sym, zero, ℕ, [], ◌&&◌, ◌*◌, ◌++◌, ◌+◌, ◌-◌, ◌<◌, ◌∙◌, ◌∷◌, ◌≡◌, ◌≤◌}
 use Rattle.std.specs.{List.range_with_len, Prelude.{nat_le, nat_lt}}
-use Rattle.commands.{proofs.RefusingLemmas.{then_ok, unless_ok}, specs.SingleOutput.most_frames}
+use Rattle.commands.{proofs.RefusingLemmas.{refusal_or-ok, then_ok}, specs.SingleOutput.most_frames}
 use Rattle.cut_edits.proofs.PieceLemmas.{samples_there}
 use Rattle.cut_edits.proofs.PlayLemmas.{piece-from, piece-to, pieces-play}
 use Rattle.cut_edits.specs.Exact.{exact_part, file_span, samples_fault, span_lead_ins, span_piece}
@@ -122,7 +122,7 @@ module _ (file : List ℕ) (s : SurveyFields) (is : CanBeRelaid file s) where
   laid-ascends from to laid is =
       let samples = length_of_played (input_played file s) in
       let start = (input_played file s).start in
-      let ok = unless_ok (samples_fault (sample from) (sample to) samples)
+      let ok = refusal_or-ok (samples_fault (sample from) (sample to) samples)
       (span_of s.class (start + sample from) (start + sample to)) is.span is.found in
       omega (
         arith,

@@ -10,8 +10,8 @@ use Rattle.std.specs.List.{enumerate_from}
 use Rattle.frame_header.specs.Fields.{ClassFields}
 use Rattle.side_info.specs.Side.{payload_bytes}
 use Rattle.sync_survey.proofs.LostFrameLemmas.{none-empty}
-use Rattle.sync_survey.proofs.PlacedRowLemmas.{end-marked, found-marked, from_some, place-marked}
-use Rattle.sync_survey.proofs.PlacedRowLemmas.{placed_by}
+use Rattle.sync_survey.proofs.PlacedRowLemmas.{end-marked_rows, found-marked_rows, from_some}
+use Rattle.sync_survey.proofs.PlacedRowLemmas.{place-marked_rows, placed_by}
 use Rattle.sync_survey.proofs.SurveyPartsLemmas.{data-none_well, StandWell}
 use Rattle.sync_survey.specs.{Faults.data_faults, HeadApart.{apart_row, apart_rows, rows_set_apart}}
 use Rattle.sync_survey.specs.Laws.{AreSilentOrLost}
@@ -216,15 +216,15 @@ module _ (head : Option Head) (class : ClassFields) (rows : List Row)
       let is = placed i r found in
       let ended = data_end_before None rows i in
       placed_by None class (marked_rows None rows) i (marked_row None rows i r) (at i) ended
-      (sym (place-marked None rows i))
-      (sym (end-marked None rows i)) is.known is.class_is is.fits refl
+      (sym (place-marked_rows None rows i))
+      (sym (end-marked_rows None rows i)) is.known is.class_is is.fits refl
       (sound-by (at i) ended r (lacks_data (at i) ended r) refl (λ kept. stands_apart area (at i)
       (data_end_before head rows i) ended r (less_at i) (stands_at i r found) kept))
 
-  placed_marked : AreWellPlaced None class (marked_rows None rows)
-  placed_marked i q found =
+  placed-marked_rows : AreWellPlaced None class (marked_rows None rows)
+  placed-marked_rows i q found =
       let parts = from_some None rows (marked_row None rows i) (slice_get rows i) q
-      (sym (found-marked None rows i) ∙ found) in
+      (sym (found-marked_rows None rows i) ∙ found) in
       subst (IsWellPlaced None class (marked_rows None rows) i)
       parts.2 (placed_apart i parts.0 parts.1)
 
@@ -241,16 +241,17 @@ module _ (head : Option Head) (class : ClassFields) (rows : List Row)
       ap₂ (λ (b : Bool) (l : List Row). record x { lost = b } ∷ l) (or_same n x here x.lost refl)
       (apart_same (n + 1) xs (λ i r is. ap (slice_get rows) (omega arith) ∙ stand (suc i) r is))
 
-  apart_marked : apart_rows rows ≡ marked_rows None rows
+  apart_rows-marked_rows : apart_rows rows ≡ marked_rows None rows
   unfolding apart_rows marked_rows
-  apart_marked = apart_same 0 rows (λ i r is. ap (slice_get rows) (omega arith) ∙ is)
+  apart_rows-marked_rows = apart_same 0 rows (λ i r is. ap (slice_get rows) (omega arith) ∙ is)
 
 -- frames that are set apart are well placed without a head
 pub placed-apart : (head : Option Head) (class : ClassFields) (rows : List Row)
     → AreWellPlaced head class rows → AreWellPlaced None class (rows_set_apart head rows)
 placed-apart None class rows placed = placed
 placed-apart (Some head) class rows placed = subst (AreWellPlaced None class)
-    (sym (apart_marked (Some head) class rows placed)) (placed_marked (Some head) class rows placed)
+    (sym (apart_rows-marked_rows (Some head) class rows placed))
+    (placed-marked_rows (Some head) class rows placed)
 
 -- every frame before a frame that is lost without the head is silent or lost in this sense
 pub apart-leads : (head : Option Head) (class : ClassFields) (rows : List Row)

@@ -173,7 +173,7 @@ survey_cases file allowed (Ok start) fault is e =
     (fault_is (first_of (faults_from file allowed start)) (fields_from file start) fault e)
 
 -- a fault with which a survey of bytes refuses them is a fault of bytes
-pub surveyed_of_bytes : (file : List ℕ) (allowed : ℕ) (fault : SurveyFault)
+pub survey_fields-of_bytes : (file : List ℕ) (allowed : ℕ) (fault : SurveyFault)
     → survey_fields file allowed ≡ Err fault → IsOfBytes fault
 unfolding survey_fields
-surveyed_of_bytes file allowed fault e = survey_cases file allowed (start_of file) fault refl e
+survey_fields-of_bytes file allowed fault e = survey_cases file allowed (start_of file) fault refl e

@@ -289,16 +289,16 @@ module _ (file : List ℕ) (head : Option Head) (class : ClassFields) (allowed :
 
 module _ (head : Option Head) where
   -- marked frames are as many as before
-  pub marked-length : (rows : List Row) → length (marked_rows head rows) ≡ length rows
+  pub length-marked_rows : (rows : List Row) → length (marked_rows head rows) ≡ length rows
   unfolding marked_rows
-  marked-length rows =
+  length-marked_rows rows =
       length-map (enumerate_from 0 rows) (λ (p : ℕ × Row). marked_row head rows p.0 p.1)
       ∙ enumerate-length 0 rows
 
   -- if there are no frames, none is marked
-  pub marked-none : marked_rows head [] ≡ []
+  pub marked_rows-none : marked_rows head [] ≡ []
   unfolding marked_rows
-  marked-none = refl
+  marked_rows-none = refl
 
   lost-more : (rows more : List Row) (i : ℕ) (r : Row) → i ≤ length rows
       → is_lost head (rows ++ more) i r ≡ is_lost head rows i r
@@ -311,10 +311,10 @@ module _ (head : Option Head) where
       ap (λ b. record r { lost = b }) (lost-more rows more i r within)
 
   -- one more frame doesn't change the marks of those before it
-  pub marked-push : (rows : List Row) (r : Row) → marked_rows head (rows ++ r ∷ [])
+  pub marked_rows-push : (rows : List Row) (r : Row) → marked_rows head (rows ++ r ∷ [])
       ≡ marked_rows head rows ++ marked_row head rows (length rows) r ∷ []
   unfolding marked_rows
-  marked-push rows r =
+  marked_rows-push rows r =
       let whole = rows ++ r ∷ [] in
       let each = λ (p : ℕ × Row). marked_row head whole p.0 p.1 in
       ap (map each) (enumerate-append 0 rows (r ∷ []))

@@ -7,7 +7,7 @@ use Rattle.frame_header.specs.{Fields.ClassFields, Tables.class_of}
 use Rattle.outside.specs.{Counts.Counts, Files.{Files, Holds}}
 use Rattle.side_info.specs.{CheckWord.check_word_of, Frame.stored_crc, Side.payload_bits}
 use Rattle.sync_survey.proofs.{BytesFaultLemmas.fault_is, ItemListLemmas.ends-within}
-use Rattle.sync_survey.proofs.{RunsLemmas.{cons_list, run-ends}, StartLemmas.start-first}
+use Rattle.sync_survey.proofs.{RunsLemmas.{cons_list, item_run-ends}, StartLemmas.start-first}
 use Rattle.sync_survey.specs.Faults.{all_faults, class_from, data_faults, fault_if_true}
 use Rattle.sync_survey.specs.Faults.{fault_offset, faults_at, faults_from, fields_from, first_of}
 use Rattle.sync_survey.specs.Faults.{frame_faults, has_wrong_crc, longest_file, NoneBefore}
@@ -207,10 +207,11 @@ rise_behind : (file : List ℕ) (at : ℕ) (ps : List PlacedFrame) (to : ℕ)
 rise_behind file at [] to rise = rise
 rise_behind file at (p ∷ ps) to rise = rising_less at p.offset (rows_of file ps) to rise.0 rise.1
 
-rise_numbered : (file : List ℕ) (at : ℕ) (head : Option Head) (ps : List PlacedFrame) (to : ℕ)
-    → AreRising at (rows_of file ps) to → AreRising at (rows_of file (numbered_frames head ps)) to
-rise_numbered file at None ps to rise = rise
-rise_numbered file at (Some head) ps to rise = rise_behind file at ps to rise
+numbered_frames-rise : (file : List ℕ) (at : ℕ) (head : Option Head) (ps : List PlacedFrame)
+    (to : ℕ) → AreRising at (rows_of file ps) to
+    → AreRising at (rows_of file (numbered_frames head ps)) to
+numbered_frames-rise file at None ps to rise = rise
+numbered_frames-rise file at (Some head) ps to rise = rise_behind file at ps to rise
 
 -- ---- the fault where the walk ends
 
@@ -246,13 +247,13 @@ pub first_is_least : (file : List ℕ) (allowed : ℕ) (start : Start) (fault : 
 unfolding faults_from walk_from
 first_is_least file allowed start fault within is =
     let stream = stream_run file start in
-    let ends = run-ends Stream file start.first.offset in
+    let ends = item_run-ends Stream file start.first.offset in
     let head = head_of file start.first in
     let frames = numbered_frames head (frames_of stream.items) in
     let o = end_fault file frames (fault_at stream.stop (item_at file stream.stop)) in
     all_least file head (class_from start) allowed
     start.first.offset stream.stop (rows_of file frames) (option_to_list o) fault
-    (rise_numbered file start.first.offset head (frames_of stream.items)
+    (numbered_frames-rise file start.first.offset head (frames_of stream.items)
     stream.stop (items_rise file Stream start.first.offset stream.items stream.stop ends))
     (end_place file frames stream.stop (fault_at stream.stop (item_at file stream.stop))
     (ends-within Stream file start.first.offset stream.items stream.stop ends within) refl)
@@ -271,11 +272,11 @@ start_is file allowed start fault (Ok s) begun same e =
     (first_is_least file allowed s fault (omega (arith, (start-first file s begun).frame.within))
     (fault_is (first_of (faults_from file allowed s)) (fields_from file s) fault e))
 
-surveyed_first : (file : List ℕ) (allowed : ℕ) (fault : SurveyFault)
+survey_fields-first : (file : List ℕ) (allowed : ℕ) (fault : SurveyFault)
     → survey_fields file allowed ≡ Err fault → (start : Start) → start_of file ≡ Ok start
     → NoneBefore (fault_offset fault) (faults_from file allowed start)
 unfolding survey_fields
-surveyed_first file allowed fault e start begun =
+survey_fields-first file allowed fault e start begun =
     start_is file allowed start fault (start_of file) refl begun e
 
 none_at_all : (xs : List SurveyFault) → NoneBefore 0 xs
@@ -298,7 +299,8 @@ long_by file allowed fault start true begun e =
     let same : TooLong (length file) ≡ fault = cc in
     subst (λ f. NoneBefore (fault_offset f) (faults_from file allowed start)) same
     (none_at_all (faults_from file allowed start))
-long_by file allowed fault start false begun e = surveyed_first file allowed fault e start begun
+long_by file allowed fault start false begun e =
+    survey_fields-first file allowed fault e start begun
 
 of_file : (file : List ℕ) (allowed : ℕ) (fault : SurveyFault) (start : Start)
     → start_of file ≡ Ok start → survey_of file allowed ≡ Err fault

@@ -146,10 +146,10 @@ only_reads_equal {before = before} same =
     subst (OnlyReads before) (sym same) (only_reads_same before)
 
 -- a file whose stream doesn't begin has the fault of its start
-pub surveyed_by : (file : List ℕ) (allowed : ℕ) (fault : SurveyFault) → start_of file ≡ Err fault
-    → survey_fields file allowed ≡ Err fault
+pub survey_fields-by : (file : List ℕ) (allowed : ℕ) (fault : SurveyFault)
+    → start_of file ≡ Err fault → survey_fields file allowed ≡ Err fault
 unfolding survey_fields
-surveyed_by file allowed fault is = ap (survey_from_start file allowed) is
+survey_fields-by file allowed fault is = ap (survey_from_start file allowed) is
 
 -- ---- the refusals
 
@@ -218,7 +218,7 @@ module _ (name : List ℕ) (files : Files) (allowed : ℕ) (before after : Count
       → IsSurveyRefusal name files allowed before after fault
   start_refusal size fault known same rightly none =
       bytes_refusal size fault known same rightly
-      (λ bytes holds. surveyed_by bytes allowed fault (none bytes holds))
+      (λ bytes holds. survey_fields-by bytes allowed fault (none bytes holds))
 
 -- a result that is a start is the start of the file
 pub start_ok : (r : Result Start SurveyFault) (files : Files) (name : List ℕ)

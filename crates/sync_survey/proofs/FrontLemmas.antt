@@ -2,8 +2,8 @@
 use Rattle.std.proofs.Common.{ap, append-nil, append_assoc, arith, length, List, None}
 use Rattle.std.proofs.Common.{option_to_list, refl, subst, sym, ℕ, [], ◌++◌, ◌+◌, ◌∙◌, ◌∷◌, ◌≡◌}
 use Rattle.std.proofs.Common.{◌≤◌}
-use Rattle.sync_survey.{proofs.RunsLemmas.{item_of-past, run-stopped}, specs.Items.size_of}
-use Rattle.sync_survey.specs.Looks.{Passes}
+use Rattle.sync_survey.proofs.RunsLemmas.{item_run-stopped_run, whole_item_at-past}
+use Rattle.sync_survey.specs.{Items.size_of, Looks.Passes}
 use Rattle.sync_survey.specs.Runs.{block_of_item, blocks_of, item_run, whole_item_at}
 use Rattle.sync_survey.specs.{Start.front_end_of, Survey.BlocksAreLaid, declared.items.Item.Item}
 use Rattle.sync_survey.specs.declared.{items.Item.TheVariants.Block, places.Piece.Piece}
@@ -41,7 +41,7 @@ pub record IsFrontPassed (file : List ℕ) (blocks : List Piece) (at : ℕ) : Ty
 pub passed_all : (file : List ℕ) (blocks : List Piece) (at : ℕ) → IsPassedTo file blocks at
     → whole_item_at Front file at ≡ None → IsFrontPassed file blocks at
 passed_all file blocks at so_far none =
-    let stopped = run-stopped Front file at none in
+    let stopped = item_run-stopped_run Front file at none in
     record {
       pieces = sym (append-nil blocks)
           ∙ ap (λ l. blocks ++ l) (sym (ap (λ r. blocks_of r.items) stopped)) ∙ so_far.pieces;
@@ -52,7 +52,7 @@ passed_all file blocks at so_far none =
 pub passed_end : (file : List ℕ) (blocks : List Piece) (at size : ℕ) → size ≡ length file
     → size ≤ at → IsPassedTo file blocks at → IsFrontPassed file blocks at
 passed_end file blocks at size is past so_far =
-    passed_all file blocks at so_far (item_of-past Front file at (omega (arith, is, past)))
+    passed_all file blocks at so_far (whole_item_at-past Front file at (omega (arith, is, past)))
 
 -- ---- blocks that follow each other
 

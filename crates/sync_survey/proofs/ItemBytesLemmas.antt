@@ -50,19 +50,19 @@ begins-take Ape n bytes within =
       part_take 20 4 n bytes (omega arith),
     ) refl
 
-length_as-take : (kind : Kind) (n : ℕ) (bytes : List ℕ) → known_by kind ≤ n
+length_of_kind-take : (kind : Kind) (n : ℕ) (bytes : List ℕ) → known_by kind ≤ n
     → length_of_kind kind (take n bytes) ≡ length_of_kind kind bytes
 unfolding id3v2_length ape_length
-length_as-take Id3v2 n bytes within =
+length_of_kind-take Id3v2 n bytes within =
     rw (part_take 6 4 n bytes (omega arith), get_or-take n bytes 5 0 (omega arith)) refl
-length_as-take Id3v1 n bytes within = refl
-length_as-take Ape n bytes within = rw (part_take 12 4 n bytes (omega arith)) refl
+length_of_kind-take Id3v1 n bytes within = refl
+length_of_kind-take Ape n bytes within = rw (part_take 12 4 n bytes (omega arith)) refl
 
 -- the first bytes that decide whether there is a block of a kind are enough
-pub front_as-take : (kind : Kind) (n : ℕ) (bytes : List ℕ) → known_by kind ≤ n
+pub block_of_kind-take : (kind : Kind) (n : ℕ) (bytes : List ℕ) → known_by kind ≤ n
     → block_of_kind kind (take n bytes) ≡ block_of_kind kind bytes
-front_as-take kind n bytes within =
-    rw (begins-take kind n bytes within, length_as-take kind n bytes within) refl
+block_of_kind-take kind n bytes within =
+    rw (begins-take kind n bytes within, length_of_kind-take kind n bytes within) refl
 
 -- the bytes that decide the kind are within the block
 known_within : (kind : Kind) (bytes : List ℕ) → known_by kind ≤ length_of_kind kind bytes
@@ -80,8 +80,8 @@ block_front-bytes bytes rest b is within =
     let same : take b.length (own ++ rest) ≡ own =
     take_at own rest b.length (length-take-le b.length bytes within) in
     block_front-any b.kind (own ++ rest) b
-    (sym (front_as-take b.kind b.length (own ++ rest) known) ∙ ap (block_of_kind b.kind) same
-    ∙ front_as-take b.kind b.length bytes known ∙ block_front-own bytes b is)
+    (sym (block_of_kind-take b.kind b.length (own ++ rest) known) ∙ ap (block_of_kind b.kind) same
+    ∙ block_of_kind-take b.kind b.length bytes known ∙ block_front-own bytes b is)
 
 -- ---- a header
 

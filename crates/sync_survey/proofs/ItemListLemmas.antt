@@ -4,7 +4,7 @@ use Rattle.std.proofs.Common.{length-drop, List, map, None, Option, option_map, 
 use Rattle.std.proofs.Common.{true, ℕ, [], ◌++◌, ◌+◌, ◌-◌, ◌<◌, ◌∙◌, ◌∷◌, ◌≡◌, ◌≤◌}
 use Rattle.std.{proofs.lemmas.List.{drop-drop, drop_at}, specs.List.cons_option}
 use Rattle.sync_survey.proofs.ItemBytesLemmas.{IsItem, kept_item}
-use Rattle.sync_survey.proofs.RunsLemmas.{item_of-is, item_of-whole, run-only}
+use Rattle.sync_survey.proofs.RunsLemmas.{item_run-only, whole_item_at-is, whole_item_at-whole}
 use Rattle.sync_survey.specs.Items.{item_at, item_front, size_of}
 use Rattle.sync_survey.specs.Runs.{AreEndToEnd, belongs, block_of_item, blocks_of, bytes_of_items}
 use Rattle.sync_survey.specs.Runs.{frame_of_item, frames_of, item_bytes_in, item_run, PlacedItem}
@@ -29,9 +29,10 @@ module _ (part : Region) (file : List ℕ) where
       → AreEndToEnd part file from ps to → AreEndToEnd Stream file from ps to
   ends-stream from [] to ends = ends
   ends-stream from (p ∷ ps) to ends =
-      let here = item_of-is part file p.offset p.item ends.1 in (
+      let here = whole_item_at-is part file p.offset p.item ends.1 in (
         ends.0,
-        item_of-whole Stream file p.offset p.item here.is (stream_belongs part p.item here.belongs)
+        whole_item_at-whole Stream file
+            p.offset p.item here.is (stream_belongs part p.item here.belongs)
             here.within,
         ends-stream (p.offset + size_of p.item) ps to ends.2,
       )
@@ -50,7 +51,8 @@ module _ (part : Region) (file : List ℕ) where
       → AreEndToEnd part file from ps to → from ≤ length file → to ≤ length file
   ends-within from [] to ends within = omega (arith, ends, within)
   ends-within from (p ∷ ps) to ends within = ends-within
-      (p.offset + size_of p.item) ps to ends.2 (item_of-is part file p.offset p.item ends.1).within
+      (p.offset + size_of p.item) ps to
+      ends.2 (whole_item_at-is part file p.offset p.item ends.1).within
 
 -- ---- bytes that are items
 
@@ -80,7 +82,7 @@ pub kept_items : (file : List ℕ) (from : ℕ) (ps : List PlacedItem) (to : ℕ
     → AreEndToEnd Stream file from ps to → AreItems ps (bytes_of_items file ps)
 kept_items file from [] to ends = refl
 kept_items file from (p ∷ ps) to ends =
-    let here = item_of-is Stream file p.offset p.item ends.1 in (
+    let here = whole_item_at-is Stream file p.offset p.item ends.1 in (
       item_bytes_in file p,
       bytes_of_items file ps,
       refl,
@@ -130,7 +132,7 @@ module _ (part : Region) (old file : List ℕ) (gap : ℕ) where
       let own = are.0 in
       let rest = are.1 in
       let size = size_of p.item in
-      let here = item_of-is part old p.offset p.item ends.1 in
+      let here = whole_item_at-is part old p.offset p.item ends.1 in
       let place : p.offset - gap ≡ at = omega (arith, ends.0, there) in
       let stands : drop at file ≡ own ++ (rest ++ behind) =
       is ∙ ap (λ l. l ++ behind) are.2 ∙ append_assoc own rest behind in
@@ -149,20 +151,20 @@ module _ (part : Region) (old file : List ℕ) (gap : ℕ) where
       ap (λ n. drop (n + size) file) place ∙ sym (drop-drop size at file) ∙ ap (drop size) stands
       ∙ drop_at own (rest ++ behind) size are.3.size in (
         place,
-        item_of-whole part file
+        whole_item_at-whole part file
             (p.offset - gap) p.item known here.belongs (omega (arith, place, room)),
         items-end (p.offset + size) (p.offset - gap + size) ps to rest behind
             ends.2 (omega (arith, place, ends.0, there)) are.4 (omega (arith, place, room)) next,
       )
 
   -- bytes that are items are the run there, if no further item of the part begins after them
-  pub items-run : (from at : ℕ) (ps : List PlacedItem) (to : ℕ)
+  pub items-item_run : (from at : ℕ) (ps : List PlacedItem) (to : ℕ)
       (bytes behind : List ℕ) → AreEndToEnd part old from ps to → from ≡ at + gap
       → AreItems ps bytes → at ≤ length file → drop at file ≡ bytes ++ behind
       → whole_item_at part file (to - gap) ≡ None
       → item_run part file at ≡ record { items = map (nearer gap) ps; stop = to - gap }
-  items-run from at ps to bytes behind ends there are within is none =
-      run-only part file at (map (nearer gap) ps) (to - gap)
+  items-item_run from at ps to bytes behind ends there are within is none =
+      item_run-only part file at (map (nearer gap) ps) (to - gap)
       (items-end from at ps to bytes behind ends there are within is) none
 
 -- ---- frames and blocks among them
@@ -233,7 +235,7 @@ pub blocks-between : (part : Region) (f g : Piece → Piece) (file : List ℕ) (
 blocks-between part f g file low high from [] to same ends begin end = refl
 blocks-between part f g file low high from (p ∷ ps) to same ends begin end =
     let size = size_of p.item in
-    let some = (item_of-is part file p.offset p.item ends.1).some in
+    let some = (whole_item_at-is part file p.offset p.item ends.1).some in
     let rise : p.offset + size ≤ to = ends-rise part file (p.offset + size) ps to ends.2 in
     one_mapped f g p.offset p.item (blocks_of ps)
     (λ q here. same q (omega (arith, here, ends.0, begin)) (omega (arith, here, some, rise, end)))
@@ -253,7 +255,7 @@ frames-few part file from (p ∷ ps) to ends =
     omega (
       arith,
       ends.0,
-      (item_of-is part file p.offset p.item ends.1).some,
+      (whole_item_at-is part file p.offset p.item ends.1).some,
       frame_count p.offset p.item (frames_of ps),
       frames-few part file (p.offset + size_of p.item) ps to ends.2,
     )

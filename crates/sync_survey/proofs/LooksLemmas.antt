@@ -7,7 +7,8 @@ use Rattle.std.proofs.lemmas.List.{drop-drop, drop-take, take-append-drop, take-
 use Rattle.std.{proofs.lemmas.List.Sums.prefix_len-le-length, specs.List.prefix_len}
 use Rattle.sync_survey.proofs.{ItemBytesLemmas.header_front-four, ItemsLemmas.{some_by, stands}}
 use Rattle.sync_survey.proofs.OneItemLemmas.{stands-only_at}
-use Rattle.sync_survey.proofs.RunsLemmas.{blocks-next, frames-next, item_of-whole, run-next}
+use Rattle.sync_survey.proofs.RunsLemmas.{blocks-next, frames-next, item_run-next}
+use Rattle.sync_survey.proofs.RunsLemmas.{whole_item_at-whole}
 use Rattle.sync_survey.specs.Items.{block_or_item, byte_item, header_or_item, IsItemFront, item_at}
 use Rattle.sync_survey.specs.Items.{item_fits, item_front, size_of}
 use Rattle.sync_survey.specs.Looks.{look_size, Passes, Shows}
@@ -19,10 +20,10 @@ use Rattle.tag_blocks.proofs.BlocksLemmas.{block_front-take}
 
 -- ---- 32 bytes and the length decide what is at an offset
 
-by_byte-take : (n : ℕ) (bytes : List ℕ) → 1 ≤ n → byte_item (take n bytes) ≡ byte_item bytes
-by_byte-take zero bytes some = absurd (omega (arith, some))
-by_byte-take (suc n) [] some = refl
-by_byte-take (suc n) (b ∷ bs) some = refl
+byte_item-take : (n : ℕ) (bytes : List ℕ) → 1 ≤ n → byte_item (take n bytes) ≡ byte_item bytes
+byte_item-take zero bytes some = absurd (omega (arith, some))
+byte_item-take (suc n) [] some = refl
+byte_item-take (suc n) (b ∷ bs) some = refl
 
 -- the first 32 bytes decide which item bytes begin with
 pub item_front-take : (n : ℕ) (bytes : List ℕ) → 32 ≤ n
@@ -32,7 +33,7 @@ item_front-take n bytes many =
     let header =
     header_front-four (take n bytes) bytes (take-take 4 n bytes (omega (arith, many))) in
     let block = block_front-take n bytes many in
-    let byte = by_byte-take n bytes (omega (arith, many)) in
+    let byte = byte_item-take n bytes (omega (arith, many)) in
     λ i. header_or_item (header i) (block_or_item (block i) (byte i))
 
 -- ---- zero bytes
@@ -41,7 +42,7 @@ item_front-take n bytes many =
 pub zero_at : (part : Region) (file bytes : List ℕ) (at : ℕ) → drop at file ≡ 0 ∷ bytes
     → whole_item_at part file at ≡ Some Zero
 zero_at part file bytes at is =
-    item_of-whole part file at Zero (sym (stands-only_at file at Zero (ap (take 1) is))) refl
+    whole_item_at-whole part file at Zero (sym (stands-only_at file at Zero (ap (take 1) is))) refl
     (omega (arith, ap length is, length-drop at file))
 
 abbrev pub zero_test : ℕ → Bool
@@ -142,8 +143,8 @@ module _ (file : List ℕ) (at : ℕ) (front : List ℕ) (left : ℕ)
       ∙ ap item_front (drop-drop size at file)
 
   -- whether an item fits in what is left is whether it fits in the file
-  pub fits-left : (item : Item) → leb (size_of item) left ≡ item_fits file at item
-  fits-left item = ap (leb (size_of item)) shows.left_is
+  pub item_fits-left : (item : Item) → leb (size_of item) left ≡ item_fits file at item
+  item_fits-left item = ap (leb (size_of item)) shows.left_is
 
   -- ---- a step
 
@@ -152,7 +153,7 @@ module _ (file : List ℕ) (at : ℕ) (front : List ℕ) (left : ℕ)
   unfolding whole_item_at
   none_by part item is true here past =
       let over : item_fits file at item ≡ false =
-      sym (fits-left item) ∙ lt-leb (size_of item) left (past refl) in
+      sym (item_fits-left item) ∙ lt-leb (size_of item) left (past refl) in
       ap (item_if_whole part file at) is ∙ rw (here, over) refl
   none_by part item is false here past = ap (item_if_whole part file at) is ∙ rw here refl
 
@@ -164,7 +165,7 @@ module _ (file : List ℕ) (at : ℕ) (front : List ℕ) (left : ℕ)
 
   whole_here : (part : Region) (item : Item) → item ≡ item_front front → belongs part item ≡ true
       → 0 < size_of item → size_of item ≤ left → whole_item_at part file at ≡ Some item
-  whole_here part item is here some within = item_of-whole part file at item
+  whole_here part item is here some within = whole_item_at-whole part file at item
       (sym item_at-shown ∙ sym is) here (omega (arith, some, within, shows.left_is))
 
   -- what one zero byte doesn't change, all zero bytes that are shown don't change
@@ -187,7 +188,7 @@ module _ (file : List ℕ) (at : ℕ) (front : List ℕ) (left : ℕ)
         (λ bytes place zero. blocks-next part file place Zero (zero_at part file bytes place zero));
     stop = zeros_shown (λ n. (item_run part file n).stop) size many
         (λ bytes place zero. ap (λ r. r.stop)
-        (run-next part file place Zero (zero_at part file bytes place zero)));
+        (item_run-next part file place Zero (zero_at part file bytes place zero)));
   }
 
   -- passing all of an item's bytes is passing it
@@ -198,7 +199,7 @@ module _ (file : List ℕ) (at : ℕ) (front : List ℕ) (left : ℕ)
       (record {
         frames = frames-next part file at item here;
         blocks = blocks-next part file at item here;
-        stop = ap (λ r. r.stop) (run-next part file at item here);
+        stop = ap (λ r. r.stop) (item_run-next part file at item here);
       })
 
   step_by : (part : Region) (item : Item) (size : ℕ) → whole_item_at part file at ≡ Some item

@@ -98,14 +98,15 @@ byte_cases : (b : ℕ) (zero : Bool) → (b == 0) ≡ zero → (b ∷ [] ≢ 0 �
 byte_cases b true is other = absurd (other (ap (λ x. x ∷ []) (eqb-true b 0 is)))
 byte_cases b false is other = refl
 
-by_byte-nothing : (bytes : List ℕ) → bytes ≢ [] → take 1 bytes ≢ 0 ∷ [] → byte_item bytes ≡ Nothing
-by_byte-nothing [] some other = absurd (some refl)
-by_byte-nothing (b ∷ bs) some other = byte_cases b (b == 0) refl other
+byte_item-nothing : (bytes : List ℕ) → bytes ≢ [] → take 1 bytes ≢ 0 ∷ []
+    → byte_item bytes ≡ Nothing
+byte_item-nothing [] some other = absurd (some refl)
+byte_item-nothing (b ∷ bs) some other = byte_cases b (b == 0) refl other
 
-by_byte-zero : (bytes : List ℕ) → take 1 bytes ≡ 0 ∷ []
+byte_item-zero : (bytes : List ℕ) → take 1 bytes ≡ 0 ∷ []
     → (get_or bytes 0 0 ≡ 0) × (byte_item bytes ≡ Zero)
-by_byte-zero [] first = absurd cc
-by_byte-zero (b ∷ bs) first = let same : b ≡ 0 = cc in (same, ap (λ x. byte_item (x ∷ bs)) same)
+byte_item-zero [] first = absurd cc
+byte_item-zero (b ∷ bs) first = let same : b ≡ 0 = cc in (same, ap (λ x. byte_item (x ∷ bs)) same)
 
 -- an item with which bytes begin is the one that the definition finds
 pub stands-only : (bytes : List ℕ) (item : Item) → IsItemFront bytes item → item ≡ item_front bytes
@@ -114,7 +115,7 @@ stands-only bytes (Block b) here =
     let header = no_header bytes (block_front-below bytes b here) in
     sym (λ i. header_or_item (header i) (block_or_item (here i) (byte_item bytes)))
 stands-only bytes Zero here =
-    let first = by_byte-zero bytes here in
+    let first = byte_item-zero bytes here in
     let header = no_header bytes (omega (arith, first.0)) in
     let block = no_block bytes first.0 in
     sym ((λ i. header_or_item (header i) (block_or_item (block i) (byte_item bytes))) ∙ first.1)
@@ -125,7 +126,7 @@ stands-only bytes End here =
     sym (λ i. header_or_item (header i) (block_or_item (block i) (byte_item (here i))))
 stands-only bytes Nothing here =
     sym ((λ i. header_or_item (here.0 i) (block_or_item (here.1 i) (byte_item bytes)))
-    ∙ by_byte-nothing bytes here.2 here.3)
+    ∙ byte_item-nothing bytes here.2 here.3)
 stands-only bytes _ here =
     ap (λ r. header_or_item r (block_or_item (block_front bytes) (byte_item bytes))) (sym here)
 

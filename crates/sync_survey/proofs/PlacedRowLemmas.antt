@@ -9,10 +9,11 @@ use Rattle.side_info.{proofs.FrameLemmas.fits-side_in, specs.Side.SideFits}
 use Rattle.sync_survey.proofs.FaultsLemmas.{each_push, end-more, end-next, none-of, place-more}
 use Rattle.sync_survey.proofs.FaultsLemmas.{place-next, place-none}
 use Rattle.sync_survey.proofs.ItemsLemmas.{header_front-in_range, stands-at}
-use Rattle.sync_survey.proofs.{RunsLemmas.{item_of-is, run-ends}, StartLemmas.start-first}
+use Rattle.sync_survey.proofs.RunsLemmas.{item_run-ends, whole_item_at-is}
+use Rattle.sync_survey.proofs.StartLemmas.{start-first}
 use Rattle.sync_survey.proofs.SurveyPartsLemmas.{all_faults-none_sound, AreSound, faults-none_sound}
 use Rattle.sync_survey.proofs.SurveyPartsLemmas.{frames_from, IsSound, sound-no_data}
-use Rattle.sync_survey.proofs.SurveyPartsLemmas.{surveyed-parts}
+use Rattle.sync_survey.proofs.SurveyPartsLemmas.{survey_fields-parts}
 use Rattle.sync_survey.specs.Faults.{class_from, data_faults, faults_at, first_of, survey_fields}
 use Rattle.sync_survey.specs.{Faults.SurveyFields, Items.{item_at, size_of}, Looks.KeepsFrame}
 use Rattle.sync_survey.specs.MainData.{data_end_after, data_end_before, head_area, lacks_data}
@@ -157,15 +158,15 @@ module _ (head : Option Head) (rows : List Row) where
       ∙ ap (λ m. option_map (marked_row head rows m) (slice_get xs i)) (omega arith)
 
   -- marks don't change the place of a frame
-  pub place-marked : (i : ℕ) → place head (marked_rows head rows) i ≡ place head rows i
+  pub place-marked_rows : (i : ℕ) → place head (marked_rows head rows) i ≡ place head rows i
   unfolding place marked_rows
-  place-marked i = ap (λ m. head_area head + m) (areas-marked i 0 rows)
+  place-marked_rows i = ap (λ m. head_area head + m) (areas-marked i 0 rows)
 
   -- the frame at an index is the one there, marked
-  pub found-marked : (i : ℕ)
+  pub found-marked_rows : (i : ℕ)
       → slice_get (marked_rows head rows) i ≡ option_map (marked_row head rows i) (slice_get rows i)
   unfolding marked_rows
-  found-marked i = get-marked i 0 rows
+  found-marked_rows i = get-marked i 0 rows
       ∙ ap (λ m. option_map (marked_row head rows m) (slice_get rows i)) (omega arith)
 
   behind-marked : (i m n : ℕ) (o : Option Row)
@@ -174,17 +175,17 @@ module _ (head : Option Head) (rows : List Row) where
   behind-marked i m n (Some r) = refl
 
   -- marks don't change the end before a frame
-  pub end-marked : (i : ℕ)
+  pub end-marked_rows : (i : ℕ)
       → data_end_before head (marked_rows head rows) i ≡ data_end_before head rows i
   unfolding data_end_before
-  end-marked zero = refl
-  end-marked (suc i) =
+  end-marked_rows zero = refl
+  end-marked_rows (suc i) =
       ap (λ o. data_end_after (place head (marked_rows head rows) i)
-      (data_end_before head (marked_rows head rows) i) o) (found-marked i)
+      (data_end_before head (marked_rows head rows) i) o) (found-marked_rows i)
       ∙ behind-marked i (place head (marked_rows head rows) i)
       (data_end_before head (marked_rows head rows) i)
       (slice_get rows i)
-      ∙ ap₂ (λ m n. data_end_after m n (slice_get rows i)) (place-marked i) (end-marked i)
+      ∙ ap₂ (λ m n. data_end_after m n (slice_get rows i)) (place-marked_rows i) (end-marked_rows i)
 
   -- what is made of a frame that may be there was made of one that is
   pub from_some : (f : Row → Row) (o : Option Row) (q : Row) → option_map f o ≡ Some q
@@ -225,14 +226,15 @@ known_items : (part : Region) (file : List ℕ) (from : ℕ) (ps : List PlacedIt
 unfolding AllKnown
 known_items part file from [] to ends = tt
 known_items part file from (p ∷ ps) to ends =
-    known_cons file p.offset p.item (frames_of ps) (item_of-is part file p.offset p.item ends.1).is
+    known_cons file p.offset p.item (frames_of ps)
+    (whole_item_at-is part file p.offset p.item ends.1).is
     (known_items part file (p.offset + size_of p.item) ps to ends.2)
 
-known_numbered : (head : Option Head) (ps : List PlacedFrame) → AllKnown ps
+numbered_frames-known : (head : Option Head) (ps : List PlacedFrame) → AllKnown ps
     → AllKnown (numbered_frames head ps)
 unfolding AllKnown
-known_numbered (Some head) (p ∷ ps) all = all.1
-known_numbered _ _ all = all
+numbered_frames-known (Some head) (p ∷ ps) all = all.1
+numbered_frames-known _ _ all = all
 
 row_known : (file : List ℕ) (ps : List PlacedFrame) (i : ℕ) (r : Row) → AllKnown ps
     → slice_get (rows_of file ps) i ≡ Some r → IsHeader r.header
@@ -250,7 +252,7 @@ well_placed : (file : List ℕ) (allowed : ℕ) (start : Start) (head : Option H
 well_placed file allowed start head ps begins all sound = λ i q found.
     let rows : List Row = rows_of file ps in
     let parts = from_some head rows (marked_row head rows i) (slice_get rows i) q
-    (sym (found-marked head rows i) ∙ found) in
+    (sym (found-marked_rows head rows i) ∙ found) in
     let r : Row = parts.0 in
     let here = sound i r parts.1 in
     let same = class-sound (class_of r.header) (class_from start) here.same in
@@ -259,22 +261,22 @@ well_placed file allowed start head ps begins all sound = λ i q found.
     subst (IsWellPlaced head (class_from start) (marked_rows head rows) i) parts.2
     (placed_by head (class_from start) (marked_rows head rows) i (marked_row head rows i r)
     (place head
-    rows i) (data_end_before head rows i) (sym (place-marked head rows i))
-    (sym (end-marked head rows i))
+    rows i) (data_end_before head rows i) (sym (place-marked_rows head rows i))
+    (sym (end-marked_rows head rows i))
     (row_known file ps i r all parts.1) same (subst (λ c. SideFits c r.side) same fits) refl
     (sound-no_data _ (class_from start) allowed (place head rows i)
     (data_end_before head rows i) i r here))
 
 -- the frames of a file without fault are well placed
-pub surveyed-placed : (file : List ℕ) (allowed : ℕ) (s : SurveyFields)
+pub survey_fields-placed : (file : List ℕ) (allowed : ℕ) (s : SurveyFields)
     → survey_fields file allowed ≡ Ok s → AreWellPlaced s.head s.class s.frames
-surveyed-placed file allowed s e =
-    let parts = surveyed-parts file allowed s e in
+survey_fields-placed file allowed s e =
+    let parts = survey_fields-parts file allowed s e in
     let start = parts.0 in
     let head = head_of file start.first in
     let stream = stream_run file start in
-    let all = known_numbered head (frames_of stream.items) (known_items Stream file
-    start.first.offset stream.items stream.stop (run-ends Stream file start.first.offset)) in
+    let all = numbered_frames-known head (frames_of stream.items) (known_items Stream file
+    start.first.offset stream.items stream.stop (item_run-ends Stream file start.first.offset)) in
     let sound = all_faults-none_sound file head (class_from start) allowed _ parts.1.frames in
     subst (λ (t : SurveyFields). AreWellPlaced t.head t.class t.frames) parts.2
     (well_placed file allowed start head (frames_from file start) parts.1.start_is all sound)

@@ -8,10 +8,11 @@ use Rattle.side_info.specs.Frame.{stored_crc}
 use Rattle.sync_survey.proofs.FaultsLemmas.{end-next, end-none, faults-none, faults_of, first_more}
 use Rattle.sync_survey.proofs.FaultsLemmas.{none_more, place-next, place-none}
 use Rattle.sync_survey.proofs.OneItemLemmas.{stands-only_at}
-use Rattle.sync_survey.proofs.RunsLemmas.{item_of-past, item_of-whole, run-stopped}
-use Rattle.sync_survey.proofs.StartLemmas.{start-first}
+use Rattle.sync_survey.proofs.RunsLemmas.{item_run-stopped_run, whole_item_at-past}
+use Rattle.sync_survey.proofs.{RunsLemmas.whole_item_at-whole, StartLemmas.start-first}
 use Rattle.sync_survey.proofs.SurveyLemmas.{survey-frame, survey-stopped, survey-whole, told_by}
-use Rattle.sync_survey.proofs.WalkLemmas.{IsFound, numbered-blocks, numbered-frames, numbered-stop}
+use Rattle.sync_survey.proofs.WalkLemmas.{IsFound, numbered-blocks, numbered-stop}
+use Rattle.sync_survey.proofs.WalkLemmas.{numbered_frames-run}
 use Rattle.sync_survey.specs.Faults.{all_faults, class_from, faults_at, first_of, survey_fields}
 use Rattle.sync_survey.specs.{Items.item_at, Looks.Passes}
 use Rattle.sync_survey.specs.MainData.{data_end_after, data_end_before, head_area, marked_rows}
@@ -57,7 +58,7 @@ pub first_of_stream : (file : List ℕ) (start : Start) → start_of file ≡ Ok
     → whole_item_at Stream file start.first.offset ≡ Some (Frame start.first.header)
 first_of_stream file start is =
     let frame = (start-first file start is).frame in
-    item_of-whole Stream file start.first.offset (Frame start.first.header)
+    whole_item_at-whole Stream file start.first.offset (Frame start.first.header)
     frame.is frame.belongs frame.within
 
 module _ (file : List ℕ) (start : Start) (head : Option Head) (allowed : ℕ)
@@ -68,7 +69,7 @@ module _ (file : List ℕ) (start : Start) (head : Option Head) (allowed : ℕ)
       IsSurveyedTo file start head allowed [] blocks place_now 0 (numbered_offset start.first head)
   surveyed_none blocks place_now are is =
       let first = first_of_stream file start begun.start_is in record {
-        frames = ap (rows_of file) (numbered-frames file start head first);
+        frames = ap (rows_of file) (numbered_frames-run file start head first);
         pieces = ap₂ (λ (xs ys : List Piece). xs ++ ys) are (numbered-blocks file start head first);
         stop = numbered-stop file start head first;
         none = faults-none file head (class_from start) allowed;
@@ -173,7 +174,7 @@ module _ (file : List ℕ) (start : Start) (head : Option Head) (allowed : ℕ) 
     all_met : whole_item_at Stream file at ≡ None → (rows ≡ rows_from file start head)
         × (blocks ≡ all_blocks file start) × (at ≡ (stream_run file start).stop)
     all_met none =
-        let stopped = run-stopped Stream file at none in (
+        let stopped = item_run-stopped_run Stream file at none in (
           sym (append-nil rows) ∙ ap (λ l. rows ++ l)
               (sym (ap (λ r. rows_of file (frames_of r.items)) stopped)) ∙ so_far.frames,
           sym (append-nil blocks)
@@ -211,7 +212,7 @@ module _ (file : List ℕ) (start : Start) (head : Option Head) (allowed : ℕ) 
     pub no_frame : length file ≤ at → rows ≡ []
         → survey_fields file allowed ≡ Err (NoFrame (length file))
     no_frame past empty =
-        let none = item_of-past Stream file at past in
+        let none = whole_item_at-past Stream file at past in
         survey-stopped file allowed start head _ _ _ (found _ _ at refl refl (all_met none).2)
         (NoFrame (length file)) (none_of_all none)
         ((frames_cases _ (all_met none).0 _ (ended_at past)).0 empty)
@@ -220,7 +221,7 @@ module _ (file : List ℕ) (start : Start) (head : Option Head) (allowed : ℕ) 
     pub whole : length file ≤ at → (rows ≡ [] → ⊥)
         → survey_fields file allowed ≡ Ok (told_by file start head rows blocks)
     whole past some =
-        let none = item_of-past Stream file at past in
+        let none = whole_item_at-past Stream file at past in
         survey-whole file allowed start head _ _ _
         (found _ blocks at refl (all_met none).1 (all_met none).2) (none_of_all none)
         ((frames_cases _ (all_met none).0 _ (ended_at past)).1 some)

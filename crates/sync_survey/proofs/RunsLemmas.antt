@@ -27,11 +27,11 @@ pub whole_cases : (b : Bool) (i j : Item) → cond b (Some i) None ≡ Some j �
 whole_cases true i j e = (refl, cc)
 whole_cases false i j e = absurd cc
 
-onward-same : (at : ℕ) (next later : ℕ → ItemRun) (o : Option Item)
+run_onward-same : (at : ℕ) (next later : ℕ → ItemRun) (o : Option Item)
     → ((item : Item) → o ≡ Some item → next (at + size_of item) ≡ later (at + size_of item))
     → run_onward at next o ≡ run_onward at later o
-onward-same at next later None same = refl
-onward-same at next later (Some item) same = ap (run_with_item at item) (same item refl)
+run_onward-same at next later None same = refl
+run_onward-same at next later (Some item) same = ap (run_with_item at item) (same item refl)
 
 module _ (part : Region) (file : List ℕ) where
   -- an item that fits is within the file
@@ -47,38 +47,38 @@ module _ (part : Region) (file : List ℕ) where
       }
 
   -- an item of a part at an offset is a whole one
-  pub item_of-is : (at : ℕ) (item : Item)
+  pub whole_item_at-is : (at : ℕ) (item : Item)
       → whole_item_at part file at ≡ Some item → IsItemOf part file at item
   unfolding whole_item_at
-  item_of-is at item e =
+  whole_item_at-is at item e =
       let cases = whole_cases _ _ item e in
       let tests = and_parts _ _ cases.0 in
       subst (IsItemOf part file at)
       cases.1 (within_file at (item_at file at) refl tests.0 tests.1)
 
-  whole_item : (at : ℕ) (item found : Item) → found ≡ item
+  item_if_whole-is : (at : ℕ) (item found : Item) → found ≡ item
       → belongs part item ≡ true → item_fits file at item ≡ true
       → item_if_whole part file at found ≡ Some item
-  whole_item at item found is belongs item_fits =
+  item_if_whole-is at item found is belongs item_fits =
       ap (item_if_whole part file at) is ∙ rw (belongs, item_fits) refl
 
   -- a whole item of the part at an offset is the item there
-  pub item_of-whole : (at : ℕ) (item : Item) → item_at file at ≡ item
+  pub whole_item_at-whole : (at : ℕ) (item : Item) → item_at file at ≡ item
       → belongs part item ≡ true → at + size_of item ≤ length file
       → whole_item_at part file at ≡ Some item
   unfolding whole_item_at
-  item_of-whole at item is belongs within =
-      whole_item at item (item_at file at) is belongs (le-leb _ _ (omega (arith, within)))
+  whole_item_at-whole at item is belongs within =
+      item_if_whole-is at item (item_at file at) is belongs (le-leb _ _ (omega (arith, within)))
 
   none_behind : (at : ℕ) (o : Option Item)
       → whole_item_at part file at ≡ o → length file ≤ at → o ≡ None
   none_behind at None is past = refl
-  none_behind at (Some item) is past = let here = item_of-is at item is in
+  none_behind at (Some item) is past = let here = whole_item_at-is at item is in
       absurd (omega (arith, here.within, here.some))
 
   -- at the end of the file and past it no item begins
-  pub item_of-past : (at : ℕ) → length file ≤ at → whole_item_at part file at ≡ None
-  item_of-past at past = none_behind at (whole_item_at part file at) refl past
+  pub whole_item_at-past : (at : ℕ) → length file ≤ at → whole_item_at part file at ≡ None
+  whole_item_at-past at past = none_behind at (whole_item_at part file at) refl past
 
   -- ---- a run
 
@@ -95,7 +95,7 @@ module _ (part : Region) (file : List ℕ) where
   past : (n at : ℕ) → length file ≤ at → run_up_to n part file at ≡ stopped_run at
   past zero at le = none_more at
   past (suc n) at le = one_more n at
-      ∙ ap (run_onward at (λ later. run_up_to n part file later)) (item_of-past at le)
+      ∙ ap (run_onward at (λ later. run_up_to n part file later)) (whole_item_at-past at le)
 
   -- any bound that is at least the number of bytes left gives the same run
   enough : (m n at : ℕ) → length file ≤ m + at
@@ -105,85 +105,86 @@ module _ (part : Region) (file : List ℕ) where
       ∙ sym (past zero at (omega (arith, le')))
   enough (suc m) (suc n) at le le' =
       one_more m at
-      ∙ onward-same at (λ later. run_up_to m part file later) (λ later. run_up_to n part file later)
+      ∙ run_onward-same at (λ later. run_up_to m part file later)
+      (λ later. run_up_to n part file later)
       (whole_item_at part file at) (λ item is.
-      let here = item_of-is at item is in
+      let here = whole_item_at-is at item is in
       enough m n (at + size_of item) (omega (arith, le, here.some))
       (omega (arith, le', here.some)))
       ∙ sym (one_more n at)
 
   -- a run takes the item at its offset, and continues after it
-  pub run-step : (at : ℕ)
+  pub item_run-step : (at : ℕ)
       → item_run part file at ≡ run_onward at (item_run part file) (whole_item_at part file at)
   unfolding item_run
-  run-step at =
+  item_run-step at =
       enough (length file) (suc (length file)) at (omega arith) (omega arith)
       ∙ one_more (length file) at
 
   -- if an item is at the offset, the run begins with it
-  pub run-next : (at : ℕ) (item : Item) → whole_item_at part file at ≡ Some item
+  pub item_run-next : (at : ℕ) (item : Item) → whole_item_at part file at ≡ Some item
       → item_run part file at ≡ run_with_item at item (item_run part file (at + size_of item))
-  run-next at item is = run-step at ∙ ap (run_onward at (item_run part file)) is
+  item_run-next at item is = item_run-step at ∙ ap (run_onward at (item_run part file)) is
 
   -- if none is there, the run stops
-  pub run-stopped : (at : ℕ) → whole_item_at part file at ≡ None
+  pub item_run-stopped_run : (at : ℕ) → whole_item_at part file at ≡ None
       → item_run part file at ≡ stopped_run at
-  run-stopped at is = run-step at ∙ ap (run_onward at (item_run part file)) is
+  item_run-stopped_run at is = item_run-step at ∙ ap (run_onward at (item_run part file)) is
 
   -- ---- what the items of a run are together
 
-  onward_ends : (at : ℕ) (next : ℕ → ItemRun) (o : Option Item) → whole_item_at part file at ≡ o
+  run_onward-ends : (at : ℕ) (next : ℕ → ItemRun) (o : Option Item) → whole_item_at part file at ≡ o
       → ((later : ℕ) → AreEndToEnd part file later (next later).items (next later).stop) →
       AreEndToEnd part file at (run_onward at next o).items (run_onward at next o).stop
-  onward_ends at next None is ends = refl
-  onward_ends at next (Some item) is ends = (refl, is, ends (at + size_of item))
+  run_onward-ends at next None is ends = refl
+  run_onward-ends at next (Some item) is ends = (refl, is, ends (at + size_of item))
 
   ends_up_to : (n at : ℕ)
       → AreEndToEnd part file at (run_up_to n part file at).items (run_up_to n part file at).stop
   unfolding run_up_to
   ends_up_to zero at = refl
-  ends_up_to (suc n) at = onward_ends at (λ later. run_up_to n part file later)
+  ends_up_to (suc n) at = run_onward-ends at (λ later. run_up_to n part file later)
       (whole_item_at part file at) refl (λ later. ends_up_to n later)
 
   -- the items of a run follow end to end from its beginning to its stop
-  pub run-ends : (from : ℕ)
+  pub item_run-ends : (from : ℕ)
       → AreEndToEnd part file from (item_run part file from).items (item_run part file from).stop
   unfolding item_run
-  run-ends from = ends_up_to (length file) from
+  item_run-ends from = ends_up_to (length file) from
 
   -- no item is after them: there are no more items than bytes
-  last_onward : (at : ℕ) (next : ℕ → ItemRun) (o : Option Item)
+  run_onward-last : (at : ℕ) (next : ℕ → ItemRun) (o : Option Item)
       → whole_item_at part file at ≡ o → ((item : Item) → o ≡ Some item
       → whole_item_at part file (next (at + size_of item)).stop ≡ None)
       → whole_item_at part file (run_onward at next o).stop ≡ None
-  last_onward at next None is last = is
-  last_onward at next (Some item) is last = last item refl
+  run_onward-last at next None is last = is
+  run_onward-last at next (Some item) is last = last item refl
 
   last_up_to : (n at : ℕ) → length file ≤ n + at
       → whole_item_at part file (run_up_to n part file at).stop ≡ None
   unfolding run_up_to
-  last_up_to zero at le = item_of-past at (omega (arith, le))
+  last_up_to zero at le = whole_item_at-past at (omega (arith, le))
   last_up_to (suc n) at le =
-      last_onward at (λ later. run_up_to n part file later)
+      run_onward-last at (λ later. run_up_to n part file later)
       (whole_item_at part file at) refl
       (λ item is. last_up_to n (at + size_of item)
-      (omega (arith, le, (item_of-is at item is).some)))
+      (omega (arith, le, (whole_item_at-is at item is).some)))
 
   -- no further item begins where a run stops
-  pub run-last : (from : ℕ) → whole_item_at part file (item_run part file from).stop ≡ None
+  pub item_run-last : (from : ℕ) → whole_item_at part file (item_run part file from).stop ≡ None
   unfolding item_run
-  run-last from = last_up_to (length file) from (omega arith)
+  item_run-last from = last_up_to (length file) from (omega arith)
 
   -- items that follow end to end, with no further one after them, are the run
-  pub run-only : (from : ℕ) (ps : List PlacedItem) (to : ℕ)
+  pub item_run-only : (from : ℕ) (ps : List PlacedItem) (to : ℕ)
       → AreEndToEnd part file from ps to → whole_item_at part file to ≡ None
       → item_run part file from ≡ record { items = ps; stop = to }
-  run-only from [] to ends none =
-      run-stopped from (ap (whole_item_at part file) ends ∙ none) ∙ ap stopped_run ends
-  run-only from (p ∷ ps) to ends none =
-      ap (item_run part file) (sym ends.0) ∙ run-next p.offset p.item ends.1
+  item_run-only from [] to ends none =
+      item_run-stopped_run from (ap (whole_item_at part file) ends ∙ none) ∙ ap stopped_run ends
+  item_run-only from (p ∷ ps) to ends none =
+      ap (item_run part file) (sym ends.0) ∙ item_run-next p.offset p.item ends.1
       ∙ ap (run_with_item p.offset p.item)
-      (run-only (p.offset + size_of p.item) ps to ends.2 none)
+      (item_run-only (p.offset + size_of p.item) ps to ends.2 none)
 
   -- items that follow end to end and the bytes after them are the file's bytes from their beginning
   -- on
@@ -210,19 +211,19 @@ no_frame : (at : ℕ) (item : Item) → belongs Front item ≡ true → frame_of
 no_frame at (Frame h) is = absurd (false≢true is)
 no_frame at _ is = refl
 
-front_onward : (file : List ℕ) (at : ℕ) (next : ℕ → ItemRun) (o : Option Item)
+run_onward-front : (file : List ℕ) (at : ℕ) (next : ℕ → ItemRun) (o : Option Item)
     → whole_item_at Front file at ≡ o → ((later : ℕ) → frames_of (next later).items ≡ [])
     → frames_of (run_onward at next o).items ≡ []
-front_onward file at next None is none = refl
-front_onward file at next (Some item) is none =
-    let here = item_of-is Front file at item is in
+run_onward-front file at next None is none = refl
+run_onward-front file at next (Some item) is none =
+    let here = whole_item_at-is Front file at item is in
     ap (λ o. cons_option o (frames_of (next (at + size_of item)).items))
     (no_frame at item here.belongs) ∙ none (at + size_of item)
 
 front_up_to : (n : ℕ) (file : List ℕ) (at : ℕ) → frames_of (run_up_to n Front file at).items ≡ []
 unfolding run_up_to
 front_up_to zero file at = refl
-front_up_to (suc n) file at = front_onward file at (λ later. run_up_to n Front file later)
+front_up_to (suc n) file at = run_onward-front file at (λ later. run_up_to n Front file later)
     (whole_item_at Front file at) refl (λ later. front_up_to n file later)
 
 -- there are no frames in the front
@@ -236,7 +237,7 @@ pub frames-next : (part : Region) (file : List ℕ) (at : ℕ) (item : Item)
     frames_of (item_run part file at).items
     ≡ option_to_list (frame_of_item at item)
     ++ frames_of (item_run part file (at + size_of item)).items
-frames-next part file at item is = ap (λ r. frames_of r.items) (run-next part file at item is)
+frames-next part file at item is = ap (λ r. frames_of r.items) (item_run-next part file at item is)
     ∙ cons_list (frame_of_item at item) (frames_of (item_run part file (at + size_of item)).items)
 
 -- the block, if any, at the offset comes first of the blocks
@@ -245,7 +246,7 @@ pub blocks-next : (part : Region) (file : List ℕ) (at : ℕ) (item : Item)
     blocks_of (item_run part file at).items
     ≡ option_to_list (block_of_item at item)
     ++ blocks_of (item_run part file (at + size_of item)).items
-blocks-next part file at item is = ap (λ r. blocks_of r.items) (run-next part file at item is)
+blocks-next part file at item is = ap (λ r. blocks_of r.items) (item_run-next part file at item is)
     ∙ cons_list (block_of_item at item) (blocks_of (item_run part file (at + size_of item)).items)
 
 -- one more item was kept

@@ -6,7 +6,7 @@ use Rattle.std.proofs.Common.{◌≡◌, ◌≤◌}
 use Rattle.std.proofs.lemmas.{Bool.{and_parts, le-leb, leb-false, leb-true, lt-leb}, List.drop_all}
 use Rattle.std.specs.List.{cons_option, range_with_len}
 use Rattle.frame_header.specs.{Fields.HeaderFields, Tables.{class_of, length_of}}
-use Rattle.sync_survey.proofs.LooksLemmas.{fits-left, item_at-behind, item_at-shown}
+use Rattle.sync_survey.proofs.LooksLemmas.{item_at-behind, item_at-shown, item_fits-left}
 use Rattle.sync_survey.proofs.{OneItemLemmas.stands-only_at, RunsLemmas.{IsItemOf, within_file}}
 use Rattle.sync_survey.specs.{Items.{item_at, item_fits, item_front, size_of}, Looks.Shows}
 use Rattle.sync_survey.specs.Start.{anchored_frame, anchored_item, first_anchored, front_end_of}
@@ -158,16 +158,16 @@ anchor_cases file at h true p is anchor e =
     })
 anchor_cases file at h false p is anchor e = absurd cc
 
-anchored_cases : (file : List ℕ) (at : ℕ) (item : Item) (p : PlacedFrame) → item_at file at ≡ item
-    → anchored_item file at item ≡ Some p → IsAnchoredAt file at p
-anchored_cases file at (Frame h) p is e = anchor_cases file at h _ p is refl e
-anchored_cases file at _ p is e = absurd cc
+anchored_item-cases : (file : List ℕ) (at : ℕ) (item : Item) (p : PlacedFrame)
+    → item_at file at ≡ item → anchored_item file at item ≡ Some p → IsAnchoredAt file at p
+anchored_item-cases file at (Frame h) p is e = anchor_cases file at h _ p is refl e
+anchored_item-cases file at _ p is e = absurd cc
 
 -- what passes the test of anchored frames is one
 pub anchored_frame-is : (file : List ℕ) (at : ℕ) (p : PlacedFrame) → anchored_frame file at ≡ Some p
     → IsAnchoredAt file at p
 unfolding anchored_frame
-anchored_frame-is file at p e = anchored_cases file at (item_at file at) p refl e
+anchored_frame-is file at p e = anchored_item-cases file at (item_at file at) p refl e
 
 -- the anchored frame that the code meets first is the one that is defined
 pub first_anchored-some : (count : ℕ) (file : List ℕ) (from at : ℕ) (p : PlacedFrame) → from ≤ at
@@ -228,15 +228,15 @@ pub record IsFirstFrame (file : List ℕ) (s : Start) : Type 0 where
   pub frame : IsItemOf Stream file s.first.offset (Frame s.first.header)
   pub least : IsLeastStart file s
 
-fits_cases : (file : List ℕ) (at : ℕ) (h : HeaderFields) (b : Bool) (fault : SurveyFault)
+item_fits-cases : (file : List ℕ) (at : ℕ) (h : HeaderFields) (b : Bool) (fault : SurveyFault)
     (s : Start) → item_at file at ≡ Frame h → item_fits file at (Frame h) ≡ b →
     cond b (Ok (record { front_end = at; first = record { offset = at; header = h } })) (Err fault)
     ≡ Ok s → IsFirstFrame file s
-fits_cases file at h true fault s is fit e =
+item_fits-cases file at h true fault s is fit e =
     let same : record { front_end = at; first = record { offset = at; header = h } } ≡ s = cc in
     subst (IsFirstFrame file) same
     (record { frame = within_file Stream file at (Frame h) is refl fit; least = inl refl })
-fits_cases file at h false fault s is fit e = absurd cc
+item_fits-cases file at h false fault s is fit e = absurd cc
 
 behind_cases : (file : List ℕ) (front_end : ℕ) (o : Option PlacedFrame) (s : Start)
     → first_anchored longest_junk file (front_end + 1) ≡ o → start_after_junk front_end o ≡ Ok s
@@ -251,7 +251,7 @@ behind_cases file front_end (Some p) s is e =
 
 start_cases : (file : List ℕ) (at : ℕ) (item : Item) (s : Start) → item_at file at ≡ item
     → start_at file at item ≡ Ok s → IsFirstFrame file s
-start_cases file at (Frame h) s is e = fits_cases file at h _ _ s is refl e
+start_cases file at (Frame h) s is e = item_fits-cases file at h _ _ s is refl e
 start_cases file at Free s is e = absurd cc
 start_cases file at (Block b) s is e = absurd cc
 start_cases file at _ s is e = behind_cases file at _ s refl e
@@ -316,7 +316,8 @@ module _ (file : List ℕ) (at : ℕ) (front : List ℕ) (left : ℕ)
       none_by (Frame h) (sym (item_at-shown file at front left shows) ∙ is) (λ g e.
       let same : h ≡ g = cc in
       let over : item_fits file at (Frame h) ≡ false =
-      sym (fits-left file at front left shows (Frame h)) ∙ lt-leb (size_of (Frame h)) left past in
+      sym (item_fits-left file at front left shows (Frame h))
+      ∙ lt-leb (size_of (Frame h)) left past in
       subst (λ x. has_anchor file at x ≡ false) same (ap (λ b. b
       && is_anchor (class_of h) (item_at file (at + length_of (class_of h) h.slot))) over))
 
@@ -330,7 +331,7 @@ module _ (file : List ℕ) (at : ℕ) (front : List ℕ) (left : ℕ)
   shown_before h behind is within few end =
       let size = length_of (class_of h) h.slot in
       let fit : item_fits file at (Frame h) ≡ true =
-      sym (fits-left file at front left shows (Frame h)) ∙ le-leb size left within in
+      sym (item_fits-left file at front left shows (Frame h)) ∙ le-leb size left within in
       let anchor : has_anchor file at h ≡ is_anchor (class_of h) behind =
       ap (λ b. b && is_anchor (class_of h) (item_at file (at + size))) fit
       ∙ ap (is_anchor (class_of h)) (sym (end ∙ item_at-behind file at front left shows size few))

@@ -9,10 +9,10 @@ use Rattle.frame_header.specs.Fields.{ClassFields, HeaderFields, IsHeader}
 use Rattle.frame_header.specs.Reading.{header_of_class}
 use Rattle.frame_header.specs.Tables.{area_of, class_of, length_of, overhead_of}
 use Rattle.outside.specs.{Counts.Counts, Files.{Files, Holds}}
-use Rattle.side_info.proofs.FrameLemmas.{side_in-take, word_said-take}
+use Rattle.side_info.proofs.FrameLemmas.{side_in-take, stored_crc-take}
 use Rattle.side_info.specs.{Frame.{side_in, stored_crc}, Side.SideFits}
 use Rattle.sync_survey.proofs.BytesFaultLemmas.{frame_rightly}
-use Rattle.sync_survey.proofs.FaultsLemmas.{marked-length, marked-push, none-of}
+use Rattle.sync_survey.proofs.FaultsLemmas.{length-marked_rows, marked_rows-push, none-of}
 use Rattle.sync_survey.proofs.FoldersLemmas.{bytes_refusal, memory_refusal}
 use Rattle.sync_survey.proofs.FrontLemmas.{blocks_more}
 use Rattle.sync_survey.proofs.ItemsLemmas.{frame_of_header, header_front-in_range, some_by, stands}
@@ -98,7 +98,7 @@ module _ (file : List ℕ) (at : ℕ) (front : List ℕ) (left : ℕ) (shows : S
       (ap (side_in h) shows.front_is ∙ side_in-take h look_size (drop at file) few)
 
   word_shown : stored_crc front ≡ stored_crc (drop at file)
-  word_shown = ap stored_crc shows.front_is ∙ word_said-take look_size (drop at file) (omega arith)
+  word_shown = ap stored_crc shows.front_is ∙ stored_crc-take look_size (drop at file) (omega arith)
 
   faults_shown : (class : ClassFields) (allowed place ended count : ℕ)
       → first_of (faults_at (stored_crc front) class allowed place ended count (row_in at h front))
@@ -131,7 +131,7 @@ module _ (file : List ℕ) (start : Start) (head : Option Head) (allowed : ℕ) 
   frames = so_far.frames
 
   count : length old.rows.items ≡ length frames
-  count = ap length so_far.marks ∙ marked-length head frames
+  count = ap length so_far.marks ∙ length-marked_rows head frames
 
   same : (rows : List Row) (pieces : List Piece) (place ended : ℕ) (new : SurveySoFar) (size : ℕ)
       → new.rows.items ≡ marked_rows head rows → new.pieces.items ≡ pieces
@@ -184,7 +184,7 @@ module _ (file : List ℕ) (start : Start) (head : Option Head) (allowed : ℕ) 
       ∙ ap₂ (λ (l : List Row) (q : Row). l ++ q ∷ []) so_far.marks (ap (λ (q : Row). record q {
         lost = lacks_data old.before.place old.before.ended q;
       }) row ∙ mark_is r)
-      ∙ sym (marked-push head frames r))
+      ∙ sym (marked_rows-push head frames r))
       keeps.pieces refl refl
       (passed_frame file start head allowed frames old.pieces.items old.before.place
       old.before.ended at so_far.surveyed h size new.before.place new.before.ended passes

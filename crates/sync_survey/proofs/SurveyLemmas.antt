@@ -120,10 +120,10 @@ start_cases file allowed s (Ok start) begins e =
     fields_cases file allowed start s (first_of (faults_from file allowed start)) begins refl e
 
 -- a survey without fault has a start, and no fault from there on
-pub surveyed-is : (file : List ℕ) (allowed : ℕ) (s : SurveyFields)
+pub survey_fields-is : (file : List ℕ) (allowed : ℕ) (s : SurveyFields)
     → survey_fields file allowed ≡ Ok s → IsSurveyed file allowed s
 unfolding survey_fields
-surveyed-is file allowed s e = start_cases file allowed s (start_of file) refl e
+survey_fields-is file allowed s e = start_cases file allowed s (start_of file) refl e
 
 last_none : (xs : List SurveyFault) (o : Option SurveyFault)
     → first_of (xs ++ option_to_list o) ≡ None → o ≡ None

@@ -8,8 +8,8 @@ use Rattle.std.{proofs.lemmas.Option.slice_get_within, specs.List.enumerate_from
 use Rattle.frame_header.specs.{Fields.ClassFields, Tables.class_of}
 use Rattle.side_info.specs.Frame.{stored_crc}
 use Rattle.sync_survey.proofs.{FaultsLemmas.none-of, ItemListLemmas.{ends-within, frames-few}}
-use Rattle.sync_survey.proofs.{RunsLemmas.run-ends, StartLemmas.start-first}
-use Rattle.sync_survey.proofs.SurveyLemmas.{survey-whole, surveyed-is, told_by}
+use Rattle.sync_survey.proofs.{RunsLemmas.item_run-ends, StartLemmas.start-first}
+use Rattle.sync_survey.proofs.SurveyLemmas.{survey-whole, survey_fields-is, told_by}
 use Rattle.sync_survey.specs.Faults.{all_faults, class_from, data_faults, fault_if_true, faults_at}
 use Rattle.sync_survey.specs.Faults.{faults_from, fields_from, first_of, frame_faults}
 use Rattle.sync_survey.specs.Faults.{has_wrong_crc, HoldsStream, overlaps, overruns, own_faults}
@@ -46,9 +46,9 @@ pub record IsRead (file : List ℕ) (allowed : ℕ) (start : Start) : Type 0 whe
       (fault_at (stream_run file start).stop (item_at file (stream_run file start).stop)) ≡ None
 
 -- a file without fault has the survey that its start gives
-pub surveyed-told : (file : List ℕ) (allowed : ℕ) (start : Start) → IsRead file allowed start
+pub survey_fields-told : (file : List ℕ) (allowed : ℕ) (start : Start) → IsRead file allowed start
     → survey_fields file allowed ≡ Ok (told_from file start)
-surveyed-told file allowed start read =
+survey_fields-told file allowed start read =
     survey-whole file allowed start (head_of file start.first) (frames_from file start)
     (all_blocks file start) (stream_run file start).stop
     (record {
@@ -80,11 +80,11 @@ is_read file allowed start is none =
     record { start_is = is; frames = parts.0; end = no_last _ parts.1 }
 
 -- a survey without fault has a start and is the survey that this gives
-pub surveyed-parts : (file : List ℕ) (allowed : ℕ) (s : SurveyFields)
+pub survey_fields-parts : (file : List ℕ) (allowed : ℕ) (s : SurveyFields)
     → survey_fields file allowed ≡ Ok s
     → (start : Start) × IsRead file allowed start × (told_from file start ≡ s)
-surveyed-parts file allowed s e =
-    let is = surveyed-is file allowed s e in (
+survey_fields-parts file allowed s e =
+    let is = survey_fields-is file allowed s e in (
       is.start,
       is_read file allowed is.start is.begins (none-of _ is.none),
       sym (fields_from-told file is.start) ∙ is.fields_are,
@@ -251,10 +251,10 @@ sound_allowed file head class allowed other rows few sound = λ i r is.
       few = ne_eqb i other (λ e. omega (arith, few, e, slice_get_within rows i r is));
     }
 
-numbered_few : (head : Option Head) (frames : List PlacedFrame)
+numbered_frames-few : (head : Option Head) (frames : List PlacedFrame)
     → length (numbered_frames head frames) ≤ length frames
-numbered_few (Some head) (p ∷ ps) = omega arith
-numbered_few _ _ = omega arith
+numbered_frames-few (Some head) (p ∷ ps) = omega arith
+numbered_frames-few _ _ = omega arith
 
 -- there are no more frames than bytes
 pub numbered-few : (file : List ℕ) (start : Start) → start_of file ≡ Ok start
@@ -263,27 +263,27 @@ numbered-few file start is =
     let stream = stream_run file start in
     let first = start.first.offset in
     let frame = (start-first file start is).frame in
-    let ends = run-ends Stream file first in
+    let ends = item_run-ends Stream file first in
     omega (
       arith,
       length-map (frames_from file start) (row_of file),
-      numbered_few (head_of file start.first) (frames_of stream.items),
+      numbered_frames-few (head_of file start.first) (frames_of stream.items),
       frames-few Stream file first stream.items stream.stop ends,
       ends-within Stream file first stream.items stream.stop ends (omega (arith, frame.within)),
     )
 
 -- a file without fault has none if any number of frames greater than the number of its bytes is
 -- allowed
-pub surveyed-allowed : (file : List ℕ) (allowed other : ℕ) (s : SurveyFields) → length file < other
-    → survey_fields file allowed ≡ Ok s → survey_fields file other ≡ Ok s
-surveyed-allowed file allowed other s many e =
-    let parts = surveyed-parts file allowed s e in
+pub survey_fields-allowed : (file : List ℕ) (allowed other : ℕ) (s : SurveyFields)
+    → length file < other → survey_fields file allowed ≡ Ok s → survey_fields file other ≡ Ok s
+survey_fields-allowed file allowed other s many e =
+    let parts = survey_fields-parts file allowed s e in
     let start = parts.0 in
     let read = parts.1 in
     let rows = rows_of file (frames_from file start) in
     let sound = all_faults-none_sound file (head_of file start.first)
     (class_from start) allowed rows read.frames in
-    surveyed-told file other start (record {
+    survey_fields-told file other start (record {
       start_is = read.start_is;
       frames = sound-no_all_faults file (head_of file start.first) (class_from start) other rows
           (sound_allowed file (head_of file start.first) (class_from start) allowed other rows
@@ -293,12 +293,12 @@ surveyed-allowed file allowed other s many e =
     ∙ ap Ok parts.2
 
 -- a file without fault is well-formed, and holds the stream that its survey gives
-pub surveyed-stream : (file : List ℕ) (allowed : ℕ) (s : SurveyFields)
+pub survey_fields-stream : (file : List ℕ) (allowed : ℕ) (s : SurveyFields)
     → survey_fields file allowed ≡ Ok s → HoldsStream file (stream_of_survey file s)
 unfolding stream_of
-surveyed-stream file allowed s e =
+survey_fields-stream file allowed s e =
     let freely : unbounded_survey file ≡ Ok s =
-    surveyed-allowed file allowed (length file + 1) s (omega arith) e in
+    survey_fields-allowed file allowed (length file + 1) s (omega arith) e in
     record { well_formed = (s, freely); stream_is = ap (surveyed_stream file) freely }
 
 -- a file whose end has no fault has a frame

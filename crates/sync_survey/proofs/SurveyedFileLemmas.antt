@@ -1,7 +1,7 @@
 -- What the survey of a file that isn't too long says.
 use Rattle.std.proofs.Common.{arith, Bool, cond, Err, false, length, List, ltb, Ok, refl, Result}
 use Rattle.std.proofs.{Common.{true, ℕ, ◌+◌, ◌≡◌, ◌≤◌}, lemmas.Bool.ltb-false}
-use Rattle.sync_survey.proofs.SurveyPartsLemmas.{surveyed-allowed}
+use Rattle.sync_survey.proofs.SurveyPartsLemmas.{survey_fields-allowed}
 use Rattle.sync_survey.specs.Faults.{IsWellFormed, longest_file, survey_fields, SurveyFields}
 use Rattle.sync_survey.specs.{Survey.survey_of, declared.survey_fault.SurveyFault.SurveyFault}
 
@@ -24,6 +24,6 @@ pub survey_of-sound : (file : List ℕ) (allowed : ℕ) (s : SurveyFields)
     → survey_of file allowed ≡ Ok s → IsWellFormed file
 survey_of-sound file allowed s e = (
   s,
-  surveyed-allowed file allowed (length file + 1) s (omega arith)
+  survey_fields-allowed file allowed (length file + 1) s (omega arith)
       (survey_of-parts file allowed s e).1,
 )

@@ -5,8 +5,8 @@ use Rattle.std.proofs.{Math.Seq.drop-length, lemmas.List.take-take}
 use Rattle.frame_header.specs.Tables.{class_of, length_of}
 use Rattle.info_header.specs.HeadText.{head_text_of}
 use Rattle.sync_survey.proofs.ItemsLemmas.{stands, stands-at}
-use Rattle.sync_survey.proofs.RunsLemmas.{blocks-next, bytes-ends, frames-next, item_of-whole}
-use Rattle.sync_survey.proofs.RunsLemmas.{run-ends, run-next}
+use Rattle.sync_survey.proofs.RunsLemmas.{blocks-next, bytes-ends, frames-next, item_run-ends}
+use Rattle.sync_survey.proofs.RunsLemmas.{item_run-next, whole_item_at-whole}
 use Rattle.sync_survey.specs.Items.{IsItemFront, item_at, item_front, size_of}
 use Rattle.sync_survey.specs.Looks.{look_size, Shows}
 use Rattle.sync_survey.specs.Runs.{blocks_of, bytes_of_items, frames_of, item_run, whole_item_at}
@@ -25,15 +25,15 @@ pub first_item : (file : List ℕ) (first : PlacedFrame) → item_at file first.
     ≡ Frame first.header → first.offset + size_of (Frame first.header) ≤ length file
     → whole_item_at Stream file first.offset ≡ Some (Frame first.header)
 first_item file first is within =
-    item_of-whole Stream file first.offset (Frame first.header) is refl within
+    whole_item_at-whole Stream file first.offset (Frame first.header) is refl within
 
 -- the frames, the blocks and the stop of the stream, from where its numbered frames begin
-pub numbered-frames : (file : List ℕ) (start : Start) (head : Option Head)
+pub numbered_frames-run : (file : List ℕ) (start : Start) (head : Option Head)
     → whole_item_at Stream file start.first.offset ≡ Some (Frame start.first.header) →
     frames_of (item_run Stream file (numbered_offset start.first head)).items
     ≡ numbered_frames head (frames_of (stream_run file start).items)
-numbered-frames file start None first = refl
-numbered-frames file start (Some head) first =
+numbered_frames-run file start None first = refl
+numbered_frames-run file start (Some head) first =
     sym (ap (drop 1) (frames-next Stream file start.first.offset (Frame start.first.header) first))
 
 -- the blocks from the first numbered frame on are the blocks of the stream
@@ -51,7 +51,7 @@ pub numbered-stop : (file : List ℕ) (start : Start) (head : Option Head)
     (item_run Stream file (numbered_offset start.first head)).stop ≡ (stream_run file start).stop
 numbered-stop file start None first = refl
 numbered-stop file start (Some head) first = sym (ap (λ r. r.stop)
-    (run-next Stream file start.first.offset (Frame start.first.header) first))
+    (item_run-next Stream file start.first.offset (Frame start.first.header) first))
 
 -- ---- the whole walk
 
@@ -136,7 +136,7 @@ reach-end file start frames stop is none =
     ap (λ rest. bytes_of_items file r.items ++ rest)
     (drop-length file ∙ sym nothing ∙ ap (λ at. drop at file) is)
     ∙ bytes-ends Stream file
-    start.first.offset r.items r.stop (run-ends Stream file start.first.offset)
+    start.first.offset r.items r.stop (item_run-ends Stream file start.first.offset)
 
 -- ---- a head that a look shows
 

@@ -60,22 +60,23 @@ one_kind j k bytes is also = kinds j k (sym (begins-first j bytes is) ∙ begins
 
 -- ---- the block of a kind
 
-front_as-kind : (kind : Kind) (bytes : List ℕ) (b : Block) → block_of_kind kind bytes ≡ Some b
+block_of_kind-kind : (kind : Kind) (bytes : List ℕ) (b : Block) → block_of_kind kind bytes ≡ Some b
     → (begins kind bytes ≡ true) × (record { kind = kind; length = length_of_kind kind bytes } ≡ b)
-front_as-kind kind bytes b is = cond_some (begins kind bytes) _ b is
+block_of_kind-kind kind bytes b is = cond_some (begins kind bytes) _ b is
 
 -- a block of this kind with which bytes begin is the block of its own kind
-front_as-own : (kind : Kind) (bytes : List ℕ) (b : Block) → block_of_kind kind bytes ≡ Some b
+block_of_kind-own : (kind : Kind) (bytes : List ℕ) (b : Block) → block_of_kind kind bytes ≡ Some b
     → block_of_kind b.kind bytes ≡ Some b
-front_as-own kind bytes b is = subst (λ k. block_of_kind k bytes ≡ Some b)
-    (ap (λ (x : Block). x.kind) (front_as-kind kind bytes b is).1) is
+block_of_kind-own kind bytes b is = subst (λ k. block_of_kind k bytes ≡ Some b)
+    (ap (λ (x : Block). x.kind) (block_of_kind-kind kind bytes b is).1) is
 
 some_cases : (bytes : List ℕ) (b : Block) (x y z : Option Block) → block_of_kind Id3v2 bytes ≡ x
     → block_of_kind Id3v1 bytes ≡ y → block_of_kind Ape bytes ≡ z
     → option_or (option_or x y) z ≡ Some b → block_of_kind b.kind bytes ≡ Some b
-some_cases bytes b (Some x) y z first second third is = front_as-own Id3v2 bytes b (first ∙ is)
-some_cases bytes b None (Some y) z first second third is = front_as-own Id3v1 bytes b (second ∙ is)
-some_cases bytes b None None z first second third is = front_as-own Ape bytes b (third ∙ is)
+some_cases bytes b (Some x) y z first second third is = block_of_kind-own Id3v2 bytes b (first ∙ is)
+some_cases bytes b None (Some y) z first second third is =
+    block_of_kind-own Id3v1 bytes b (second ∙ is)
+some_cases bytes b None None z first second third is = block_of_kind-own Ape bytes b (third ∙ is)
 
 -- the block with which bytes begin is the block of its kind
 pub block_front-own : (bytes : List ℕ) (b : Block) → block_front bytes ≡ Some b
@@ -90,7 +91,7 @@ block_front-own bytes b is =
 pub block_front-begins : (bytes : List ℕ) (b : Block) → block_front bytes ≡ Some b
     → (begins b.kind bytes ≡ true) × (length_of_kind b.kind bytes ≡ b.length)
 block_front-begins bytes b is =
-    let parts = front_as-kind b.kind bytes b (block_front-own bytes b is) in
+    let parts = block_of_kind-kind b.kind bytes b (block_front-own bytes b is) in
     (parts.0, ap (λ (x : Block). x.length) parts.1)
 
 none_cases : (x y z : Option Block) → option_or (option_or x y) z ≡ None
@@ -119,7 +120,7 @@ any_cases kind bytes b is None none = sym (block_front-none kind bytes none) ∙
 any_cases kind bytes b is (Some other) some =
     let own = block_front-own bytes other some in
     let same : other.kind ≡ kind = one_kind other.kind kind bytes
-    (front_as-kind other.kind bytes other own).0 (front_as-kind kind bytes b is).0 in
+    (block_of_kind-kind other.kind bytes other own).0 (block_of_kind-kind kind bytes b is).0 in
     sym own ∙ ap (λ k. block_of_kind k bytes) same ∙ is
 
 -- a block of any kind with which bytes begin is their block: the order in which kinds are tried
@@ -212,25 +213,25 @@ begins-take Ape n bytes within =
       part_take 20 4 n bytes (omega arith),
     ) refl
 
-length_as-take : (kind : Kind) (n : ℕ) (bytes : List ℕ) → 32 ≤ n
+length_of_kind-take : (kind : Kind) (n : ℕ) (bytes : List ℕ) → 32 ≤ n
     → length_of_kind kind (take n bytes) ≡ length_of_kind kind bytes
 unfolding id3v2_length ape_length
-length_as-take Id3v2 n bytes within =
+length_of_kind-take Id3v2 n bytes within =
     rw (part_take 6 4 n bytes (omega arith), get_or-take n bytes 5 0 (omega arith)) refl
-length_as-take Id3v1 n bytes within = refl
-length_as-take Ape n bytes within = rw (part_take 12 4 n bytes (omega arith)) refl
+length_of_kind-take Id3v1 n bytes within = refl
+length_of_kind-take Ape n bytes within = rw (part_take 12 4 n bytes (omega arith)) refl
 
-front_as-take : (kind : Kind) (n : ℕ) (bytes : List ℕ) → 32 ≤ n
+block_of_kind-take : (kind : Kind) (n : ℕ) (bytes : List ℕ) → 32 ≤ n
     → block_of_kind kind (take n bytes) ≡ block_of_kind kind bytes
-front_as-take kind n bytes within =
-    rw (begins-take kind n bytes within, length_as-take kind n bytes within) refl
+block_of_kind-take kind n bytes within =
+    rw (begins-take kind n bytes within, length_of_kind-take kind n bytes within) refl
 
 -- only the first 32 bytes matter
 pub block_front-take : (n : ℕ) (bytes : List ℕ) → 32 ≤ n
     → block_front (take n bytes) ≡ block_front bytes
 unfolding block_front
 block_front-take n bytes within = rw (
-  front_as-take Id3v2 n bytes within,
-  front_as-take Id3v1 n bytes within,
-  front_as-take Ape n bytes within,
+  block_of_kind-take Id3v2 n bytes within,
+  block_of_kind-take Id3v1 n bytes within,
+  block_of_kind-take Ape n bytes within,
 ) refl

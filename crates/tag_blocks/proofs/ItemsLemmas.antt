@@ -92,9 +92,9 @@ pub record Stands (bytes : List ℕ) : Type 0 where
   pub zero_behind : get_or bytes (8 + key_length bytes) 0 ≡ 0
 
 -- if an item is whole, all the conditions hold
-pub stands-parts : (bytes : List ℕ) → has_whole_item bytes ≡ true → Stands bytes
+pub has_whole_item-parts : (bytes : List ℕ) → has_whole_item bytes ≡ true → Stands bytes
 unfolding has_whole_item
-stands-parts bytes is =
+has_whole_item-parts bytes is =
     let three = and_parts _ _ is in
     let two = and_parts _ _ three.0 in
     let one = and_parts _ _ two.0 in
@@ -106,22 +106,22 @@ stands-parts bytes is =
     }
 
 -- if all the conditions hold, an item is whole
-pub stands-from : (bytes : List ℕ) → Stands bytes → true ≡ has_whole_item bytes
+pub has_whole_item-from : (bytes : List ℕ) → Stands bytes → true ≡ has_whole_item bytes
 unfolding has_whole_item
-stands-from bytes s = sym (and_from _ _ (and_from _ _ (and_from _ _ (le-leb _ _ s.least)
+has_whole_item-from bytes s = sym (and_from _ _ (and_from _ _ (and_from _ _ (le-leb _ _ s.least)
     (le-leb _ _ s.most)) (le-leb _ _ s.within)) (eq-eqb _ _ s.zero_behind))
 
 -- if not all the conditions hold, no item is whole
-pub stands_not : (bytes : List ℕ) → (Stands bytes → ⊥) → false ≡ has_whole_item bytes
-stands_not bytes none =
-    sym (false_from_ne_true (has_whole_item bytes) (λ is. none (stands-parts bytes is)))
+pub has_whole_item-not : (bytes : List ℕ) → (Stands bytes → ⊥) → false ≡ has_whole_item bytes
+has_whole_item-not bytes none =
+    sym (false_from_ne_true (has_whole_item bytes) (λ is. none (has_whole_item-parts bytes is)))
 
 -- an item is as long as the bytes before its value plus its value
 pub length-front : (bytes : List ℕ) → has_whole_item bytes ≡ true
     → item_length (tag_item_front bytes) ≡ value_place bytes + ape_number 0 bytes
 unfolding tag_item_front
 length-front bytes is =
-    let parts = stands-parts bytes is in
+    let parts = has_whole_item-parts bytes is in
     omega (
       arith,
       parts.within,
@@ -133,7 +133,7 @@ length-front bytes is =
 -- an item that is whole is within the bytes
 pub within-front : (bytes : List ℕ) → has_whole_item bytes ≡ true
     → item_length (tag_item_front bytes) ≤ length bytes
-within-front bytes is = omega (arith, length-front bytes is, (stands-parts bytes is).within)
+within-front bytes is = omega (arith, length-front bytes is, (has_whole_item-parts bytes is).within)
 
 joined : (a b key value rest : List ℕ)
     → (a ++ (b ++ (key ++ (0 ∷ value)))) ++ rest ≡ a ++ (b ++ (key ++ (0 ∷ (value ++ rest))))
@@ -151,7 +151,7 @@ parts_of : (bytes : List ℕ) → has_whole_item bytes ≡ true
     (drop (value_place bytes) bytes) ++ drop (value_place bytes + ape_number 0 bytes) bytes))))
 parts_of bytes is =
     let k : ℕ = key_length bytes in
-    let parts = stands-parts bytes is in
+    let parts = has_whole_item-parts bytes is in
     let value : drop (9 + k) bytes
     ≡ take (ape_number 0 bytes) (drop (9 + k) bytes) ++ drop (9 + k + ape_number 0 bytes) bytes =
     split (ape_number 0 bytes) (drop (9 + k) bytes)
@@ -173,7 +173,7 @@ pub bytes-front : (bytes : List ℕ) → AreByteValues bytes → has_whole_item 
     → bytes ≡ item_bytes (tag_item_front bytes) ++ drop (item_length (tag_item_front bytes)) bytes
 unfolding item_bytes tag_item_front
 bytes-front bytes octets is =
-    let parts = stands-parts bytes is in
+    let parts = has_whole_item-parts bytes is in
     let size : little_bytes 4 (length (take (ape_number 0 bytes) (drop (value_place bytes) bytes)))
     ≡ take 4 bytes =
     ap (little_bytes 4) (length-take-le (ape_number 0 bytes) (drop (value_place bytes) bytes)
@@ -216,7 +216,7 @@ pub is_item-front : (bytes : List ℕ) → AreByteValues bytes → has_whole_ite
     → is_item (tag_item_front bytes) ≡ true
 unfolding is_item tag_item_front
 is_item-front bytes octets is =
-    let parts = stands-parts bytes is in
+    let parts = has_whole_item-parts bytes is in
     let long : length (take (key_length bytes) (drop 8 bytes)) ≡ key_length bytes =
     length-prefix_len is_key_char (drop 8 bytes) in
     let few : length (take (ape_number 0 bytes) (drop (value_place bytes) bytes)) ≤ ape_number 0
@@ -317,10 +317,10 @@ value-shown item rest =
     ∙ sym (drop-drop 1 (length item.key) (item.key ++ (0 ∷ (item.value ++ rest))))
     ∙ ap (drop 1) (drop_at item.key (0 ∷ (item.value ++ rest)) (length item.key) refl)
 
-stands-shown : (item : TagItem) (rest : List ℕ) → IsItem item
+has_whole_item-shown : (item : TagItem) (rest : List ℕ) → IsItem item
     → has_whole_item (shown item rest) ≡ true
 unfolding has_whole_item
-stands-shown item rest is =
+has_whole_item-shown item rest is =
     rw (key-shown item rest is, size-shown item rest is, zero-shown item rest)
     (and_from _ _ (and_from _ _ (and_from _ _ (le-leb 2 (length item.key) is.least)
     (le-leb (length item.key) 255 is.most)) (le-leb (9 + length item.key + length item.value)
@@ -341,12 +341,12 @@ front-shown item rest is =
     ) refl
 
 -- an item is read from its bytes, whatever follows
-pub item_at-item_bytes : (item : TagItem) (rest : List ℕ) → is_item item ≡ true
+pub tag_item_of-item_bytes : (item : TagItem) (rest : List ℕ) → is_item item ≡ true
     → tag_item_of (item_bytes item ++ rest) ≡ Some item
-item_at-item_bytes item rest is =
+tag_item_of-item_bytes item rest is =
     let parts = is_item-parts item is in
     ap tag_item_of (shown-is item rest)
-    ∙ rw (stands-shown item rest parts) (ap Some (front-shown item rest parts))
+    ∙ rw (has_whole_item-shown item rest parts) (ap Some (front-shown item rest parts))
 
 -- ---- the next item
 
@@ -399,26 +399,26 @@ unfolding tag_items_from
 one_more most met bytes = refl
 
 -- the items from here on are the next one and the items after it
-pub items_from-next : (most : ℕ) (met : Bool) (bytes : List ℕ) (item : TagItem)
+pub tag_items_from-next : (most : ℕ) (met : Bool) (bytes : List ℕ) (item : TagItem)
     → next_item met bytes ≡ Some item → tag_items_from (suc most) met bytes
     ≡ item ∷ tag_items_from most (met || is_undo item) (drop (item_length item) bytes)
-items_from-next most met bytes item next = one_more most met bytes
+tag_items_from-next most met bytes item next = one_more most met bytes
     ∙ ap (item_and_more (λ i. tag_items_from most (met || is_undo i) (drop (item_length i) bytes)))
     next
 
 -- if there is no next item, there are no items
-pub items_from-none : (most : ℕ) (met : Bool) (bytes : List ℕ) → next_item met bytes ≡ None
+pub tag_items_from-none : (most : ℕ) (met : Bool) (bytes : List ℕ) → next_item met bytes ≡ None
     → tag_items_from most met bytes ≡ []
 unfolding tag_items_from
-items_from-none zero met bytes none = refl
-items_from-none (suc most) met bytes none = one_more most met bytes
+tag_items_from-none zero met bytes none = refl
+tag_items_from-none (suc most) met bytes none = one_more most met bytes
     ∙ ap (item_and_more (λ i. tag_items_from most (met || is_undo i) (drop (item_length i) bytes)))
     none
 
 -- if no more items may follow, there are none
-pub items_from-zero : (met : Bool) (bytes : List ℕ) → tag_items_from 0 met bytes ≡ []
+pub tag_items_from-zero : (met : Bool) (bytes : List ℕ) → tag_items_from 0 met bytes ≡ []
 unfolding tag_items_from
-items_from-zero met bytes = refl
+tag_items_from-zero met bytes = refl
 
 -- a step of the loop over items, with one item more
 pub read_more : (whole items : List TagItem) (count at passed : ℕ) (met : Bool) (bytes : List ℕ)
@@ -430,7 +430,7 @@ pub read_more : (whole items : List TagItem) (count at passed : ℕ) (met : Bool
 read_more whole items count at passed met bytes item more is next =
     let left : count - at ≡ suc (count - (at + 1)) = omega (arith, more) in
     is ∙ ap (λ n. items ++ tag_items_from n met (drop passed bytes)) left
-    ∙ ap (λ l. items ++ l) (items_from-next (count - (at + 1)) met (drop passed bytes) item next
+    ∙ ap (λ l. items ++ l) (tag_items_from-next (count - (at + 1)) met (drop passed bytes) item next
     ∙ ap (λ b. item ∷ tag_items_from (count - (at + 1)) (met || is_undo item) b)
     (drop-drop (item_length item) passed bytes))
     ∙ sym (append_assoc items (item ∷ [])
@@ -441,7 +441,7 @@ read_more whole items count at passed met bytes item more is next =
 pub read_none : (whole items : List TagItem) (left : ℕ) (met : Bool) (bytes : List ℕ)
     → whole ≡ items ++ tag_items_from left met bytes → next_item met bytes ≡ None → items ≡ whole
 read_none whole items left met bytes is none =
-    sym (is ∙ ap (λ l. items ++ l) (items_from-none left met bytes none) ∙ append-nil items)
+    sym (is ∙ ap (λ l. items ++ l) (tag_items_from-none left met bytes none) ∙ append-nil items)
 
 -- if as many items were read as there may be, they are all
 pub read_all : (whole items : List TagItem) (count at : ℕ) (met : Bool) (bytes : List ℕ)
@@ -449,7 +449,7 @@ pub read_all : (whole items : List TagItem) (count at : ℕ) (met : Bool) (bytes
 read_all whole items count at met bytes done is =
     let none : count - at ≡ 0 = omega (arith, done) in
     sym (is ∙ ap (λ n. items ++ tag_items_from n met bytes) none
-    ∙ ap (λ l. items ++ l) (items_from-zero met bytes) ∙ append-nil items)
+    ∙ ap (λ l. items ++ l) (tag_items_from-zero met bytes) ∙ append-nil items)
 
 -- ---- what items that follow end to end are
 
@@ -524,9 +524,9 @@ read_cases : (most : ℕ) (met : Bool) (bytes : List ℕ) → AreByteValues byte
     → (o : Option TagItem) → next_item met bytes ≡ o
     → AreRead met bytes (tag_items_from (suc most) met bytes)
 read_cases most met bytes octets fewer None none = subst (AreRead met bytes)
-    (sym (items_from-none (suc most) met bytes none)) (read_nothing met bytes)
+    (sym (tag_items_from-none (suc most) met bytes none)) (read_nothing met bytes)
 read_cases most met bytes octets fewer (Some item) next =
-    subst (AreRead met bytes) (sym (items_from-next most met bytes item next))
+    subst (AreRead met bytes) (sym (tag_items_from-next most met bytes item next))
     (read_one met bytes item
     (tag_items_from most (met || is_undo item) (drop (item_length item) bytes))
     octets (next_item-is met bytes item next)
@@ -534,35 +534,36 @@ read_cases most met bytes octets fewer (Some item) next =
     (octets-drop (item_length item) bytes octets)))
 
 -- what is read are items with whose bytes the bytes begin, and at most one is an undo item
-pub items_from-read : (most : ℕ) (met : Bool) (bytes : List ℕ) → AreByteValues bytes
+pub tag_items_from-read : (most : ℕ) (met : Bool) (bytes : List ℕ) → AreByteValues bytes
     → AreRead met bytes (tag_items_from most met bytes)
-items_from-read zero met bytes octets =
-    subst (AreRead met bytes) (sym (items_from-zero met bytes)) (read_nothing met bytes)
-items_from-read (suc most) met bytes octets = read_cases most met bytes octets
-    (λ m b all. items_from-read most m b all) (next_item met bytes) refl
+tag_items_from-read zero met bytes octets =
+    subst (AreRead met bytes) (sym (tag_items_from-zero met bytes)) (read_nothing met bytes)
+tag_items_from-read (suc most) met bytes octets = read_cases most met bytes octets
+    (λ m b all. tag_items_from-read most m b all) (next_item met bytes) refl
 
 -- items are read from their bytes
-pub items_from-items_bytes : (met : Bool) (items : List TagItem) → list_all is_item items ≡ true
+pub tag_items_from-items_bytes : (met : Bool) (items : List TagItem) → list_all is_item items ≡ true
     → cond met 1 0 + length (filter is_undo items) ≤ 1
     → tag_items_from (length items) met (items_bytes items) ≡ items
-items_from-items_bytes met [] all few = items_from-zero met []
-items_from-items_bytes met (item ∷ items) all few =
+tag_items_from-items_bytes met [] all few = tag_items_from-zero met []
+tag_items_from-items_bytes met (item ∷ items) all few =
     let parts = and_parts (is_item item) (list_all is_item items) all in
     let less = few_less met (is_undo item) (length (filter is_undo items))
     (omega (arith, few, undos-cons item items)) in
     let next : next_item met (items_bytes (item ∷ items)) ≡ Some item = admit met item (tag_item_of
-    (items_bytes (item ∷ items))) (item_at-item_bytes item (items_bytes items) parts.0) less.0 in
-    items_from-next (length items) met (items_bytes (item ∷ items)) item next
+    (items_bytes (item ∷ items)))
+    (tag_item_of-item_bytes item (items_bytes items) parts.0) less.0 in
+    tag_items_from-next (length items) met (items_bytes (item ∷ items)) item next
     ∙ ap (λ l. item ∷ l) (ap (tag_items_from (length items) (met || is_undo item))
     (drop_at (item_bytes item) (items_bytes items) (item_length item) (length-item_bytes item))
-    ∙ items_from-items_bytes (met || is_undo item) items parts.1 less.1)
+    ∙ tag_items_from-items_bytes (met || is_undo item) items parts.1 less.1)
 
 -- the items that are read are within the bytes
-pub items_from-within : (most : ℕ) (met : Bool) (bytes : List ℕ) → AreByteValues bytes
+pub tag_items_from-within : (most : ℕ) (met : Bool) (bytes : List ℕ) → AreByteValues bytes
     → items_length (tag_items_from most met bytes) ≤ length bytes
-items_from-within most met bytes octets =
+tag_items_from-within most met bytes octets =
     let items : List TagItem = tag_items_from most met bytes in
-    let read = items_from-read most met bytes octets in
+    let read = tag_items_from-read most met bytes octets in
     omega (
       arith,
       ap length read.front,
@@ -612,53 +613,55 @@ stop_cases : (most : ℕ) (met : Bool) (bytes : List ℕ)
     → (o : Option TagItem) → next_item met bytes ≡ o
     → IsStopped (suc most) met bytes (tag_items_from (suc most) met bytes)
 stop_cases most met bytes fewer None none =
-    subst (IsStopped (suc most) met bytes) (sym (items_from-none (suc most) met bytes none))
+    subst (IsStopped (suc most) met bytes) (sym (tag_items_from-none (suc most) met bytes none))
     (stopped_here (suc most) met bytes (λ _. none))
 stop_cases most met bytes fewer (Some item) next =
-    subst (IsStopped (suc most) met bytes) (sym (items_from-next most met bytes item next))
+    subst (IsStopped (suc most) met bytes) (sym (tag_items_from-next most met bytes item next))
     (stopped_later most met bytes item (tag_items_from most (met || is_undo item)
     (drop (item_length item) bytes)) (fewer (met || is_undo item) (drop (item_length item) bytes)))
 
 -- reading continues up to the most items there may be, or until there is no next one
-pub items_from-stopped : (most : ℕ) (met : Bool) (bytes : List ℕ)
+pub tag_items_from-stopped : (most : ℕ) (met : Bool) (bytes : List ℕ)
     → IsStopped most met bytes (tag_items_from most met bytes)
-items_from-stopped zero met bytes = subst (IsStopped 0 met bytes) (sym (items_from-zero met bytes))
+tag_items_from-stopped zero met bytes =
+    subst (IsStopped 0 met bytes) (sym (tag_items_from-zero met bytes))
     (stopped_here 0 met bytes (λ less. absurd (omega (arith, less))))
-items_from-stopped (suc most) met bytes =
-    stop_cases most met bytes (λ m b. items_from-stopped most m b) (next_item met bytes) refl
+tag_items_from-stopped (suc most) met bytes =
+    stop_cases most met bytes (λ m b. tag_items_from-stopped most m b) (next_item met bytes) refl
 
 -- ---- no other items are read
 
 only_none : (most : ℕ) (met : Bool) (bytes : List ℕ) → (0 < most → next_item met bytes ≡ None)
     → tag_items_from most met bytes ≡ []
-only_none zero met bytes last = items_from-zero met bytes
-only_none (suc most) met bytes last = items_from-none (suc most) met bytes (last (omega arith))
+only_none zero met bytes last = tag_items_from-zero met bytes
+only_none (suc most) met bytes last = tag_items_from-none (suc most) met bytes (last (omega arith))
 
 -- items with whose bytes the bytes begin, and after which there is no next one, are the items that
 -- are read
-pub items_from-only : (most : ℕ) (met : Bool) (items : List TagItem) (bytes rest : List ℕ)
+pub tag_items_from-only : (most : ℕ) (met : Bool) (items : List TagItem) (bytes rest : List ℕ)
     → list_all is_item items ≡ true → length items ≤ most
     → cond met 1 0 + length (filter is_undo items) ≤ 1 → bytes ≡ items_bytes items ++ rest
     → (length items < most → next_item (met || list_any is_undo items) rest ≡ None)
     → tag_items_from most met bytes ≡ items
-items_from-only most met [] bytes rest all few one front last =
+tag_items_from-only most met [] bytes rest all few one front last =
     only_none most met bytes
     (λ less. ap (next_item met) front ∙ ap (λ m. next_item m rest) (sym (or_false met)) ∙ last less)
-items_from-only zero met (item ∷ items) bytes rest all few one front last =
+tag_items_from-only zero met (item ∷ items) bytes rest all few one front last =
     absurd (omega (arith, few))
-items_from-only (suc most) met (item ∷ items) bytes rest all few one front last =
+tag_items_from-only (suc most) met (item ∷ items) bytes rest all few one front last =
     let parts = and_parts (is_item item) (list_all is_item items) all in
     let less = few_less met (is_undo item) (length (filter is_undo items))
     (omega (arith, one, undos-cons item items)) in
     let shape : bytes ≡ item_bytes item ++ (items_bytes items ++ rest) =
     front ∙ append_assoc (item_bytes item) (items_bytes items) rest in
     let next : next_item met bytes ≡ Some item = admit met item (tag_item_of bytes)
-    (ap tag_item_of shape ∙ item_at-item_bytes item (items_bytes items ++ rest) parts.0) less.0 in
+    (ap tag_item_of shape ∙ tag_item_of-item_bytes item (items_bytes items ++ rest) parts.0)
+    less.0 in
     let behind : drop (item_length item) bytes ≡ items_bytes items ++ rest =
     ap (drop (item_length item)) shape ∙ drop_at (item_bytes item) (items_bytes items ++ rest)
     (item_length item) (length-item_bytes item) in
-    items_from-next most met bytes item next
-    ∙ ap (λ l. item ∷ l) (items_from-only most (met || is_undo item) items
+    tag_items_from-next most met bytes item next
+    ∙ ap (λ l. item ∷ l) (tag_items_from-only most (met || is_undo item) items
     (drop (item_length item) bytes) rest parts.1 (omega (arith, few)) less.1 behind
     (λ fewer. ap (λ m. next_item m rest) (or_assoc met (is_undo item) (list_any is_undo items))
     ∙ last (omega (arith, fewer))))

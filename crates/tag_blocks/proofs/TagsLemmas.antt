@@ -11,11 +11,11 @@ use Rattle.std.{proofs.lemmas.{List.take_at, Slice.Eq.bytes_eq-Decides}, specs.I
 use Rattle.std.specs.{List.list_all, Prelude.{codes, nat_le}}
 use Rattle.byteorder.specs.Endian.{little_bytes}
 use Rattle.tag_blocks.proofs.BlocksLemmas.{block_front-any, block_front-begins}
-use Rattle.tag_blocks.proofs.ItemsLemmas.{ape_number-below, is_item-parts, items_from-items_bytes}
-use Rattle.tag_blocks.proofs.ItemsLemmas.{items_from-read, items_from-within, items_length-cons}
+use Rattle.tag_blocks.proofs.ItemsLemmas.{ape_number-below, is_item-parts, items_length-cons}
 use Rattle.tag_blocks.proofs.ItemsLemmas.{length-items_bytes, little_bytes-ape_number}
 use Rattle.tag_blocks.proofs.ItemsLemmas.{little_number-little_bytes, octets-drop, octets-take}
-use Rattle.tag_blocks.proofs.UndoItemsLemmas.{items_length-parts}
+use Rattle.tag_blocks.proofs.ItemsLemmas.{tag_items_from-items_bytes, tag_items_from-read}
+use Rattle.tag_blocks.proofs.{ItemsLemmas.tag_items_from-within, UndoItemsLemmas.items_length-parts}
 use Rattle.tag_blocks.specs.Blocks.{ape_flags, ape_length, ape_size, ape_version, begins_with}
 use Rattle.tag_blocks.specs.Blocks.{block_front, is_ape}
 use Rattle.tag_blocks.specs.Items.{is_item, items_bytes, items_length, tag_items_from, TagItem}
@@ -222,7 +222,7 @@ tag_of-tag_bytes tag is =
     let items : tag_items_of block ≡ tag.items =
     ap (λ k. tag_items_from k false (item_part block)) count
     ∙ ap (tag_items_from (length tag.items) false) parts.items
-    ∙ items_from-items_bytes false tag.items is.items (omega (arith, is.one)) in
+    ∙ tag_items_from-items_bytes false tag.items is.items (omega (arith, is.one)) in
     let counted : (length (tag_items_of block) == ape_count block) ≡ true =
     eq-eqb (length (tag_items_of block)) (ape_count block) (ap length items ∙ sym count) in
     let placed : (32 + items_length (tag_items_of block) == footer_place block) ≡ true =
@@ -385,7 +385,8 @@ part-octets block octets =
 pub IsTag-in : (block : List ℕ) → IsWhole block → IsTag (tag_in block)
 IsTag-in block whole =
     let read =
-    items_from-read (ape_count block) false (item_part block) (part-octets block whole.octets) in
+    tag_items_from-read (ape_count block) false (item_part block)
+    (part-octets block whole.octets) in
     let sum = items_length-parts (tag_items_of block) in
     record {
       items = read.all;
@@ -427,7 +428,8 @@ tag_bytes-in block whole =
     (sym (end_bytes-back footer (octets-drop end block whole.octets) (omega (arith, short))
     foot.text foot.version foot.reserved) ∙ take_all 32 footer (omega (arith, short))) in
     let read =
-    items_from-read (ape_count block) false (item_part block) (part-octets block whole.octets) in
+    tag_items_from-read (ape_count block) false (item_part block)
+    (part-octets block whole.octets) in
     let wide : length (item_part block) ≡ items_length items = omega (
       arith,
       length-take (end - 32) (drop 32 block),
@@ -526,7 +528,7 @@ found-within block octets long =
     omega (
       arith,
       long,
-      items_from-within (ape_count block) false (item_part block) (part-octets block octets),
+      tag_items_from-within (ape_count block) false (item_part block) (part-octets block octets),
       length-take (footer_place block - 32) (drop 32 block),
       length-drop 32 block,
     )

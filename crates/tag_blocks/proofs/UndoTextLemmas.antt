@@ -45,10 +45,10 @@ is_steps-steps_text (negsuc n) most = let three = three_digits (suc n) most in
     rw (three.0, three.1, three.2) refl
 
 -- steps are read from what they are written as
-pub steps_of-steps_text : (steps : ℤ) → unsigned_abs steps ≤ 999
+pub spelled_steps-steps_text : (steps : ℤ) → unsigned_abs steps ≤ 999
     → spelled_steps (steps_text steps) ≡ steps
-steps_of-steps_text (pos n) most = rw (no_minus n) (ap pos (digits n most))
-steps_of-steps_text (negsuc n) most = rw (digits (suc n) most) refl
+spelled_steps-steps_text (pos n) most = rw (no_minus n) (ap pos (digits n most))
+spelled_steps-steps_text (negsuc n) most = rw (digits (suc n) most) refl
 
 of_wrap : (left right : ℤ) (wrap : Bool)
     → cond {A = Option Undo} ((wrap_letter wrap == 78) || (wrap_letter wrap == 87)) (Some (record {
@@ -66,8 +66,8 @@ undo_of-undo_text undo fits =
     rw (
       is_steps-steps_text undo.left fits.left,
       is_steps-steps_text undo.right fits.right,
-      steps_of-steps_text undo.left fits.left,
-      steps_of-steps_text undo.right fits.right,
+      spelled_steps-steps_text undo.left fits.left,
+      spelled_steps-steps_text undo.right fits.right,
     ) (of_wrap undo.left undo.right undo.wrap)
 
 -- ---- the parts of a value that is read

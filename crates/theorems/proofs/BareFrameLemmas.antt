@@ -169,18 +169,18 @@ one-bare : (b : Bool) (p : Placed) (f : Frame) → one b p (bare f) ≡ one b p 
 one-bare true p f = refl
 one-bare false p f = refl
 
-relaid-bare : (fs : List Frame) (placed : List Placed)
+relaid_frames-bare : (fs : List Frame) (placed : List Placed)
     → relaid_frames (map bare fs) placed ≡ relaid_frames fs placed
 unfolding relaid_frames
-relaid-bare [] placed = refl
-relaid-bare (f ∷ fs) [] = refl
-relaid-bare (f ∷ fs) (p ∷ placed) =
+relaid_frames-bare [] placed = refl
+relaid_frames-bare (f ∷ fs) [] = refl
+relaid_frames-bare (f ∷ fs) (p ∷ placed) =
     ap₂ (λ (x : Frame) (xs : List Frame). x ∷ xs) (one-bare p.lead_in p f)
     (ap (λ (l : List Frame). relaid_frames l placed) (sym (next-map bare p.lead_in f fs))
-    ∙ relaid-bare (rest_behind p.lead_in f fs) placed)
+    ∙ relaid_frames-bare (rest_behind p.lead_in f fs) placed)
 
 -- frames that are the same when bare are relaid the same
-pub relaid-same : (fs gs : List Frame) (placed : List Placed) → map bare fs ≡ map bare gs
+pub relaid_frames-same : (fs gs : List Frame) (placed : List Placed) → map bare fs ≡ map bare gs
     → relaid_frames fs placed ≡ relaid_frames gs placed
-relaid-same fs gs placed same = sym (relaid-bare fs placed)
-    ∙ ap (λ (l : List Frame). relaid_frames l placed) same ∙ relaid-bare gs placed
+relaid_frames-same fs gs placed same = sym (relaid_frames-bare fs placed)
+    ∙ ap (λ (l : List Frame). relaid_frames l placed) same ∙ relaid_frames-bare gs placed

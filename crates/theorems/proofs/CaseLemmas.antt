@@ -10,7 +10,7 @@ use Rattle.laying.{proofs.SurveyFrameLemmas.survey-had, specs.Laid.stream_laid}
 use Rattle.laying.specs.Relaid.{FilePart, IsPart, part_stream, stream_with_lead_ins}
 use Rattle.laying.specs.Surveys.{CanBeRelaid}
 use Rattle.slot_plan.specs.{Plans.IsPlan, declared.needs.Placed.Placed}
-use Rattle.sync_survey.proofs.SurveyPartsLemmas.{surveyed-stream}
+use Rattle.sync_survey.proofs.SurveyPartsLemmas.{survey_fields-stream}
 use Rattle.sync_survey.proofs.SurveyedFileLemmas.{survey_of-parts}
 use Rattle.sync_survey.specs.Faults.{stream_of, stream_of_survey, SurveyFields}
 use Rattle.sync_survey.specs.{MainData.StreamFrame, Survey.survey_of}
@@ -51,7 +51,7 @@ module _ (chosen : Chosen) (file : List ℕ) (s : SurveyFields) (has : CanBeRela
 pub stream-is : (file : List ℕ) (allowed : ℕ) (s : SurveyFields) → survey_of file allowed ≡ Ok s
     → stream_of file ≡ stream_of_survey file s
 stream-is file allowed s is =
-    (surveyed-stream file allowed s (survey_of-parts file allowed s is).1).stream_is
+    (survey_fields-stream file allowed s (survey_of-parts file allowed s is).1).stream_is
 
 module _ (chosen : Chosen) (file : List ℕ) (s : SurveyFields) (is : survey_of file most_frames
     ≡ Ok s) (some : chosen.from < chosen.to) (within : chosen.to ≤ length s.frames) where

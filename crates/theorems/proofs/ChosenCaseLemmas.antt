@@ -3,7 +3,7 @@ use Rattle.std.proofs.Common.{ap, ap₂, arith, Bool, length, List, map, None, O
 use Rattle.std.proofs.Common.{Result, Some, subst, sym, ℕ, [], ◌∙◌, ◌∷◌, ◌≡◌}
 use Rattle.std.specs.List.{enumerate_from}
 use Rattle.std.specs.Prelude.{replicate, slice_get, slice_range, unwrap_or, ◌<◌, ◌≤◌}
-use Rattle.commands.proofs.{MadeLemmas.{made-of, makes-parts}, RefusingLemmas.unless_ok}
+use Rattle.commands.proofs.{MadeLemmas.{made-of, makes-parts}, RefusingLemmas.refusal_or-ok}
 use Rattle.commands.specs.SingleOutput.{input_result, most_frames}
 use Rattle.commands.specs.declared.fault.{EditFault.EditFault, Refusal.Refusal}
 use Rattle.cue_sheet.specs.{Places.frame_at, declared.place.Place.Place}
@@ -24,8 +24,8 @@ use Rattle.pack_edits.specs.Modes.{most_best, pack_mode_command, pack_task}
 use Rattle.requests.specs.declared.mode.PackMode.{PackMode, TheVariants.Best}
 use Rattle.salvage_edits.proofs.StreamLemmas.{whole-stream}
 use Rattle.slot_plan.specs.declared.needs.Placed.{Placed}
-use Rattle.sync_survey.proofs.{PlacedRowLemmas.surveyed-placed, SurveyPartsLemmas.stream-length}
-use Rattle.sync_survey.proofs.SurveyedFileLemmas.{survey_of-parts}
+use Rattle.sync_survey.proofs.PlacedRowLemmas.{survey_fields-placed}
+use Rattle.sync_survey.proofs.{SurveyPartsLemmas.stream-length, SurveyedFileLemmas.survey_of-parts}
 use Rattle.sync_survey.specs.Faults.{stream_of, stream_of_survey, SurveyFields}
 use Rattle.sync_survey.specs.MainData.{main_bytes, stream_frame, stream_frames, StreamFrame}
 use Rattle.sync_survey.specs.{Row.Row, Survey.survey_of, declared.places.Head.Head}
@@ -60,7 +60,7 @@ module _ (file : List ℕ) (s : SurveyFields) (is : survey_of file most_frames �
       → position_number (stream_of file) place ≡ at place
   number-is some place =
       ap (λ (l : List StreamFrame). position_number l place) (stream-is file most_frames s is)
-      ∙ numbers file s (surveyed-placed file most_frames s
+      ∙ numbers file s (survey_fields-placed file most_frames s
       (survey_of-parts file most_frames s is).1) some place (stream-length file s)
 
   -- the frames from one position to before another
@@ -70,7 +70,7 @@ module _ (file : List ℕ) (s : SurveyFields) (is : survey_of file most_frames �
       × (chosen.from < chosen.to) × (chosen.to ≤ length s.frames)
   between-is quality extension from to chosen e =
       let is_there = chosen-within quality extension (at from) (at to) (length s.frames) chosen e in
-      let same = unless_ok (outside_fault (at from) (at to) (length s.frames))
+      let same = refusal_or-ok (outside_fault (at from) (at to) (length s.frames))
       (record { from = at from; to = at to; quality = quality; extension = extension }) chosen e in
       let some : 0 < length s.frames = omega (arith, is_there.0, is_there.1) in
       let first : position_number (stream_of file) from ≡ chosen.from =

@@ -7,14 +7,15 @@ use Rattle.std.{proofs.lemmas.Option.slice_get_within, specs.{List.cons_option, 
 use Rattle.frame_header.proofs.{HeaderLemmas.IsClass-class_of, LengthLemmas.area_some}
 use Rattle.frame_header.specs.Fields.{ClassFields, HeaderFields, IsHeader}
 use Rattle.frame_header.specs.Tables.{class_of, length_of, overhead_of}
-use Rattle.side_info.proofs.FrameLemmas.{side_in-take, word_said-take}
+use Rattle.side_info.proofs.FrameLemmas.{side_in-take, stored_crc-take}
 use Rattle.side_info.specs.{Frame.{side_in, stored_crc}, declared.side.Side.Side}
 use Rattle.sync_survey.proofs.FaultsLemmas.{end-more, get_more, place-more}
 use Rattle.sync_survey.proofs.ItemsLemmas.{header_front-in_range, stands-at}
 use Rattle.sync_survey.proofs.OneItemLemmas.{stands-only_at}
-use Rattle.sync_survey.proofs.RunsLemmas.{frames-append, IsItemOf, item_of-is, item_of-past}
-use Rattle.sync_survey.proofs.RunsLemmas.{item_of-whole, run-ends, run-next, run-only}
-use Rattle.sync_survey.proofs.{StartLemmas.start-first, SurveyLemmas.overhead-within}
+use Rattle.sync_survey.proofs.RunsLemmas.{frames-append, IsItemOf, item_run-ends, item_run-next}
+use Rattle.sync_survey.proofs.RunsLemmas.{item_run-only, whole_item_at-is, whole_item_at-past}
+use Rattle.sync_survey.proofs.{RunsLemmas.whole_item_at-whole, StartLemmas.start-first}
+use Rattle.sync_survey.proofs.SurveyLemmas.{overhead-within}
 use Rattle.sync_survey.proofs.SurveyPartsLemmas.{all_faults-none_sound, AreSound, frames_from}
 use Rattle.sync_survey.proofs.SurveyPartsLemmas.{IsRead, IsSound, sound-no_all_faults}
 use Rattle.sync_survey.proofs.WalkLemmas.{IsFound, no_fault, nothing_left}
@@ -34,10 +35,10 @@ use Rattle.theorems.proofs.CutRunLemmas.{cut-run, IsCutRun, IsStop, MayBeCut, st
 
 -- ---- lists
 
-numbered-append : (head : Option Head) (p : PlacedFrame) (xs ys : List PlacedFrame)
+numbered_frames-append : (head : Option Head) (p : PlacedFrame) (xs ys : List PlacedFrame)
     → numbered_frames head (p ∷ (xs ++ ys)) ≡ numbered_frames head (p ∷ xs) ++ ys
-numbered-append None p xs ys = refl
-numbered-append (Some head) p xs ys = refl
+numbered_frames-append None p xs ys = refl
+numbered_frames-append (Some head) p xs ys = refl
 
 -- ---- frames within the first bytes
 
@@ -58,7 +59,7 @@ module _ (file : List ℕ) (n : ℕ) (within : n ≤ length file) where
       → whole_item_at Stream now at ≡ Some item → AreIn (rows_of file ps)
       → AreIn (rows_of file (cons_option (frame_of_item at item) ps))
   in_cases at (Frame h) ps is are =
-      let here = item_of-is Stream now at (Frame h) is in (
+      let here = whole_item_at-is Stream now at (Frame h) is in (
         record {
           header = header_front-in_range (drop at now) h (stands-at now at (Frame h) here.is);
           high = omega (arith, here.within, length-cut file n within);
@@ -101,7 +102,7 @@ module _ (file : List ℕ) (n : ℕ) (within : n ≤ length file) where
     -- the check word of a frame that is still whole is the same
     pub word-same : stored_crc (drop p.offset now) ≡ stored_crc (drop p.offset file)
     word-same = ap stored_crc (drop-cut file n within p.offset low)
-        ∙ word_said-take (n - p.offset) (drop p.offset file) six
+        ∙ stored_crc-take (n - p.offset) (drop p.offset file) six
 
     -- the bytes of a frame that is still whole are the same
     pub bytes-same : frame_bytes now p ≡ frame_bytes file p
@@ -174,7 +175,7 @@ module _ (file : List ℕ) (n : ℕ) (within : n ≤ length file) (start : Start
   frame = (start-first file start read.start_is).frame
 
   whole : whole_item_at Stream file at ≡ Some (Frame h)
-  whole = item_of-whole Stream file at (Frame h) frame.is refl frame.within
+  whole = whole_item_at-whole Stream file at (Frame h) frame.is refl frame.within
 
   whole_now : whole_item_at Stream front at ≡ Some (Frame h)
   whole_now = item-kept file n within Stream at (Frame h) whole kept
@@ -191,11 +192,12 @@ module _ (file : List ℕ) (n : ℕ) (within : n ≤ length file) (start : Start
 
   -- the items after the first frame are the items that are still whole
   pub r : IsCutRun file n within Stream behind later.items later.stop
-  r = cut-run file n within Stream behind later.items later.stop (run-ends Stream file behind) kept
+  r = cut-run file n within Stream behind later.items later.stop (item_run-ends Stream file behind)
+      kept
 
   runs-on : stream_run file start
       ≡ record { items = record { offset = at; item = Frame h } ∷ later.items; stop = later.stop }
-  runs-on = run-next Stream file at (Frame h) whole
+  runs-on = item_run-next Stream file at (Frame h) whole
 
   to_end : length file ≤ later.stop
   to_end =
@@ -211,7 +213,7 @@ module _ (file : List ℕ) (n : ℕ) (within : n ≤ length file) (start : Start
   stopped_by : IsStop file n within Stream later.stop r.stop r.rest
       → whole_item_at Stream front r.stop ≡ None
   unfolding r
-  stopped_by (inl end) = item_of-past Stream front
+  stopped_by (inl end) = whole_item_at-past Stream front
       r.stop (omega (arith, end.0, to_end, within, length-cut file n within))
   stopped_by (inr found) = cut-none file n within Stream r.stop found.0 found.1
 
@@ -222,11 +224,11 @@ module _ (file : List ℕ) (n : ℕ) (within : n ≤ length file) (start : Start
   pub runs-now : stream_run front start
       ≡ record { items = record { offset = at; item = Frame h } ∷ r.front; stop = r.stop }
   runs-now =
-      run-next Stream front at (Frame h) whole_now
+      item_run-next Stream front at (Frame h) whole_now
       ∙ ap (λ (q : ItemRun). record {
         items = record { offset = at; item = Frame h } ∷ q.items;
         stop = q.stop;
-      }) (run-only Stream front behind r.front r.stop r.ends stopped)
+      }) (item_run-only Stream front behind r.front r.stop r.ends stopped)
 
   -- ---- its head and its frames
 
@@ -255,16 +257,16 @@ module _ (file : List ℕ) (n : ℕ) (within : n ≤ length file) (start : Start
       ∙ ap (λ (ps : List PlacedFrame). numbered_frames head
       (record { offset = at; header = h } ∷ ps))
       (ap frames_of (sym r.split) ∙ frames-append r.front r.rest)
-      ∙ numbered-append head (record { offset = at; header = h }) (frames_of r.front) gone
+      ∙ numbered_frames-append head (record { offset = at; header = h }) (frames_of r.front) gone
 
-  numbered-in : (o : Option Head) → AreIn file n within
+  numbered_frames-in : (o : Option Head) → AreIn file n within
       (rows_of file (numbered_frames o (record { offset = at; header = h } ∷ frames_of r.front)))
-  numbered-in None = (first_in, frames-in file n within behind r.front r.stop r.ends)
-  numbered-in (Some o) = frames-in file n within behind r.front r.stop r.ends
+  numbered_frames-in None = (first_in, frames-in file n within behind r.front r.stop r.ends)
+  numbered_frames-in (Some o) = frames-in file n within behind r.front r.stop r.ends
 
   -- they are within the first bytes
   pub are-in : AreIn file n within (rows_of file frames)
-  are-in = numbered-in head
+  are-in = numbered_frames-in head
 
   abbrev pub rows : List Row
   rows = rows_of file frames

@@ -7,10 +7,11 @@ use Rattle.std.proofs.lemmas.List.{drop-take, length-take, length-take-le, take-
 use Rattle.std.proofs.lemmas.{List.take-take, Slice.Eq.bytes_eq-Decides}
 use Rattle.frame_header.specs.Reading.{header_at}
 use Rattle.frame_header.specs.declared.header.NotHeader.TheVariants.{Free as FreeHeader, No}
-use Rattle.sync_survey.proofs.ItemBytesLemmas.{front_as-take, header_front-four, kept_item}
+use Rattle.sync_survey.proofs.ItemBytesLemmas.{block_of_kind-take, header_front-four, kept_item}
 use Rattle.sync_survey.proofs.ItemBytesLemmas.{known_by}
 use Rattle.sync_survey.proofs.{ItemListLemmas.{item_at-known, stream_belongs}, ItemsLemmas.stands}
-use Rattle.sync_survey.proofs.{OneItemLemmas.stands-only, RunsLemmas.{item_of-is, item_of-whole}}
+use Rattle.sync_survey.proofs.OneItemLemmas.{stands-only}
+use Rattle.sync_survey.proofs.RunsLemmas.{whole_item_at-is, whole_item_at-whole}
 use Rattle.sync_survey.specs.Items.{header_front, IsItemFront, item_at, item_front, size_of}
 use Rattle.sync_survey.specs.{Runs.{belongs, whole_item_at}, declared.items.Item.Item}
 use Rattle.sync_survey.specs.declared.items.Item.TheVariants.{Block, End, Frame, Free, Nothing}
@@ -65,7 +66,7 @@ block-same : (k : ℕ) (bytes : List ℕ) (b : TagBlock) → block_front (take k
 block-same k bytes b is =
     let long = begins-long b.kind (take k bytes) (block_front-begins (take k bytes) b is).0 in
     block_front-any b.kind bytes b
-    (sym (front_as-take b.kind k bytes (omega (arith, long, length-take k bytes)))
+    (sym (block_of_kind-take b.kind k bytes (omega (arith, long, length-take k bytes)))
     ∙ block_front-own (take k bytes) b is)
 
 zero-same : (k : ℕ) (bytes : List ℕ) → take 1 (take k bytes) ≡ 0 ∷ [] → take 1 bytes ≡ 0 ∷ []
@@ -118,7 +119,7 @@ module _ (file : List ℕ) (n : ℕ) (within : n ≤ length file) where
   pub item-kept : (part : Region) (at : ℕ) (item : Item) → whole_item_at part file at ≡ Some item
       → at + size_of item ≤ n → whole_item_at part cut at ≡ Some item
   item-kept part at item is low =
-      let here = item_of-is part file at item is in
+      let here = whole_item_at-is part file at item is in
       let size = size_of item in
       let own =
       kept_item file at item here.is (stream_belongs part item here.belongs) here.within in
@@ -127,7 +128,8 @@ module _ (file : List ℕ) (n : ℕ) (within : n ≤ length file) where
       drop-cut at (omega (arith, low)) ∙ sym (take-append-drop size (take (n - at) (drop at file)))
       ∙ ap (λ (xs : List ℕ). xs ++ rest)
       (take-take size (n - at) (drop at file) (omega (arith, low))) in
-      item_of-whole part cut at item (item_at-known cut at at (take size (drop at file) ++ rest)
+      whole_item_at-whole part cut at item
+      (item_at-known cut at at (take size (drop at file) ++ rest)
       item refl split (own.known rest)) here.belongs (omega (arith, low, length-cut))
 
   -- this item was cut through, or ends where the file does
@@ -153,7 +155,7 @@ module _ (file : List ℕ) (n : ℕ) (within : n ≤ length file) where
       → whole_item_at part cut at ≡ None
   cut-none part at item through =
       none-unless (whole_item_at part cut at) (λ now is.
-      let here = item_of-is part cut at now is in
+      let here = whole_item_at-is part cut at now is in
       not_whole part at item now (subst (λ x. IsCutItem x item)
-      here.is (item-cut at item through.low (item_of-is part file at item through.is).is))
+      here.is (item-cut at item through.low (whole_item_at-is part file at item through.is).is))
       through.over here.belongs (omega (arith, here.within, length-cut)))

@@ -1,10 +1,11 @@
 -- The first bytes of a file without fault and without junk.
 use Rattle.std.proofs.Common.{ap, arith, Err, inl, inr, length, length-append, List, None, Ok}
 use Rattle.std.proofs.Common.{Result, subst, sym, take, ℕ, ◌++◌, ◌+◌, ◌∙◌, ◌≡◌, ◌≤◌}
-use Rattle.sync_survey.proofs.{FaultsLemmas.marked-length, FoldersLemmas.surveyed_by}
-use Rattle.sync_survey.proofs.PlacedRowLemmas.{surveyed-placed}
+use Rattle.sync_survey.proofs.{FaultsLemmas.length-marked_rows, FoldersLemmas.survey_fields-by}
+use Rattle.sync_survey.proofs.PlacedRowLemmas.{survey_fields-placed}
 use Rattle.sync_survey.proofs.SurveyLemmas.{survey-stopped, survey-whole, told_by}
-use Rattle.sync_survey.proofs.SurveyPartsLemmas.{IsRead, surveyed-parts, surveyed-stream, told_from}
+use Rattle.sync_survey.proofs.SurveyPartsLemmas.{IsRead, survey_fields-parts, survey_fields-stream}
+use Rattle.sync_survey.proofs.SurveyPartsLemmas.{told_from}
 use Rattle.sync_survey.specs.Faults.{first_of, stream_of_survey, survey_fields, SurveyFields}
 use Rattle.sync_survey.specs.Items.{item_at, size_of}
 use Rattle.sync_survey.specs.MainData.{main_bytes, marked_rows, rows_of, stream_frames, StreamFrame}
@@ -15,7 +16,7 @@ use Rattle.sync_survey.specs.declared.survey_fault.SurveyFault.{SurveyFault}
 use Rattle.theorems.proofs.CutFrameLemmas.{are-in, end-now, first_in, found-now, frames, head, more}
 use Rattle.theorems.proofs.CutFrameLemmas.{no-faults, r, rows, rows-now, rows-were}
 use Rattle.theorems.proofs.{CutItemLemmas.cut, CutRunLemmas.{cut-start, IsCutStart, MayBeCut}}
-use Rattle.theorems.proofs.CutStreamLemmas.{marked-front}
+use Rattle.theorems.proofs.CutStreamLemmas.{marked_rows-front}
 use Rattle.theorems.specs.CutLaws.{IsCutAnswer, IsCutFault, IsStreamPrefix, PrefixFault}
 
 -- what a survey returns, by what it is equal to
@@ -47,7 +48,8 @@ module _ (file : List ℕ) (n : ℕ) (within : n ≤ length file) (allowed : ℕ
     were = ap (marked_rows s.head) (rows-were file n within start start_now kept allowed read)
 
     few : length own ≤ length s.frames
-    few = omega (arith, ap length were, marked-length s.head (own ++ left), length-append own left)
+    few = omega
+        (arith, ap length were, length-marked_rows s.head (own ++ left), length-append own left)
 
     whole : end_fault front (frames file n within start start_now kept allowed read)
         (fault_at (r file n within start start_now kept allowed read).stop (item_at front
@@ -68,9 +70,9 @@ module _ (file : List ℕ) (n : ℕ) (within : n ≤ length file) (allowed : ℕ
         let all = head file n within start start_now kept allowed read in
         let placed =
         subst (λ (rs : List Row). AreWellPlaced all t.class (marked_rows all rs)) now_rows
-        (surveyed-placed front allowed_now t is) in
+        (survey_fields-placed front allowed_now t is) in
         let found =
-        marked-front file n within
+        marked_rows-front file n within
         start.first (first_in file n within start start_now kept allowed read) t.class
         (frames file n within start start_now kept allowed read) left
         (are-in file n within start start_now kept allowed read) placed in (
@@ -96,8 +98,8 @@ module _ (file : List ℕ) (n : ℕ) (within : n ≤ length file) (allowed : ℕ
         found.2
     answer (inl none) is =
         let now_is = whole none in
-        let holds = surveyed-stream front (length s.frames) t now_is in
-        let held = surveyed-stream file allowed s is in
+        let holds = survey_fields-stream front (length s.frames) t now_is in
+        let held = survey_fields-stream file allowed s is in
         let part = stream-were (length s.frames) now_is in
         subst (IsCutAnswer file front) (sym now_is) (
           holds.well_formed,
@@ -114,7 +116,7 @@ module _ (file : List ℕ) (n : ℕ) (within : n ≤ length file) (allowed : ℕ
       answer there.0 there.1 (end-now file n within start there.0 there.1 allowed read) is
   by_start (inr found) is =
       fault_answer file front (survey_fields front (length s.frames))
-      found.0 (surveyed_by front (length s.frames) found.0 found.1) found.2
+      found.0 (survey_fields-by front (length s.frames) found.0 found.1) found.2
 
   -- the survey returns what it should for a file that was cut short
   pub cut-answer : survey_fields file allowed ≡ Ok s
@@ -124,7 +126,7 @@ module _ (file : List ℕ) (n : ℕ) (within : n ≤ length file) (allowed : ℕ
 -- the first bytes of a file without fault and junk have the fault that the definition names
 pub prefix-fault : PrefixFault
 prefix-fault file allowed s n is no_junk within =
-    let parts = surveyed-parts file allowed s is in
+    let parts = survey_fields-parts file allowed s is in
     let start = parts.0 in
     let told = parts.2 in
     let junk : start.first.offset ≡ start.front_end = ap (λ (t : SurveyFields). t.first) told

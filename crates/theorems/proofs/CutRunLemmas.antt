@@ -6,7 +6,8 @@ use Rattle.std.proofs.lemmas.List.{drop_all}
 use Rattle.frame_header.specs.Fields.{HeaderFields}
 use Rattle.laying.proofs.LaidRunLemmas.{front_end-is}
 use Rattle.sync_survey.proofs.{ItemListLemmas.stream_belongs, OneItemLemmas.stands-only_at}
-use Rattle.sync_survey.proofs.RunsLemmas.{IsItemOf, item_of-is, item_of-whole, run-ends, run-only}
+use Rattle.sync_survey.proofs.RunsLemmas.{IsItemOf, item_run-ends, item_run-only, whole_item_at-is}
+use Rattle.sync_survey.proofs.RunsLemmas.{whole_item_at-whole}
 use Rattle.sync_survey.proofs.StartLemmas.{start-first, start-front, start_is}
 use Rattle.sync_survey.specs.Items.{item_at, item_fits, size_of}
 use Rattle.sync_survey.specs.Runs.{AreEndToEnd, belongs, item_if_whole, item_run, ItemRun}
@@ -119,7 +120,7 @@ module _ (file : List ℕ) (n : ℕ) (within : n ≤ length file) where
   pub stop-fault : (at : ℕ) (item : Item) → IsCutThrough file n within Stream at item
       → MayBeCut (fault_at at (item_at now at))
   stop-fault at item through =
-      let here = item_of-is Stream file at item through.is in
+      let here = whole_item_at-is Stream file at item through.is in
       fault_cases at
       (item_at now at) item here.belongs (item-cut file n within at item through.low here.is)
 
@@ -148,7 +149,7 @@ module _ (file : List ℕ) (n : ℕ) (within : n ≤ length file) where
     NoFrame at,
     ap (start_at now at) same ∙ ends ∙ no-start file n within at item through (λ e. false≢true (
         sym apart ∙ ap (belongs Stream) (sym same ∙ sym is ∙ e)
-        ∙ (item_of-is Stream file at item through.is).belongs
+        ∙ (whole_item_at-is Stream file at item through.is).belongs
         )),
     tt,
   )
@@ -158,7 +159,7 @@ module _ (file : List ℕ) (n : ℕ) (within : n ≤ length file) where
       → item_at now at ≡ x → IsCutItem x item
       → (fault : SurveyFault) × (start_at now at x ≡ Err fault) × IsCutFault fault
   no_start at item through x is (inl same) =
-      whole_start item same (item_of-is Stream file at item through.is).belongs through
+      whole_start item same (whole_item_at-is Stream file at item through.is).belongs through
     where
       unfit : (h : HeaderFields) → n < at + size_of (Frame h)
           → start_at now at (Frame h) ≡ Err (Truncated at)
@@ -189,9 +190,9 @@ module _ (file : List ℕ) (n : ℕ) (within : n ≤ length file) where
   in_stream : (part : Region) (at : ℕ) (item : Item) → IsCutThrough file n within part at item
       → IsCutThrough file n within Stream at item
   in_stream part at item through =
-      let here = item_of-is part file at item through.is in
+      let here = whole_item_at-is part file at item through.is in
       record {
-        is = item_of-whole Stream file at item here.is (stream_belongs part item here.belongs)
+        is = whole_item_at-whole Stream file at item here.is (stream_belongs part item here.belongs)
             here.within;
         low = through.low;
         over = through.over;
@@ -201,7 +202,7 @@ module _ (file : List ℕ) (n : ℕ) (within : n ≤ length file) where
   front-now : (front : List PlacedItem) (stop : ℕ) → AreEndToEnd Front now 0 front stop
       → whole_item_at Front now stop ≡ None → stop ≡ front_end_of now
   front-now front stop ends none =
-      sym (ap (λ (r : ItemRun). r.stop) (run-only Front now 0 front stop ends none))
+      sym (ap (λ (r : ItemRun). r.stop) (item_run-only Front now 0 front stop ends none))
       ∙ front_end-is now
 
   module _ (start : Start) (is : start_of file ≡ Ok start)
@@ -223,15 +224,15 @@ module _ (file : List ℕ) (n : ℕ) (within : n ≤ length file) where
         → stop ≡ front_end_of now → IsCutStart start
     cut_through stop item through front =
         let cut_item = item-cut file n within stop item
-        through.low (item_of-is Stream file stop item through.is).is in
+        through.low (whole_item_at-is Stream file stop item through.is).is in
         let none = no_start stop item through (item_at now stop) refl cut_item in
         inr (none.0, start_is now stop (item_at now stop) front refl ∙ none.1, none.2)
 
     -- it is whole
     still_there : at + size_of (Frame h) ≤ n → at ≡ front_end_of now → IsCutStart start
     still_there kept front =
-        let there = item_of-whole Stream file at (Frame h) frame.is refl frame.within in
-        let here = item_of-is Stream now at (Frame h)
+        let there = whole_item_at-whole Stream file at (Frame h) frame.is refl frame.within in
+        let here = whole_item_at-is Stream now at (Frame h)
         (item-kept file n within Stream at (Frame h) there kept) in
         let fit : item_fits now at (Frame h) ≡ true = le-leb (size_of (Frame h)) (length now - at)
         (omega (arith, kept, length-cut file n within)) in
@@ -250,7 +251,7 @@ module _ (file : List ℕ) (n : ℕ) (within : n ≤ length file) where
         let front : at ≡ front_end_of now = sym stop ∙ front-now r.front r.stop r.ends none in
         elim (cases_lt n (at + size_of (Frame h))) as (λ _. IsCutStart start) [
           | inl over ↦ cut_through at (Frame h) (record {
-            is = item_of-whole Stream file at (Frame h) frame.is refl frame.within;
+            is = whole_item_at-whole Stream file at (Frame h) frame.is refl frame.within;
             low = omega (arith, stop, r.low);
             over = over;
           }) front
@@ -264,6 +265,6 @@ module _ (file : List ℕ) (n : ℕ) (within : n ≤ length file) where
     pub cut-start : IsCutStart start
     cut-start =
         let r = cut-run Front 0
-        (item_run Front file 0).items (item_run Front file 0).stop (run-ends Front file 0)
+        (item_run Front file 0).items (item_run Front file 0).stop (item_run-ends Front file 0)
         (omega arith) in
         by_front r r.last

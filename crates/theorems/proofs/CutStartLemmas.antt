@@ -9,9 +9,10 @@ use Rattle.frame_header.proofs.LengthLemmas.{least_length, length-least}
 use Rattle.frame_header.specs.{Fields.{HeaderFields, IsHeader}, Tables.{class_of, length_of}}
 use Rattle.frame_header.specs.declared.{header.NotHeader.TheVariants.No, version.Version.Version}
 use Rattle.frame_header.specs.declared.version.Version.TheVariants.{One, Two, TwoFive}
-use Rattle.sync_survey.proofs.ItemBytesLemmas.{front_as-take, header_front-four, known_by}
+use Rattle.sync_survey.proofs.ItemBytesLemmas.{block_of_kind-take, header_front-four, known_by}
 use Rattle.sync_survey.proofs.ItemsLemmas.{header_front-in_range, stands-at}
-use Rattle.sync_survey.proofs.{OneItemLemmas.{no_header, stands-only_at}, RunsLemmas.item_of-is}
+use Rattle.sync_survey.proofs.OneItemLemmas.{no_header, stands-only_at}
+use Rattle.sync_survey.proofs.RunsLemmas.{whole_item_at-is}
 use Rattle.sync_survey.proofs.StartLemmas.{anchored_frame-is, first_anchored-none}
 use Rattle.sync_survey.specs.{Items.{header_front, IsItemFront, item_at, size_of}, Runs.belongs}
 use Rattle.sync_survey.specs.Start.{anchored_frame, first_anchored, longest_junk, start_after_junk}
@@ -88,7 +89,7 @@ module _ (file : List ℕ) (n : ℕ) (within : n ≤ length file) where
       sym (stands-only_at now at (Block b)
       (ap block_front (drop-cut file n within at (omega (arith, high)))
       ∙ block_front-any b.kind (take k bytes) b
-      (front_as-take b.kind k bytes (omega (arith, high)) ∙ block_front-own bytes b here)))
+      (block_of_kind-take b.kind k bytes (omega (arith, high)) ∙ block_front-own bytes b here)))
 
   byte-there : (at offset : ℕ) → at ≤ offset → offset < n
       → get_or (drop offset now) 0 0 ≡ get_or (drop at file) (offset - at) 0
@@ -151,7 +152,7 @@ module _ (file : List ℕ) (n : ℕ) (within : n ≤ length file) where
       let header : header_front (drop p.offset now) ≡ Ok p.header =
       stands-at now p.offset (Frame p.header) anchored.frame.is in
       let size = least-24 p.header (header_front-in_range (drop p.offset now) p.header header) in
-      let whole = item_of-is Stream file at item through.is in
+      let whole = whole_item_at-is Stream file at item through.is in
       later-none at item p.header p.offset (stands-at file at item whole.is)
       whole.belongs through.over unknown
       (record {

@@ -106,10 +106,10 @@ module _ (file : List ℕ) (n : ℕ) (within : n ≤ length file) where
   marks-in head all k [] are = tt
   marks-in head all k (r ∷ rows) are = (are.0, marks-in head all (k + 1) rows are.1)
 
-  marked-in : (head : Option Head) (rows : List Row) → AreIn file n within rows
+  marked_rows-in : (head : Option Head) (rows : List Row) → AreIn file n within rows
       → AreIn file n within (marked_rows head rows)
   unfolding marked_rows
-  marked-in head rows are = marks-in head rows 0 rows are
+  marked_rows-in head rows are = marks-in head rows 0 rows are
 
   abbrev areas : List ℕ → List Row → List ℕ
   areas f rows = flat_map (λ (r : Row). area_bytes f r.offset r.header) rows
@@ -264,19 +264,19 @@ module _ (file : List ℕ) (n : ℕ) (within : n ≤ length file) where
           )
 
     -- with the rows marked, the stream of the first frames begins the stream of all frames too
-    pub marked-front : (class : ClassFields) (ps : List PlacedFrame) (gone : List Row)
+    pub marked_rows-front : (class : ClassFields) (ps : List PlacedFrame) (gone : List Row)
         → AreIn file n within (rows_of file ps)
         → AreWellPlaced head class (marked_rows head (rows_of file ps))
         → (rest : List StreamFrame) × (stream_frames (main_bytes now head
         (marked_rows head (rows_of file ps))) head (marked_rows head (rows_of file ps)) ++ rest
         ≡ stream_frames (main_bytes file head (marked_rows head (rows_of file ps ++ gone))) head
         (marked_rows head (rows_of file ps ++ gone)))
-    marked-front class ps gone are placed =
+    marked_rows-front class ps gone are placed =
         let rows = rows_of file ps in
         let later = map (λ (p : ℕ × Row). marked_row head (rows ++ gone) p.0 p.1)
         (enumerate_from (length rows) gone) in
         let found =
-        stream-front class (marked_rows head rows) later (marked-in head rows are) placed in (
+        stream-front class (marked_rows head rows) later (marked_rows-in head rows are) placed in (
           found.0,
           found.1 ∙ ap (λ (rs : List Row). stream_frames (main_bytes file head rs) head rs)
               (sym (marks-front head rows gone)),

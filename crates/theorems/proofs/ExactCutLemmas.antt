@@ -9,8 +9,8 @@ use Rattle.std.specs.List.{concat, list_all}
 use Rattle.std.specs.Prelude.{bytes_eq, is_some, option_map, slice_get, slice_range}
 use Rattle.commands.specs.SingleOutput.{most_frames}
 use Rattle.cut_edits.proofs.ChosenLemmas.{the-plan}
-use Rattle.cut_edits.proofs.PieceLemmas.{head_long, plain-long, span_apart, span_chosen}
-use Rattle.cut_edits.{proofs.SpanLemmas.led-is, specs.Chosen.first_plan}
+use Rattle.cut_edits.proofs.PieceLemmas.{head_long, plain-long, span-survey_without_head}
+use Rattle.cut_edits.{proofs.{PieceLemmas.span_chosen, SpanLemmas.led-is}, specs.Chosen.first_plan}
 use Rattle.cut_edits.specs.Exact.{IsSpanIn, quality_of, span_lead_ins, span_needs, span_piece}
 use Rattle.cut_edits.specs.Exact.{span_plan}
 use Rattle.exact_span.specs.Extensions.{extension_of, kept_extension}
@@ -29,8 +29,8 @@ use Rattle.join_edits.specs.Seamless.{run_plan, seamless_file, seamless_frames, 
 use Rattle.join_edits.specs.Seamless.{seamless_padding, seamless_row_file}
 use Rattle.laying.proofs.HoldLemmas.{part-entries, part-stream}
 use Rattle.laying.proofs.LaidLemmas.{first-there, laid-slots}
-use Rattle.laying.proofs.PlannedFrameLemmas.{one, one-entry, one-stream, relaid-cons, slot_among}
-use Rattle.laying.proofs.RelayLemmas.{range-next}
+use Rattle.laying.proofs.PlannedFrameLemmas.{one, one-entry, one-stream, relaid_frames-cons}
+use Rattle.laying.proofs.{PlannedFrameLemmas.slot_among, RelayLemmas.range-next}
 use Rattle.laying.specs.Laid.{frames_laid, info_laid, LaidPart, source_part}
 use Rattle.laying.specs.{LaidFiles.{AreStreamEntries, laid_file, stream_entry}, Needs.need_of}
 use Rattle.laying.specs.NeedsFit.{own_choice}
@@ -49,7 +49,7 @@ use Rattle.slot_plan.specs.Parts.{open_frame, own_frame, part_items}
 use Rattle.slot_plan.specs.{Plans.{AreItemSlots, IsLedPlan, IsPlan}, declared.needs.Need.Need}
 use Rattle.slot_plan.specs.declared.needs.Placed.{Placed}
 use Rattle.sync_survey.specs.{Faults.{survey_fields, SurveyFields}, MainData.StreamFrame, Row.Row}
-use Rattle.theorems.proofs.BareFrameLemmas.{bare-same, relaid-same}
+use Rattle.theorems.proofs.BareFrameLemmas.{bare-same, relaid_frames-same}
 use Rattle.theorems.proofs.ExactFileLemmas.{has-own, head, IsFound, IsLaidLed, IsLaidOwn, laid_by}
 use Rattle.theorems.proofs.ExactFileLemmas.{leads, own, own-leads, piece-by, plain, span-fitting}
 use Rattle.theorems.proofs.ExactFileLemmas.{span-long, span-ways}
@@ -151,13 +151,13 @@ led-run window first needs led run is own begins =
     }
 
 -- frames after a lead-in, in the slots of that plan, are relaid as the frames after a lead-in
-led-relaid : (lead : Placed) (rest : List Placed) (f : Frame) (fs : List Frame)
+led-relaid_frames : (lead : Placed) (rest : List Placed) (f : Frame) (fs : List Frame)
     → lead.lead_in ≡ true
     → relaid_frames (lead_in_with_place lead f ∷ f ∷ fs) (record lead { lead_in = false } ∷ rest)
     ≡ relaid_frames (f ∷ fs) (lead ∷ rest)
-led-relaid lead rest f fs leads =
-    relaid-cons (record lead { lead_in = false }) rest (lead_in_with_place lead f) (f ∷ fs)
-    ∙ sym (relaid-cons lead rest f fs
+led-relaid_frames lead rest f fs leads =
+    relaid_frames-cons (record lead { lead_in = false }) rest (lead_in_with_place lead f) (f ∷ fs)
+    ∙ sym (relaid_frames-cons lead rest f fs
     ∙ ap (λ b. one b lead f ∷ relaid_frames (rest_behind b f fs) rest) leads)
 
 -- ---- the first frame of the run
@@ -188,7 +188,7 @@ module _ (file : List ℕ) (s : SurveyFields) (has : CanBeRelaid file s)
       let long = head_long file s.head in
       let delay : ℕ = delay_of s.class (leads file s has span) span in
       let info : Info = info_laid (plain file s has span) file (own file s has) in
-      let there = span_apart s span piece.1.there in
+      let there = span-survey_without_head s span piece.1.there in
       keeps-by (head file s has) long delay (padding_of span)
       (read_of c from to p is piece).extension
       (ap (take 28) (read-extension file s has few from to span piece.1 c p is piece.2)
@@ -254,7 +254,7 @@ module _ (file : List ℕ) (s : SurveyFields) (has : CanBeRelaid file s)
   found = whole-found file s has few known place next places first parts inputs files
 
   inside : IsSpanIn t span
-  inside = span_apart s span found.there
+  inside = span-survey_without_head s span found.there
 
   row-is : slice_get t.frames span.first ≡ Some row
   row-is = ap (slice_get t.frames) (sym first-same) ∙ piece.2.row_is
@@ -350,7 +350,7 @@ module _ (file : List ℕ) (s : SurveyFields) (has : CanBeRelaid file s)
   bare-frames : stream first parts inputs ≡ stream_all → run_plan first parts ≡ placed
       → seamless_frames first parts ≡ relaid_frames (part_frames part) placed
   bare-frames streams plans =
-      relaid-same run_frames_in (part_frames part) (run_plan first parts)
+      relaid_frames-same run_frames_in (part_frames part) (run_plan first parts)
       (bare-same s.class known run_frames_in (part_frames part) all_read.entries
       (part-entries s.class part part-is)
       (all_read.is ∙ streams ∙ sym part-streams))
@@ -623,11 +623,11 @@ module _ (file : List ℕ) (s : SurveyFields) (has : CanBeRelaid file s)
           ≡ silent_lead_in brought.first ∷ stream_all =
           ap₂ (λ (x : StreamFrame) (xs : List StreamFrame). x ∷ xs)
           (one-stream true as-run.lead f ∙ ap silent_lead_in entry) all in
-          relaid-same run_frames_in (led_frame ∷ f ∷ fs) (run_plan first parts)
+          relaid_frames-same run_frames_in (led_frame ∷ f ∷ fs) (run_plan first parts)
           (bare-same s.class known run_frames_in (led_frame ∷ f ∷ fs) all_read.entries
           (own_entry, entries) (all_read.is ∙ streams ∙ sym heard))
           ∙ ap (relaid_frames (led_frame ∷ f ∷ fs)) as-run.run_is
-          ∙ led-relaid as-run.lead as-run.rest f fs as-run.leads
+          ∙ led-relaid_frames as-run.lead as-run.rest f fs as-run.leads
           ∙ ap₂ (λ (xs : List Frame) (ps : List Placed). relaid_frames xs ps) (sym are)
           (sym (placed-led ∙ as-run.led_is))
 
@@ -762,7 +762,7 @@ module _ (file : List ℕ) (s : SurveyFields) (has : CanBeRelaid file s)
     module _ (most : ℕ) (e : survey_fields file most ≡ Ok s) where
       blocks-are : front_blocks first.file first.survey ≡ front_blocks file t
       blocks-are =
-          let there = span_apart s piece.0 piece.1.there in
+          let there = span-survey_without_head s piece.0 piece.1.there in
           front-same (laid_by file s has piece.0 row) file t (has-own file s has) there.some
           there.within (span-fitting file s has piece.0 piece.1.there row piece.2.row_is)
           (span-long file s has piece.0 piece.1.there row piece.2.row_is) row piece.2.row_is

@@ -6,11 +6,13 @@ use Rattle.std.proofs.{Common.{◌<◌, ◌∙◌, ◌∷◌, ◌≡◌, ◌≤�
 use Rattle.std.proofs.lemmas.List.{drop-map, length-drop, length-map, length-take-le, take-map}
 use Rattle.std.specs.List.{concat}
 use Rattle.std.specs.Prelude.{if◌then◌else◌, nat_le, nat_lt, option_map, slice_get, slice_range}
-use Rattle.commands.proofs.RefusingLemmas.{unless_ok}
-use Rattle.cut_edits.proofs.{ChosenLemmas.the-plan, HeadLemmas.{apart-had, apart-placed}}
-use Rattle.cut_edits.proofs.PieceLemmas.{head_long, plain-long, samples_there, span-there}
-use Rattle.cut_edits.proofs.{PieceLemmas.{span_apart, span_chosen}, SealedLemmas.for-whole}
-use Rattle.cut_edits.{proofs.SpanLemmas.{led-is, with-fitting}, specs.Chosen.Chosen}
+use Rattle.commands.proofs.RefusingLemmas.{refusal_or-ok}
+use Rattle.cut_edits.proofs.ChosenLemmas.{the-plan}
+use Rattle.cut_edits.proofs.HeadLemmas.{survey_without_head-had, survey_without_head-placed}
+use Rattle.cut_edits.proofs.PieceLemmas.{head_long, plain-long, samples_there}
+use Rattle.cut_edits.proofs.PieceLemmas.{span-survey_without_head, span-there, span_chosen}
+use Rattle.cut_edits.proofs.{SealedLemmas.for-whole, SpanLemmas.{led-is, with-fitting}}
+use Rattle.cut_edits.specs.Chosen.{Chosen}
 use Rattle.cut_edits.specs.Exact.{file_span, IsSpanIn, row_sealed_part, samples_fault}
 use Rattle.cut_edits.specs.Exact.{span_lead_ins, span_needs, span_part, span_piece, span_plan}
 use Rattle.cut_edits.specs.Exact.{survey_without_head}
@@ -37,8 +39,9 @@ use Rattle.slot_plan.proofs.OwnLeadInLemmas.{lead-where-wanted}
 use Rattle.slot_plan.specs.{Laws.{AreInOwnSlots, AreLedInOwnSlots}, Plans.IsLedPlan}
 use Rattle.slot_plan.specs.declared.needs.{Need.Need, Placed.Placed}
 use Rattle.split_edits.specs.Recording.{input_played, sample_named}
-use Rattle.sync_survey.proofs.FaultsLemmas.{marked-length}
-use Rattle.sync_survey.proofs.SurveyPartsLemmas.{all_faults-none_sound, frames_from, surveyed-parts}
+use Rattle.sync_survey.proofs.FaultsLemmas.{length-marked_rows}
+use Rattle.sync_survey.proofs.SurveyPartsLemmas.{all_faults-none_sound, frames_from}
+use Rattle.sync_survey.proofs.SurveyPartsLemmas.{survey_fields-parts}
 use Rattle.sync_survey.specs.Faults.{class_from, survey_fields, SurveyFields}
 use Rattle.sync_survey.specs.{MainData.{rows_of, StreamFrame}, Row.Row, Walk.head_of}
 use Rattle.theorems.proofs.LaidInputLemmas.{brings-led, brings-own, BringsLed, BringsOwn}
@@ -54,14 +57,14 @@ use Rattle.theorems.proofs.SplitJoinLemmas.{stream-many}
 pub frames-few : (file : List ℕ) (allowed : ℕ) (s : SurveyFields)
     → survey_fields file allowed ≡ Ok s → length s.frames ≤ allowed
 frames-few file allowed s e =
-    let parts = surveyed-parts file allowed s e in
+    let parts = survey_fields-parts file allowed s e in
     let head = head_of file parts.0.first in
     let rows = rows_of file (frames_from file parts.0) in
     omega (
       arith,
       few-rows file head (class_from parts.0) allowed rows
           (all_faults-none_sound file head (class_from parts.0) allowed rows parts.1.frames),
-      marked-length head rows,
+      length-marked_rows head rows,
       ap (λ (t : SurveyFields). length t.frames) parts.2,
     )
 
@@ -108,7 +111,7 @@ module _ (file : List ℕ) (s : SurveyFields) (has : CanBeRelaid file s) where
 
   -- frames can be laid by this survey
   pub has-own : CanBeRelaid file own
-  has-own = apart-had file s has (apart-placed s has.placed)
+  has-own = survey_without_head-had file s has (survey_without_head-placed s has.placed)
 
   -- the first position that is played
   abbrev pub begin : ℕ
@@ -147,7 +150,7 @@ module _ (file : List ℕ) (s : SurveyFields) (has : CanBeRelaid file s) where
   unfolding file_span
   span-found from to span e =
       let samples = length_of_played (input_played file s) in
-      let ok = unless_ok (samples_fault (sample from) (sample to) samples)
+      let ok = refusal_or-ok (samples_fault (sample from) (sample to) samples)
       (span_of s.class (begin + sample from) (begin + sample to)) span e in
       let inside =
       samples_there (sample from) (sample to) samples
@@ -180,7 +183,7 @@ module _ (file : List ℕ) (s : SurveyFields) (has : CanBeRelaid file s) where
   pub laid-exact : (span : Span) → IsSpanIn s span
       → IsExactFile span (file_laid (span_piece head span file own) file own)
   laid-exact span there =
-      let inside = span_apart s span there in
+      let inside = span-survey_without_head s span there in
       let first = first-there own.frames span.first (omega (arith, inside.some, inside.within)) in
       record {
         row = first.0;
@@ -251,7 +254,7 @@ module _ (file : List ℕ) (s : SurveyFields) (has : CanBeRelaid file s) where
     chosen = span_chosen head span
 
     inside : IsSpanIn own span
-    inside = span_apart s span there
+    inside = span-survey_without_head s span there
 
     -- the span can be laid
     pub span-fitting : IsFittingPlan window needs placed

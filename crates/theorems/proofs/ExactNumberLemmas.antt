@@ -11,7 +11,7 @@ use Rattle.std.specs.Prelude.{bytes_eq, codes, if◌then◌else◌, nat_le, nat_
 use Rattle.std.specs.Prelude.{slice_range, ◌||◌}
 use Rattle.commands.specs.{Refusing.refusal_or, SingleOutput.most_frames}
 use Rattle.commands.specs.declared.fault.Refusal.TheVariants.{Span as NoSpan}
-use Rattle.cut_edits.proofs.{PieceLemmas.span_apart, SealedLemmas.for-whole}
+use Rattle.cut_edits.proofs.{PieceLemmas.span-survey_without_head, SealedLemmas.for-whole}
 use Rattle.cut_edits.specs.Exact.{file_span, quality_of}
 use Rattle.exact_span.proofs.ExtensionLemmas.{extension-length, extension-says}
 use Rattle.exact_span.proofs.{SealLemmas.frames-sealed, SpanLemmas.span-in_range}
@@ -376,7 +376,7 @@ module _ (file : List ℕ) (s : SurveyFields) (has : CanBeRelaid file s)
       run-laid first parts (whole-file first.survey.class first inputs.0)
       (whole-files first.survey.class parts inputs.1) in
       let all : List StreamFrame = st file s has few in
-      let there = span_apart s whole_span whole-found.there in
+      let there = span-survey_without_head s whole_span whole-found.there in
       let last : ℕ = ended_at file s has few (last_place next places) in
       sym (length-map (seamless_frames first parts) stream_entry)
       ∙ ap (λ (l : List StreamFrame). length l) (laid.stream_is ∙ joined.stream_is)

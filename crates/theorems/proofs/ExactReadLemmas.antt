@@ -4,8 +4,9 @@ use Rattle.std.proofs.{Common.{◌<◌, ◌^◌, ◌∙◌, ◌∷◌, ◌≡◌
 use Rattle.std.proofs.lemmas.List.FromFn.{length-range_with_len}
 use Rattle.std.specs.{List.{concat, range_with_len}, Prelude.slice_get}
 use Rattle.commands.specs.SingleOutput.{most_frames}
-use Rattle.cut_edits.proofs.{HeadLemmas.apart-length, PieceLemmas.span_apart}
-use Rattle.cut_edits.{proofs.SealedLemmas.for-whole, specs.Exact.quality_of}
+use Rattle.cut_edits.proofs.HeadLemmas.{survey_without_head-length}
+use Rattle.cut_edits.proofs.{PieceLemmas.span-survey_without_head, SealedLemmas.for-whole}
+use Rattle.cut_edits.specs.Exact.{quality_of}
 use Rattle.exact_span.proofs.SealLemmas.{sealed-whole}
 use Rattle.exact_span.specs.Laws.{AreInfoFields, IsPieceHead, KeepsPlaces, SaysNumbers}
 use Rattle.exact_span.specs.{PlayedPositions.played_of, Spans.{delay_of, padding_of}}
@@ -23,7 +24,7 @@ use Rattle.laying.specs.LaidFiles.{frames_offset, head_at, IsLaidFile, laid_fiel
 use Rattle.laying.specs.{LaidFiles.rows_from, Relaid.FilePart, Surveys.CanBeRelaid}
 use Rattle.laying.specs.Written.{front_blocks, head_info, info_for, table_entry}
 use Rattle.split_edits.specs.Recording.{input_played}
-use Rattle.sync_survey.proofs.SurveyPartsLemmas.{surveyed-allowed}
+use Rattle.sync_survey.proofs.SurveyPartsLemmas.{survey_fields-allowed}
 use Rattle.sync_survey.proofs.SurveyedFileLemmas.{survey_of-parts}
 use Rattle.sync_survey.specs.{Faults.{survey_fields, SurveyFields}, Row.Row, Survey.survey_of}
 use Rattle.theorems.proofs.ExactFileLemmas.{sample}
@@ -121,8 +122,8 @@ module _ (file : List ℕ) (s : SurveyFields) (has : CanBeRelaid file s)
       omega (
         arith,
         (many-leads file s has few known place next places first parts inputs files).one,
-        (span_apart s span found.there).within,
-        apart-length s,
+        (span-survey_without_head s span found.there).within,
+        survey_without_head-length s,
         few,
       )
 
@@ -146,7 +147,7 @@ module _ (file : List ℕ) (s : SurveyFields) (has : CanBeRelaid file s)
         subst (λ (l : List ℕ). survey_fields l allowed ≡ Ok j) join-is
         (survey_of-parts (seamless_file (first ∷ parts)) allowed j e).1 in
         let both : Ok j ≡ Ok (laid_fields blocks header info frames []) =
-        sym (surveyed-allowed laid allowed most j (omega arith) is)
+        sym (survey_fields-allowed laid allowed most j (omega arith) is)
         ∙ laid-survey first.survey.class blocks header info frames [] most file-is (omega arith) in
         cc
 

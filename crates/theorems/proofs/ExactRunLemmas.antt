@@ -9,7 +9,7 @@ use Rattle.std.proofs.lemmas.List.{drop-append-le, drop-drop, drop-take, length-
 use Rattle.std.{proofs.lemmas.List.length-take-le, specs.List.list_all}
 use Rattle.std.specs.Prelude.{slice_get, slice_range}
 use Rattle.commands.specs.SingleOutput.{most_frames}
-use Rattle.cut_edits.proofs.PieceLemmas.{span_apart}
+use Rattle.cut_edits.proofs.PieceLemmas.{span-survey_without_head}
 use Rattle.exact_span.specs.PlayedPositions.{rest_of, samples_in}
 use Rattle.exact_span.specs.Spans.{frames_before, warm_up_frame}
 use Rattle.exact_span.specs.declared.{exact_place.ExactPlace.ExactPlace, played.Played.Played}
@@ -448,7 +448,7 @@ module _ (file : List ℕ) (s : SurveyFields) (has : CanBeRelaid file s)
   -- the first piece has a frame of the recording
   pub first-some : 0 < length (slice_range (st file s has few) low piece.0.last)
   first-some =
-      let there = span_apart s piece.0 piece.1.there in
+      let there = span-survey_without_head s piece.0 piece.1.there in
       omega (
         arith,
         length-take-le (piece.0.last - low) (drop low (st file s has few))

@@ -5,9 +5,10 @@ use Rattle.std.proofs.Common.{ℕ, [], ◌%◌, ◌*◌, ◌++◌, ◌+◌, ◌-
 use Rattle.std.proofs.lemmas.List.{length-append, length-drop, length-map, length-take-le}
 use Rattle.std.specs.{List.concat, Prelude.slice_range}
 use Rattle.commands.specs.SingleOutput.{most_frames}
-use Rattle.cut_edits.proofs.{HeadLemmas.apart-length, PieceLemmas.span_apart}
-use Rattle.cut_edits.proofs.{PlayLemmas.pieces-play, SealedLemmas.for-whole}
-use Rattle.cut_edits.specs.{Exact.{IsSpanIn, span_lead_ins}, ExactLaws.PlaysItsSamples}
+use Rattle.cut_edits.proofs.HeadLemmas.{survey_without_head-length}
+use Rattle.cut_edits.proofs.{PieceLemmas.span-survey_without_head, PlayLemmas.pieces-play}
+use Rattle.cut_edits.{proofs.SealedLemmas.for-whole, specs.Exact.{IsSpanIn, span_lead_ins}}
+use Rattle.cut_edits.specs.ExactLaws.{PlaysItsSamples}
 use Rattle.exact_span.proofs.PlayedLemmas.{places-kept}
 use Rattle.exact_span.specs.Laws.{AreInfoFields, IsPieceHead, KeepsPlaces, SaysNumbers}
 use Rattle.exact_span.specs.PlayedPositions.{counted_positions, played_of, samples_in}
@@ -126,7 +127,7 @@ module _ (file : List ℕ) (s : SurveyFields) (has : CanBeRelaid file s)
 
       -- the frames of the span are there
       pub inside : IsSpanIn (own file s has) span
-      inside = span_apart s span found.there
+      inside = span-survey_without_head s span found.there
 
       -- what is laid plays the samples of the span
       plays : PlaysItsSamples (head file s has) s (sample file s has from) (sample file s has to)
@@ -154,7 +155,7 @@ module _ (file : List ℕ) (s : SurveyFields) (has : CanBeRelaid file s)
           (span-long file s has span found.there made.row made.row_is)
 
       count-small : many + (span.last - span.first) < 256 ^ 4
-      count-small = omega (arith, plays.leads.one, inside.within, apart-length s, few)
+      count-small = omega (arith, plays.leads.one, inside.within, survey_without_head-length s, few)
 
       read-count : read.frames ≡ Some (many + (span.last - span.first))
       read-count =

@@ -3,7 +3,7 @@ use Rattle.std.proofs.Common.{ap, arith, Bool, false, inl, inr, length, List, ma
 use Rattle.std.proofs.Common.{Some, subst, sym, true, ℕ, [], ◌++◌, ◌∙◌, ◌∷◌, ◌≡◌, ◌≤◌}
 use Rattle.std.{proofs.lemmas.Bool.and_parts, specs.Prelude.slice_range}
 use Rattle.commands.specs.SingleOutput.{most_frames}
-use Rattle.cut_edits.{proofs.PieceLemmas.span_apart, specs.Exact.span_piece}
+use Rattle.cut_edits.{proofs.PieceLemmas.span-survey_without_head, specs.Exact.span_piece}
 use Rattle.exact_span.specs.{Spans.span_of, declared.exact_place.ExactPlace.ExactPlace}
 use Rattle.exact_span.specs.declared.span.Span.{Span}
 use Rattle.frame_header.specs.{Fields.IsClass, Tables.window_of}
@@ -168,7 +168,7 @@ module _ (file : List ℕ) (s : SurveyFields) (has : CanBeRelaid file s)
           → IsExactFile file s has all_span bytes
       joined-piece bytes is =
           let found = whole-found file s has few known place next places first parts inputs files in
-          let inside = span_apart s all_span found.there in
+          let inside = span-survey_without_head s all_span found.there in
           let row =
           first-there (own file s has).frames all_span.first
           (omega (arith, inside.some, inside.within)) in

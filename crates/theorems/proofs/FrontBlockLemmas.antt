@@ -12,7 +12,8 @@ use Rattle.info_header.specs.{InfoFrame.info_frame, declared.fields.Info.Info}
 use Rattle.laying.specs.LaidFiles.{block_bytes, blocks_from, frames_offset, laid_fields, laid_file}
 use Rattle.laying.specs.Written.{front_blocks, goes_in_front, is_id3v2_kind}
 use Rattle.sync_survey.proofs.{ItemBytesLemmas.block_front-bytes, ItemsLemmas.stands-at}
-use Rattle.sync_survey.proofs.{RunsLemmas.{item_of-is, run-ends}, SurveyPartsLemmas.surveyed-parts}
+use Rattle.sync_survey.proofs.RunsLemmas.{item_run-ends, whole_item_at-is}
+use Rattle.sync_survey.proofs.SurveyPartsLemmas.{survey_fields-parts}
 use Rattle.sync_survey.specs.{Faults.{survey_fields, SurveyFields}, Items.{item_at, size_of}}
 use Rattle.sync_survey.specs.Runs.{AreEndToEnd, block_of_item, blocks_of, item_run, PlacedItem}
 use Rattle.sync_survey.specs.{Walk.{all_blocks, stream_run}, declared.items.Item.Item}
@@ -56,7 +57,7 @@ ends-own : (part : Region) (file : List ℕ) (from : ℕ) (ps : List PlacedItem)
     → AreEndToEnd part file from ps to → AreOwn file (blocks_of ps)
 ends-own part file from [] to ends = tt
 ends-own part file from (p ∷ ps) to ends =
-    let here = item_of-is part file p.offset p.item ends.1 in
+    let here = whole_item_at-is part file p.offset p.item ends.1 in
     own-more file p.offset p.item (blocks_of ps) here.is here.within
     (ends-own part file (p.offset + size_of p.item) ps to ends.2)
 
@@ -70,14 +71,14 @@ all-own file start =
     let front = item_run Front file 0 in
     let stream = stream_run file start in
     own-append file (blocks_of front.items) (blocks_of stream.items)
-    (ends-own Front file 0 front.items front.stop (run-ends Front file 0))
+    (ends-own Front file 0 front.items front.stop (item_run-ends Front file 0))
     (ends-own Stream file start.first.offset stream.items stream.stop
-    (run-ends Stream file start.first.offset))
+    (item_run-ends Stream file start.first.offset))
 
-surveyed-own : (file : List ℕ) (allowed : ℕ) (s : SurveyFields) → survey_fields file allowed ≡ Ok s
-    → AreOwn file s.blocks
-surveyed-own file allowed s e =
-    let parts = surveyed-parts file allowed s e in
+survey_fields-own : (file : List ℕ) (allowed : ℕ) (s : SurveyFields)
+    → survey_fields file allowed ≡ Ok s → AreOwn file s.blocks
+survey_fields-own file allowed s e =
+    let parts = survey_fields-parts file allowed s e in
     subst (λ (t : SurveyFields). AreOwn file t.blocks) parts.2 (all-own file parts.0)
 
 -- the blocks that go before the frames
@@ -199,4 +200,4 @@ module _ (file : List ℕ) (s : SurveyFields) (allowed : ℕ) (e : survey_fields
       ∙ front-again file fields made
       (info_frame first info ++ (bytes_of_frames frames ++ concat back))
       (filter (goes_in_front s) s.blocks) []
-      (front-of file s s.blocks (surveyed-own file allowed s e)) refl (omega arith)
+      (front-of file s s.blocks (survey_fields-own file allowed s e)) refl (omega arith)

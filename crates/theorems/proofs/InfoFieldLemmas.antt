@@ -88,10 +88,10 @@ kept-by : (b : Bool) (extension : List ℕ) → length extension ≡ 36
 kept-by true extension long = long
 kept-by false extension long = refl
 
-kept-long : (head : Option Info) → IfSome head (λ (i : Info). length i.extension ≡ 36)
+kept_extension-long : (head : Option Info) → IfSome head (λ (i : Info). length i.extension ≡ 36)
     → length (kept_extension head) ≡ 36
-kept-long None long = refl
-kept-long (Some info) long = kept-by (has_encoder info.extension) info.extension long
+kept_extension-long None long = refl
+kept_extension-long (Some info) long = kept-by (has_encoder info.extension) info.extension long
 
 -- music length and tag CRC are after the first 28 bytes
 pub sealed-front : (first : HeaderFields) (info : Info) → length info.extension ≡ 36
@@ -132,12 +132,13 @@ module _ (head : Option Info) (long : IfSome head (λ (i : Info). length i.exten
   made = extension_of head delay padding
 
   front-long : length (take 21 (kept_extension head)) ≡ 21
-  front-long = length-take-le 21 (kept_extension head) (omega (arith, kept-long head long))
+  front-long =
+      length-take-le 21 (kept_extension head) (omega (arith, kept_extension-long head long))
 
   mid-long : length (take 4 (drop 24 (kept_extension head))) ≡ 4
   mid-long =
       length-take-le 4 (drop 24 (kept_extension head))
-      (omega (arith, length-drop 24 (kept_extension head), kept-long head long))
+      (omega (arith, length-drop 24 (kept_extension head), kept_extension-long head long))
 
   -- what is made from a head keeps its first 21 bytes
   pub made-front : take 21 made ≡ take 21 (kept_extension head)

@@ -17,7 +17,7 @@ use Rattle.laying.proofs.FittingFrameLemmas.{fitting-laid}
 use Rattle.laying.proofs.HoldLemmas.{blocks-kept, part-entries, part-needs, part-stream}
 use Rattle.laying.proofs.LaidFileLemmas.{laid-frames-stay, laid-stream, laid-survey}
 use Rattle.laying.proofs.LaidLemmas.{first-there, laid-slots}
-use Rattle.laying.proofs.PlannedFrameLemmas.{AreNeedsOf, one, relaid-cons}
+use Rattle.laying.proofs.PlannedFrameLemmas.{AreNeedsOf, one, relaid_frames-cons}
 use Rattle.laying.specs.Fits.{FitsFromReach, IsFittingPlan}
 use Rattle.laying.specs.Laid.{frames_laid, info_laid, LaidPart, needs_laid, source_part}
 use Rattle.laying.specs.LaidFiles.{AreBlocks, AreStreamEntries, frame_length, frames_offset}
@@ -35,7 +35,7 @@ use Rattle.side_info.specs.declared.side.Side.{Side}
 use Rattle.slot_plan.{proofs.AreaLemmas.only_one, specs.FreeBytes.IsLeadInHeader}
 use Rattle.slot_plan.specs.{Laws.{AreInOwnSlots, AreLedInOwnSlots}, Plans.AreItemSlots}
 use Rattle.slot_plan.specs.declared.needs.{Need.Need, Placed.Placed}
-use Rattle.sync_survey.proofs.{EmptiedLemmas.no_bytes, SurveyPartsLemmas.surveyed-allowed}
+use Rattle.sync_survey.proofs.{EmptiedLemmas.no_bytes, SurveyPartsLemmas.survey_fields-allowed}
 use Rattle.sync_survey.proofs.SurveyedFileLemmas.{survey_of-parts}
 use Rattle.sync_survey.specs.Faults.{stream_of, stream_of_survey, survey_fields, SurveyFields}
 use Rattle.sync_survey.specs.{HeadApart.{emptied_row, emptied_survey}, MainData.StreamFrame}
@@ -101,11 +101,11 @@ moved-need class need f p entry header bytes slot =
     (ap₂ (λ (s : SlotFields) (h : HeaderFields). record h { slot = s }) same (sym header))
     (begun-bytes f.kept.side p.begin ∙ sym entry.size ∙ sym bytes)
 
-relaid-cons-by : (b : Bool) (p : Placed) (placed : List Placed) (f : Frame) (fs : List Frame)
+relaid_frames-cons-by : (b : Bool) (p : Placed) (placed : List Placed) (f : Frame) (fs : List Frame)
     → p.lead_in ≡ b
     → relaid_frames (f ∷ fs) (p ∷ placed) ≡ one b p f ∷ relaid_frames (rest_behind b f fs) placed
-relaid-cons-by b p placed f fs is =
-    relaid-cons p placed f fs
+relaid_frames-cons-by b p placed f fs is =
+    relaid_frames-cons p placed f fs
     ∙ ap (λ lead_in. one lead_in p f ∷ relaid_frames (rest_behind lead_in f fs) placed) is
 
 -- frames that are laid in their own slots need what the plan was made for
@@ -118,7 +118,7 @@ own-needs class [] (f ∷ fs) placed entries are own = absurd are
 own-needs class (need ∷ needs) [] placed entries are own = absurd are
 own-needs class (need ∷ needs) (f ∷ fs) [] entries are own = absurd own
 own-needs class (need ∷ needs) (f ∷ fs) (p ∷ placed) entries are own =
-    ap (map frame_need) (relaid-cons-by false p placed f fs own.0)
+    ap (map frame_need) (relaid_frames-cons-by false p placed f fs own.0)
     ∙ ap₂ (λ (x : Need) (xs : List Need). x ∷ xs)
     (moved-need class need f p entries.0 are.0 are.1 own.1)
     (own-needs class needs fs placed entries.1 are.2 own.2)
@@ -142,7 +142,7 @@ led-needs class window at (need ∷ needs) (f ∷ fs) [] known entries are led f
 led-needs class window at (need ∷ needs) (f ∷ fs) (p ∷ placed) known entries are led fits =
     let header : HeaderFields = record need.header { protected = false; slot = p.slot } in
     let of_class : IsClass (class_of f.kept.header) = subst IsClass (sym entries.0.class) known in
-    let cons = relaid-cons-by true p placed f fs led.0 in
+    let cons = relaid_frames-cons-by true p placed f fs led.0 in
     let none : p.begin ≡ 0 = omega (arith, fits.0) in
     record {
       header = header;
@@ -326,7 +326,7 @@ module _ (laid : LaidPart) (file : List ℕ) (s : SurveyFields) (has : CanBeRela
           subst (λ l. survey_fields l is.allowed ≡ Ok p.survey) same_file
           (survey_of-parts p.file is.allowed p.survey is.surveyed).1 in
           let one : Ok p.survey ≡ Ok fields =
-          sym (surveyed-allowed made is.allowed many p.survey (omega arith) e)
+          sym (survey_fields-allowed made is.allowed many p.survey (omega arith) e)
           ∙ laid-survey s.class (front_blocks file s) row.header info frames back
           many made-laid (omega arith) in
           cc
@@ -346,8 +346,8 @@ module _ (laid : LaidPart) (file : List ℕ) (s : SurveyFields) (has : CanBeRela
           (subst (λ l. survey_fields l is.allowed ≡ Ok p.survey) same_file
           (survey_of-parts p.file is.allowed p.survey is.surveyed).1)
 
-      apart-same : survey_without_head p.survey ≡ p.survey
-      apart-same =
+      survey_without_head-same : survey_without_head p.survey ≡ p.survey
+      survey_without_head-same =
           ap emptied_survey none-lost.apart
           ∙ ap (λ (rows : List Row). record p.survey { frames = rows })
           (none-emptied p.survey.frames none-lost.kept)
@@ -355,7 +355,7 @@ module _ (laid : LaidPart) (file : List ℕ) (s : SurveyFields) (has : CanBeRela
       -- the stream of the input is the stream of its frames
       pub input-stream : whole_stream c p is ≡ stream_with_lead_ins laid.placed own
       input-stream =
-          ap (λ (t : SurveyFields). stream_of_survey p.file t) apart-same
+          ap (λ (t : SurveyFields). stream_of_survey p.file t) survey_without_head-same
           ∙ sym (stream-is p.file is.allowed p.survey is.surveyed)
           ∙ ap stream_of same_file
           ∙ (laid-stream s.class (front_blocks file s) row.header info frames back
@@ -376,7 +376,8 @@ module _ (laid : LaidPart) (file : List ℕ) (s : SurveyFields) (has : CanBeRela
       -- the frames that the input brings need what its frames do
       pub input-needs : needs_of (part_brought p).frames ≡ map frame_need frames
       input-needs =
-          brought-needs c p is ∙ ap (λ (t : SurveyFields). map need_of t.frames) apart-same
+          brought-needs c p is
+          ∙ ap (λ (t : SurveyFields). map need_of t.frames) survey_without_head-same
           ∙ input-rows
 
       input-sounds : sounds (part_brought p).frames

@@ -2,7 +2,7 @@
 use Rattle.std.proofs.Common.{ap, arith, Bool, false, inr, length, List, Ok, refl, subst, sym, true}
 use Rattle.std.{proofs.Common.{ℕ, [], ◌∙◌, ◌∷◌, ◌≡◌}, specs.Prelude.{◌<◌, ◌≤◌}}
 use Rattle.best_plan.specs.Best.{items_with_lead_in}
-use Rattle.commands.{proofs.RefusingLemmas.{then_ok, unless_ok}, specs.Refusing.refusal_or}
+use Rattle.commands.{proofs.RefusingLemmas.{refusal_or-ok, then_ok}, specs.Refusing.refusal_or}
 use Rattle.commands.specs.SingleOutput.{most_frames}
 use Rattle.cut_edits.specs.Chosen.{Chosen, chosen_file_part, chosen_needs, first_plan}
 use Rattle.frame_header.specs.{Fields.{ClassFields, IsClass, SlotFields}, Slots.all_slots}
@@ -10,7 +10,7 @@ use Rattle.frame_header.specs.Tables.{class_of, window_of}
 use Rattle.laying.{proofs.SurveyFrameLemmas.survey-had, specs.NeedsFit.{any_choice, IsPlacedSurvey}}
 use Rattle.laying.specs.Relaid.{part_stream, stream_with_lead_ins}
 use Rattle.pack_edits.proofs.{BestLemmas.best-is, MenuLemmas.{menu-ascends, menu-some}}
-use Rattle.pack_edits.proofs.PlanLemmas.{fitted-ok, needs-some, rows-same, rows-sound}
+use Rattle.pack_edits.proofs.PlanLemmas.{fitted_plan-ok, needs-some, rows-same, rows-sound}
 use Rattle.pack_edits.specs.{Modes.mode_planning, Rates.{fitted_plan, menu_in, no_rate, rates_plan}}
 use Rattle.rate_plan.proofs.LeastMenuPlanLemmas.{least_menu_plan-is}
 use Rattle.rate_plan.specs.LeastMenuPlan.{least_menu_plan}
@@ -19,8 +19,9 @@ use Rattle.requests.specs.declared.mode.PackMode.{PackMode}
 use Rattle.requests.specs.declared.mode.PackMode.TheVariants.{Best, Constant, Floor, Least}
 use Rattle.slot_plan.specs.{Parts.{AreNeedsOfClass, lead_in_item}, Plans.AreItemSlots}
 use Rattle.slot_plan.specs.declared.needs.{Need.Need, Placed.Placed}
-use Rattle.sync_survey.proofs.{PlacedRowLemmas.surveyed-placed, SurveyedFileLemmas.survey_of-parts}
-use Rattle.sync_survey.specs.{Faults.SurveyFields, MainData.StreamFrame, Survey.survey_of}
+use Rattle.sync_survey.proofs.PlacedRowLemmas.{survey_fields-placed}
+use Rattle.sync_survey.{proofs.SurveyedFileLemmas.survey_of-parts, specs.Faults.SurveyFields}
+use Rattle.sync_survey.specs.{MainData.StreamFrame, Survey.survey_of}
 use Rattle.theorems.proofs.CaseLemmas.{chosen-part, had-exact, own-stream}
 use Rattle.theorems.proofs.ExactLemmas.{IsSized, led-exact, own-exact, part-sized}
 use Rattle.theorems.specs.{Exact.IsExactly, Laws.PackedStreamsAreExact}
@@ -34,9 +35,9 @@ rates-menu mode class needs placed sound same some planned =
     let window = window_of class.version in
     let made = then_ok (refusal_or (no_rate mode class) (menu_in mode class))
     (λ menu. fitted_plan (least_menu_plan window menu needs)) placed planned in
-    let ok = unless_ok (no_rate mode class) (menu_in mode class) made.0 made.1 in
+    let ok = refusal_or-ok (no_rate mode class) (menu_in mode class) made.0 made.1 in
     let is : least_menu_plan window (menu_in mode class) needs ≡ Ok placed =
-    fitted-ok (least_menu_plan window (menu_in mode class) needs) placed
+    fitted_plan-ok (least_menu_plan window (menu_in mode class) needs) placed
     (ap (λ menu. fitted_plan (least_menu_plan window menu needs)) ok.1 ∙ made.2) in
     ((least_menu_plan-is window class (menu_in mode class) needs same some
     (menu-ascends mode class sound) (menu-some mode class ok.0)).0 placed).1 is
@@ -67,7 +68,7 @@ behind-exact true (first ∷ needs) fs placed sized for_items = led-exact any_ch
 module _ (chosen : Chosen) (file : List ℕ) (s : SurveyFields) (is : survey_of file most_frames
     ≡ Ok s) (some : chosen.from < chosen.to) (within : chosen.to ≤ length s.frames) where
   abbrev placed_rows : IsPlacedSurvey s
-  placed_rows = surveyed-placed file most_frames s (survey_of-parts file most_frames s is).1
+  placed_rows = survey_fields-placed file most_frames s (survey_of-parts file most_frames s is).1
 
   sized : IsSized (chosen_needs chosen s) (part_stream (chosen_file_part chosen file s))
   sized =

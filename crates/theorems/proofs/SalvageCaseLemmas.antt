@@ -14,7 +14,7 @@ use Rattle.salvage.proofs.{LaidOutLemmas.{damaged_of-is, read-laid}, MendedLemma
 use Rattle.salvage.proofs.StreamLemmas.{payload_none, tells_streams}
 use Rattle.salvage.specs.DamagedFiles.{damaged_fields, damaged_of, DamagedFields}
 use Rattle.salvage.specs.{Progress.IsDamagedLaidOut, Stream.salvaged_stream}
-use Rattle.salvage_edits.proofs.{CommandLemmas.read-where, HadLemmas.damaged-had}
+use Rattle.salvage_edits.proofs.{CommandLemmas.read-where, HadLemmas.damaged_fields-relaid}
 use Rattle.salvage_edits.proofs.StreamLemmas.{laid-left}
 use Rattle.salvage_edits.specs.Salvaged.{all_chosen, input_left_stream, input_salvage_text}
 use Rattle.salvage_edits.specs.Salvaged.{left_stream, left_stream_or_none, salvage_command}
@@ -42,7 +42,7 @@ module _ (file : List ℕ) (d : DamagedFields) (read : damaged_of file ≡ Ok d)
 
   -- what is left is in the file where its survey says
   pub left-had : CanBeRelaid file own
-  left-had = damaged-had file d whole laid
+  left-had = damaged_fields-relaid file d whole laid
 
   -- something is left
   pub left-some : 0 < length own.frames

@@ -7,8 +7,8 @@ use Rattle.std.specs.Prelude.{option_map, slice_range}
 use Rattle.commands.proofs.{MadeLemmas.some-frames, RefusingLemmas.then_ok}
 use Rattle.commands.specs.{Refusing.then_made, SingleOutput.most_frames}
 use Rattle.commands.specs.declared.fault.EditFault.{EditFault}
-use Rattle.cut_edits.proofs.HeadLemmas.{apart-had, apart-length, apart-placed}
-use Rattle.cut_edits.specs.Exact.{survey_without_head}
+use Rattle.cut_edits.proofs.HeadLemmas.{survey_without_head-had, survey_without_head-length}
+use Rattle.cut_edits.{proofs.HeadLemmas.survey_without_head-placed, specs.Exact.survey_without_head}
 use Rattle.exact_span.specs.Extensions.{counts_of}
 use Rattle.exact_span.specs.PlayedPositions.{counted_played, counted_positions, decoder_delay}
 use Rattle.exact_span.specs.{PlayedPositions.samples_in, declared.extensions.HeadCounts.HeadCounts}
@@ -179,7 +179,8 @@ module _ (class : ClassFields) (p : FilePart) (is : IsInput class p) where
 
   -- the file has the survey whose head is set apart
   pub has-apart : CanBeRelaid p.file survey
-  has-apart = apart-had p.file p.survey is.has (apart-placed p.survey is.has.placed)
+  has-apart = survey_without_head-had p.file p.survey is.has
+      (survey_without_head-placed p.survey is.has.placed)
 
   stream-length : length whole_stream ≡ length survey.frames
   stream-length =
@@ -189,10 +190,10 @@ module _ (class : ClassFields) (p : FilePart) (is : IsInput class p) where
 
   -- the stream is as long as the list of rows of the survey
   pub stream-many : length whole_stream ≡ length p.survey.frames
-  stream-many = stream-length ∙ apart-length p.survey
+  stream-many = stream-length ∙ survey_without_head-length p.survey
 
   to-apart : p.to ≡ length survey.frames
-  to-apart = is.to ∙ sym (apart-length p.survey)
+  to-apart = is.to ∙ sym (survey_without_head-length p.survey)
 
   rows-whole : part_rows (part_without_head p) ≡ survey.frames
   rows-whole = ap₂ (λ m n. slice_range survey.frames m n) is.from to-apart

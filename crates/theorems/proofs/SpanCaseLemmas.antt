@@ -2,10 +2,10 @@
 use Rattle.std.proofs.Common.{ap, arith, Bool, false, inl, length, List, None, Ok, Option, refl}
 use Rattle.std.proofs.Common.{Some, subst, sym, true, ℕ, [], ◌+◌, ◌∙◌, ◌∷◌, ◌≡◌}
 use Rattle.std.specs.Prelude.{slice_get, slice_range, unwrap_or}
-use Rattle.commands.proofs.{MadeLemmas.{made-of, makes-parts}, RefusingLemmas.unless_ok}
+use Rattle.commands.proofs.{MadeLemmas.{made-of, makes-parts}, RefusingLemmas.refusal_or-ok}
 use Rattle.commands.specs.SingleOutput.{most_frames}
-use Rattle.cut_edits.proofs.PieceLemmas.{apart_had, piece-parts, span-there, span_apart}
-use Rattle.cut_edits.proofs.SpanLemmas.{led-is}
+use Rattle.cut_edits.proofs.PieceLemmas.{piece-parts, span-survey_without_head, span-there}
+use Rattle.cut_edits.proofs.{PieceLemmas.survey_without_head-relaid, SpanLemmas.led-is}
 use Rattle.cut_edits.specs.Chosen.{Chosen, chosen_file_part, chosen_needs}
 use Rattle.cut_edits.specs.Exact.{exact_command, exact_making, exact_stream, exact_stream_or_none}
 use Rattle.cut_edits.specs.Exact.{exact_surveyed_stream, exact_task, file_span, IsSpanIn}
@@ -22,7 +22,7 @@ use Rattle.laying.specs.{NeedsFit.own_choice, Relaid.{part_stream, stream_with_l
 use Rattle.laying.specs.Surveys.{CanBeRelaid}
 use Rattle.slot_plan.specs.{LeastPlan.led_plan, Parts.{lead_in_item, led_items}, Plans.AreItemSlots}
 use Rattle.slot_plan.specs.declared.needs.{Need.Need, Placed.Placed}
-use Rattle.sync_survey.proofs.SurveyPartsLemmas.{surveyed-allowed}
+use Rattle.sync_survey.proofs.SurveyPartsLemmas.{survey_fields-allowed}
 use Rattle.sync_survey.proofs.SurveyedFileLemmas.{survey_of-parts}
 use Rattle.sync_survey.specs.Faults.{stream_of_survey, SurveyFields, unbounded_survey}
 use Rattle.sync_survey.specs.{MainData.StreamFrame, Row.Row, Survey.survey_of}
@@ -94,7 +94,8 @@ module _ (from to : ExactPlace) (file : List ℕ) (s : SurveyFields) where
   span-is : (span : Span) → file_span from to head s ≡ Ok span
       → span_of s.class (played.start + number from) (played.start + number to) ≡ span
   unfolding file_span
-  span-is span e = (unless_ok (samples_fault (number from) (number to) (length_of_played played))
+  span-is span e =
+      (refusal_or-ok (samples_fault (number from) (number to) (length_of_played played))
       (span_of s.class (played.start + number from) (played.start + number to)) span e).1
 
   -- the frames of the job are the frames of the span
@@ -108,7 +109,7 @@ module _ (from to : ExactPlace) (file : List ℕ) (s : SurveyFields) where
   pub needed-is : survey_of file most_frames ≡ Ok s
       → frames_needed from to file ≡ span_frames from to file s
   needed-is is =
-      let freely : unbounded_survey file ≡ Ok s = surveyed-allowed file most_frames
+      let freely : unbounded_survey file ≡ Ok s = survey_fields-allowed file most_frames
       (length file + 1) s (omega arith) (survey_of-parts file most_frames s is).1 in
       ap (surveyed_span_frames from to file) freely
 
@@ -124,9 +125,11 @@ exact-holds input from to output files made e =
     let head = fields_of_head is.file is.survey.head in
     let own = survey_without_head is.survey in
     let there =
-    span_apart is.survey by.span (span-there from to head is.survey by.span by.span_is) in
+    span-survey_without_head is.survey by.span
+    (span-there from to head is.survey by.span by.span_is) in
     let exact =
-    piece-exact by.span is.file own (apart_had is.file is.survey is.surveyed) there head in
+    piece-exact by.span is.file own
+    (survey_without_head-relaid is.file is.survey is.surveyed) there head in
     let stream : (exact_task from to input).stream files
     ≡ stream_laid (span_piece head by.span is.file own) is.file own =
     ap (λ (o : Option (List ℕ)). exact_stream from to (unwrap_or o [])) is.there

@@ -4,7 +4,8 @@ use Rattle.std.{proofs.Common.{true, ℕ, [], ◌∙◌, ◌∷◌, ◌≡◌}, 
 use Rattle.commands.{proofs.RefusingLemmas.then_ok, specs.SingleOutput.most_frames}
 use Rattle.commands.specs.declared.fault.EditFault.{EditFault}
 use Rattle.cue_sheet.specs.declared.place.Place.{Place}
-use Rattle.cut_edits.proofs.PieceLemmas.{apart_had, span-there, span_apart}
+use Rattle.cut_edits.proofs.PieceLemmas.{span-survey_without_head, span-there}
+use Rattle.cut_edits.proofs.PieceLemmas.{survey_without_head-relaid}
 use Rattle.cut_edits.specs.Chosen.{cut_choice, first_planning, laying_part, own_slots_part}
 use Rattle.cut_edits.specs.Chosen.{planned_part}
 use Rattle.cut_edits.specs.Exact.{exact_part, file_span, span_piece, survey_without_head}
@@ -117,8 +118,8 @@ module _ (files : Contents) (input file : List ℕ) (s : SurveyFields)
       (subst (λ (l : List StreamFrame). IsExactly (l ∷ [])
       (stream_laid (span_piece head one.0 file (survey_without_head s)) file
       (survey_without_head s))) (sym frames)
-      (piece-exact one.0 file (survey_without_head s) (apart_had file s surveyed)
-      (span_apart s one.0 (span-there from to head s one.0 one.1)) head))
+      (piece-exact one.0 file (survey_without_head s) (survey_without_head-relaid file s surveyed)
+      (span-survey_without_head s one.0 (span-there from to head s one.0 one.1)) head))
 
 -- ---- the commands
 

@@ -20,7 +20,7 @@ use Rattle.laying.specs.{Relaid.relaid_frames, Surveys.CanBeRelaid}
 use Rattle.laying.specs.Written.{front_blocks, info_for}
 use Rattle.seam_plan.specs.Seams.{JointFrames, left_out_count}
 use Rattle.sync_survey.specs.{Faults.{survey_fields, SurveyFields}, MainData.StreamFrame, Row.Row}
-use Rattle.theorems.proofs.BareFrameLemmas.{bare-same, relaid-same}
+use Rattle.theorems.proofs.BareFrameLemmas.{bare-same, relaid_frames-same}
 use Rattle.theorems.proofs.PiecePartLemmas.{front-blocks-same, front-row, FrontRow, IsPieceFile}
 use Rattle.theorems.proofs.PiecePartLemmas.{uncounted}
 use Rattle.theorems.proofs.SeamlessInputLemmas.{AreInputs, has-apart, IsInput}
@@ -143,7 +143,7 @@ module _ (file : List ℕ) (s : SurveyFields) (allowed : ℕ) (e : survey_fields
 
   frames-are : seamless_frames first parts ≡ frames_laid whole file s
   frames-are =
-      relaid-same run_frames_in (part_frames whole_part) (run_plan first parts)
+      relaid_frames-same run_frames_in (part_frames whole_part) (run_plan first parts)
       (bare-same s.class known run_frames_in (part_frames whole_part) all_read.entries
       (part-entries s.class whole_part whole-is)
       (all_read.is ∙ run-stream file s has a b bs first parts are inputs files none

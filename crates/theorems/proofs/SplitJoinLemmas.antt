@@ -6,7 +6,7 @@ use Rattle.std.proofs.lemmas.Bool.{and_from, le-leb, lt-ltb}
 use Rattle.std.proofs.lemmas.List.{drop-drop, length-drop, length-map, length-take, length-take-le}
 use Rattle.std.proofs.lemmas.List.{map-append}
 use Rattle.std.specs.Prelude.{if◌then◌else◌, nat_le, nat_lt, slice_range, unwrap_or}
-use Rattle.commands.proofs.RefusingLemmas.{then_ok, unless_ok}
+use Rattle.commands.proofs.RefusingLemmas.{refusal_or-ok, then_ok}
 use Rattle.commands.specs.Refusing.{refusal_or, then_made}
 use Rattle.commands.specs.declared.fault.Refusal.TheVariants.{Range}
 use Rattle.cue_sheet.specs.{Places.frame_at, declared.place.Place.Place}
@@ -90,7 +90,7 @@ module _ (file : List ℕ) (s : SurveyFields) where
       chosen-within None (replicate 36 0) (number from) (number to) (length s.frames) parts.0
       parts.1 in
       let chosen =
-      (unless_ok (outside_fault (number from) (number to) (length s.frames))
+      (refusal_or-ok (outside_fault (number from) (number to) (length s.frames))
       (chosen_between (number from) (number to)) parts.0 parts.1).1 in
       let is : own_slots_part parts.0 s ≡ l = cc in
       (there.0, there.1, sym is ∙ ap (λ (c : Chosen). own_slots_part c s) (sym chosen))

@@ -12,8 +12,9 @@ use Rattle.cue_sheet.specs.declared.place.Place.{Place}
 use Rattle.cut_edits.proofs.ChosenLemmas.{all_choosing, by_usual, cut_choosing, first_is_planning}
 use Rattle.cut_edits.proofs.ChosenLemmas.{IsChoosing, IsPlanning, laid-parts, plan-fitting}
 use Rattle.cut_edits.proofs.ChosenLemmas.{usual_slots}
-use Rattle.cut_edits.proofs.PieceLemmas.{apart_had, head_long, piece-loses-none, piece-parts}
-use Rattle.cut_edits.proofs.PieceLemmas.{span-there, span_apart}
+use Rattle.cut_edits.proofs.PieceLemmas.{head_long, piece-loses-none, piece-parts}
+use Rattle.cut_edits.proofs.PieceLemmas.{span-survey_without_head, span-there}
+use Rattle.cut_edits.proofs.PieceLemmas.{survey_without_head-relaid}
 use Rattle.cut_edits.specs.Chosen.{all_choice, Choosing, chosen_file, cut_choice, cut_command}
 use Rattle.cut_edits.specs.Chosen.{cut_refuses, first_planning, laying_making, laying_task}
 use Rattle.cut_edits.specs.Chosen.{own_slots_part, placed_part, Planning, slot_choices}
@@ -122,8 +123,8 @@ module _ (from to : ExactPlace) (file : List ℕ) (s : SurveyFields)
   span-stays span e =
       let head = fields_of_head file s.head in
       piece-loses-none head (head_long file s.head) span file (survey_without_head s)
-      (apart_had file s surveyed)
-      (span_apart s span (span-there from to head s span e))
+      (survey_without_head-relaid file s surveyed)
+      (span-survey_without_head s span (span-there from to head s span e))
 
   samples-stay : (laid : LaidPart) → exact_part from to file s ≡ Ok laid
       → LosesNoFrame (file_laid laid file (survey_without_head s))

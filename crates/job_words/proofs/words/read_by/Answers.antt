@@ -3,7 +3,8 @@
 use Rattle.std.proofs.Common.{ap, arith, Err, get_or, List, map, max, string_bytes, subst, sym}
 use Rattle.std.proofs.{Common.{take, ◌∙◌, ◌≡◌}, lemmas.Grind.common_steps}
 use Rattle.std.proofs.lemmas.List.{get_or-map, length-map, take_all}
-use Rattle.job_words.proofs.{ReadingLemmas.{accepted, reading_more}, words.read_by.Goals.After-read}
+use Rattle.job_words.proofs.ReadingLemmas.{accepted, table_reading-more}
+use Rattle.job_words.proofs.words.read_by.Goals.{After-read}
 use Rattle.job_words.specs.Code.{form_given, request_result}
 use Rattle.job_words.specs.Forms.{Form, help_form, IsReadable, shapes, shapes_of}
 use Rattle.job_words.specs.Words.{table_reading}
@@ -37,7 +38,7 @@ pub loop-form-preserved : goal.loop-form-preserved
 loop-form-preserved c =
     let max-is : c.max-place.result ≡ max c.loop-form.place c.in-Err.bad =
     grind (arith, common_steps) in (
-      reading_more (map form_given c.args.forms.now)
+      table_reading-more (map form_given c.args.forms.now)
           (map string_bytes c.args.words.now) c.loop-form.form-index help_form
           c.loop-form.place (rw length-map c.loop-form-test.true) c.loop-form.invariant.0 _
           (sym (ap request_result c.in-Err.is) ∙ here (goal.at.loop-form-preserved c).After-read)

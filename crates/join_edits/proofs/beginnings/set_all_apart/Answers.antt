@@ -2,7 +2,7 @@
 use Rattle.std.proofs.Common.{ap, arith, length, map, sym, ◌<◌, ◌∙◌}
 use Rattle.std.proofs.lemmas.List.{get_or-map, length-map, map-set}
 use Rattle.cut_edits.specs.Exact.{survey_without_head}
-use Rattle.join_edits.proofs.KnownLemmas.{apart-next}
+use Rattle.join_edits.proofs.KnownLemmas.{survey_without_head-next}
 use Rattle.sync_survey.specs.Faults.{survey_view}
 use Rattle.join_edits.proofs.beginnings.set_all_apart.Goals as goal
 
@@ -18,7 +18,7 @@ loop-survey-preserved c =
     omega (arith, within, length-map c.args.surveys.now survey_view) in
     let here = sym (get_or-map survey_view at.surveys i item (survey_view item) now) in
     map-set survey_view at.surveys i c.set_apart.new.survey
-    ∙ apart-next (map survey_view c.args.surveys.now) (map survey_view at.surveys) i
+    ∙ survey_without_head-next (map survey_view c.args.surveys.now) (map survey_view at.surveys) i
     (survey_view item)
     (survey_view c.set_apart.new.survey) mapped
     at.invariant (c.set_apart.ensures ∙ ap survey_without_head here)

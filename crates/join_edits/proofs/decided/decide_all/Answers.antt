@@ -1,14 +1,15 @@
 -- The first input begins, and each of the others is decided after those before it.
-use Rattle.std.proofs.Common.{ap₂, arith, false, get_or, length, List, map, None, refl, string_bytes, ◌<◌, ◌∙◌}
-use Rattle.std.proofs.{Common.◌≡◌, lemmas.{List.length-map, Slice.Zip.AllZip-long}}
+use Rattle.std.proofs.Common.{ap₂, arith, false, get_or, length, List, map, None, refl}
+use Rattle.std.proofs.{Common.{string_bytes, ◌<◌, ◌∙◌, ◌≡◌}, lemmas.List.length-map}
+use Rattle.std.proofs.lemmas.Slice.Zip.{AllZip-long}
 use Rattle.commands.proofs.RefusingLemmas.{err_with}
-use Rattle.join_edits.proofs.DecideAllLemmas.{AreAllDecided, at-end, begun-at, can-begin-at, get-here}
-use Rattle.join_edits.proofs.{KnownLemmas.get-at, PlanLemmas.can-some, ReadFaultLemmas.fault-later}
+use Rattle.join_edits.proofs.DecideAllLemmas.{AreAllDecided, at-end, begun-at, can-begin-at}
+use Rattle.join_edits.proofs.{DecideAllLemmas.get-here, KnownLemmas.get-at, PlanLemmas.can-some}
+use Rattle.join_edits.proofs.{ReadFaultLemmas.fault-later, decided.decide_all.Goals.After-as_slice}
 use Rattle.join_edits.specs.declared.beginnings.Beginning.{Beginning}
 use Rattle.outside.specs.Seen.{seen_folder}
 use Rattle.sync_survey.specs.Faults.{survey_view, SurveyFields}
 use Rattle.join_edits.proofs.decided.decide_all.Given as given
-use Rattle.join_edits.proofs.decided.decide_all.Goals.{After-as_slice}
 use Rattle.join_edits.proofs.decided.decide_all.Goals as goal
 
 abbrev no-beginning : Beginning

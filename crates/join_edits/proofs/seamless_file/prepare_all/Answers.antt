@@ -4,7 +4,8 @@ use Rattle.std.proofs.{Common.{◌∙◌, ◌≡◌, ◌≤◌}, lemmas.List.{le
 use Rattle.commands.{proofs.RefusingLemmas.err_with, specs.SingleOutput.most_frames}
 use Rattle.cut_edits.specs.Exact.{survey_without_head}
 use Rattle.join_edits.proofs.InputLemmas.{inputs-join}
-use Rattle.join_edits.proofs.SeamlessCommandLemmas.{apart-decided, inputs-known, read-fault-early}
+use Rattle.join_edits.proofs.SeamlessCommandLemmas.{inputs-known, read-fault-early}
+use Rattle.join_edits.proofs.SeamlessCommandLemmas.{survey_without_head-decided}
 use Rattle.join_edits.proofs.seamless_file.prepare_all.Goals.{After-as_slice-3}
 use Rattle.join_edits.specs.{Beginnings.AreBeginnings, Deciding.CanBeDecided}
 use Rattle.join_edits.specs.{Inputs.CanInputsBeJoined, SeamlessReady.IsRunMade}
@@ -92,7 +93,7 @@ module _ (g : given.Over) (c : After-as_slice-3 g) where
       (sym surveys-now)
       (subst (λ (l : List Beginning). CanBeDecided old names (map survey_without_head ss) l)
       (sym c.as_slice-3.ensures.value)
-      (apart-decided old names ss bs c.in_ok-surveys.ensures.inputs can begun)))
+      (survey_without_head-decided old names ss bs c.in_ok-surveys.ensures.inputs can begun)))
 
 pub make_ready-requires : goal.make_ready-requires
 make_ready-requires g c = record { can = can-now g c }

@@ -1,19 +1,20 @@
 -- The bytes are the same exactly if the bits are.
 use Rattle.std.proofs.Common.{ap, bytes_eq, subst, sym, take, ◌∙◌}
 use Rattle.frame_header.specs.Tables.{side_size_of}
-use Rattle.join_edits.{proofs.SoundLemmas.{bare-fits, bits-tested}, specs.Sounds.compared_side}
+use Rattle.join_edits.proofs.SoundLemmas.{bits-tested, compared_side-fits}
+use Rattle.join_edits.specs.Sounds.{compared_side}
 use Rattle.side_info.specs.Side.{side_bits, SideFits}
 use Rattle.join_edits.proofs.sounds.same_side.Goals as goal
 
 pub side_room-first-requires : goal.side_room-first-requires
 side_room-first-requires c =
     subst (SideFits c.args.class) (sym c.bare_side.ensures)
-    (bare-fits c.args.class c.args.first.now c.requires.first)
+    (compared_side-fits c.args.class c.args.first.now c.requires.first)
 
 pub side_room-second-requires : goal.side_room-second-requires
 side_room-second-requires c =
     subst (SideFits c.args.class) (sym c.bare_side-2.ensures)
-    (bare-fits c.args.class c.args.second.now c.requires.second)
+    (compared_side-fits c.args.class c.args.second.now c.requires.second)
 
 pub returns : goal.returns
 returns c =

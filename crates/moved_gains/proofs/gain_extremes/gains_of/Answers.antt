@@ -3,8 +3,8 @@ use Rattle.std.proofs.Common.{ap, arith, drop, length, refl, sym, ◌+◌, ◌�
 use Rattle.std.{proofs.lemmas.Option.slice_get_read, specs.Option.option_copied}
 use Rattle.frame_header.specs.Tables.{class_of}
 use Rattle.moved_gains.proofs.ExtremesLemmas.{extremes-all, extremes-empty, extremes-from}
-use Rattle.moved_gains.proofs.ExtremesLemmas.{joined-assoc, moving-nil, no_extremes, no_first}
-use Rattle.moved_gains.proofs.ExtremesLemmas.{some_extremes}
+use Rattle.moved_gains.proofs.ExtremesLemmas.{joined_extremes-assoc, moving-nil, no_extremes}
+use Rattle.moved_gains.proofs.ExtremesLemmas.{no_first, some_extremes}
 use Rattle.moved_gains.specs.GainExtremes.{extremes, extremes_of, joined_extremes, moving_gains}
 use Rattle.moved_gains.specs.GainExtremes.{row_gains}
 use Rattle.side_info.specs.FrameFields.{FrameFields}
@@ -40,7 +40,7 @@ loop-row-preserved c =
     c.loop-row.invariant
     ∙ ap (joined_extremes c.loop-row.gains)
     (extremes-from c.args.channel rows i row (omega (arith, c.loop-row-test.true)) c.row-item.is)
-    ∙ sym (joined-assoc c.loop-row.gains (extremes (row_gains c.args.channel row)) rest)
+    ∙ sym (joined_extremes-assoc c.loop-row.gains (extremes (row_gains c.args.channel row)) rest)
     ∙ sym (ap (λ g. joined_extremes g rest)
     (c.joined-gains.ensures ∙ ap (joined_extremes c.loop-row.gains) c.gains_at.ensures))
 

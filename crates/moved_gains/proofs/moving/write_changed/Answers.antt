@@ -4,7 +4,7 @@ use Rattle.std.proofs.Common.{rules, subst, sym, ℕ, [], ◌++◌, ◌∙◌, �
 use Rattle.std.proofs.lemmas.Result.{err_from_is_err_and, on_ok_weaker}
 use Rattle.moved_gains.proofs.CourseLemmas.{out_classed, out_few, out_numbered}
 use Rattle.moved_gains.proofs.MovingLemmas.{survey_of-length, survey_of-rows}
-use Rattle.moved_gains.proofs.WrittenTagLemmas.{written-changed}
+use Rattle.moved_gains.proofs.WrittenTagLemmas.{written-file_with_change}
 use Rattle.moved_gains.proofs.moving.write_changed.Goals.{In_ok-move_frames}
 use Rattle.moved_gains.specs.Change.{change_in, file_with_change}
 use Rattle.moved_gains.specs.Course.{AreRowsNumbered, steps_at_offset}
@@ -37,7 +37,7 @@ are_changed change tag file s junk first rows new junk_is first_is rows_are surv
     ap (λ n. both (steps_at_offset change.course rows) tag n first rows file) junk_is
     ∙ ap₂ (λ n (l : List Row). both (steps_at_offset change.course l) tag s.junk n l file) first_is
     rows_are
-    ∙ written-changed (change_in change s) tag file most_frames s new
+    ∙ written-file_with_change (change_in change s) tag file most_frames s new
     (survey_of-parts file most_frames s surveyed).1
 
 pub copy-requires-clause-ready : goal.copy-requires-clause-ready

@@ -1,6 +1,6 @@
 use Rattle.std.proofs.Common.{arith, length-drop, refl, subst, sym, take, ◌+◌, ◌∙◌, ◌≡◌}
 use Rattle.outside.proofs.FilesLemmas.{appended_nothing, appended_there}
-use Rattle.outside.proofs.PieceLemmas.{appended_then, part_from}
+use Rattle.outside.proofs.PieceLemmas.{part_from, with_appended_bytes-then}
 use Rattle.outside.specs.Files.{IsFileThere, with_appended_bytes}
 use Rattle.outside.proofs.helpers.write_all.Goals as goal
 
@@ -20,7 +20,7 @@ loop-done-preserved g c =
     let written : (seen c.write.new.self).files
     ≡ with_appended_bytes (seen c.args.folder.now).files name
     (take (c.loop-done.done + c.in_ok-done.field-0) bytes) =
-    appended_then _ _ _ name bytes _ _
+    with_appended_bytes-then _ _ _ name bytes _ _
     c.loop-done.invariant.written (rw part_from at c.in_ok-done.ensures.answer.written) in
     record {
       in_range = omega (

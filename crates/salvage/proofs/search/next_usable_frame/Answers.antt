@@ -2,7 +2,8 @@
 use Rattle.std.proofs.Common.{arith, sym, ◌+◌}
 use Rattle.outside.proofs.BufferOutputLemmas.{err_at}
 use Rattle.salvage.proofs.ReadFaultLemmas.{look_refusal}
-use Rattle.salvage.proofs.SearchLemmas.{next_usable-none, next_usable-some, none_later, passed_bare}
+use Rattle.salvage.proofs.SearchLemmas.{next_usable_frame-none, next_usable_frame-some, none_later}
+use Rattle.salvage.proofs.SearchLemmas.{passed_bare}
 use Rattle.sync_survey.proofs.FoldersLemmas.{read_more, still_shown, whole_from}
 use Rattle.salvage.proofs.search.next_usable_frame.Goals as goal
 
@@ -13,7 +14,7 @@ returns-in_err-left-clause-refused g c =
 
 pub returns-in-Some-clause-next : goal.returns-in-Some-clause-next
 returns-in-Some-clause-next g c = λ bytes holds.
-    sym (next_usable-some bytes c.args.role c.args.from c.loop-at.at c.in-Some.frame
+    sym (next_usable_frame-some bytes c.args.role c.args.from c.loop-at.at c.in-Some.frame
     c.loop-at.invariant.low (omega (arith, c.loop-at-test.true, c.requires.known.long bytes holds))
     (sym (c.in-Some.ensures.frame bytes (still_shown
     c.loop-at.invariant.read c.bytes.ensures c.in_ok-left.ensures.shows bytes holds)))
@@ -45,7 +46,7 @@ loop-at-preserved g c = record {
 
 pub returns-clause-next : goal.returns-clause-next
 returns-clause-next g c = λ bytes holds.
-    sym (next_usable-none bytes c.args.role c.args.from c.loop-at.at (omega (
+    sym (next_usable_frame-none bytes c.args.role c.args.from c.loop-at.at (omega (
       arith,
       c.loop-at-test.false,
       c.requires.known.long bytes holds,

@@ -4,7 +4,7 @@ use Rattle.list_edits.proofs.ListingLemmas.{last_failed, last_more, prefix_behin
 use Rattle.list_edits.proofs.ListingLemmas.{said_more, said_none, sent_behind}
 use Rattle.outside.{proofs.BufferOutputLemmas.on_err, specs.BufferOutput.{SendsWaiting, SentPrefix}}
 use Rattle.salvage.specs.Text.{count_text, damage_lines, damage_text, line_text}
-use Rattle.salvage_edits.proofs.{OrderLemmas.all-left, report.send_report.Given.Over}
+use Rattle.salvage_edits.proofs.{OrderLemmas.entries_left-all, report.send_report.Given.Over}
 use Rattle.salvage_edits.{proofs.report.send_report.Invariants.told-left, specs.Ordered.report_text}
 use Rattle.sync_survey.proofs.MergeLemmas.{met}
 use Rattle.salvage_edits.proofs.report.send_report.Goals as goal
@@ -15,7 +15,8 @@ loop-told-init g c = record {
   said = rw c.requires.empty (said_none line_text
       (damage_lines c.args.report.now.gaps.items c.args.report.now.emptied.items)
       (told-left c.new-lines.result) (g.T.Sink.heard c.args.out.now).sent
-      (all-left c.new-lines.result c.args.report.now c.requires.order (c.new-lines.ensures.firsts
+      (entries_left-all c.new-lines.result c.args.report.now c.requires.order
+      (c.new-lines.ensures.firsts
       ∙ c.as_slice-gaps.ensures.value)
       (c.new-lines.ensures.seconds ∙ c.as_slice-emptied.ensures.value)));
 }

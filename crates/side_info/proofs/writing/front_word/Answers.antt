@@ -2,7 +2,7 @@
 use Rattle.std.proofs.Common.{ap, arith, get_or, rules, subst, sum, sym, ℕ, [], ◌+◌, ◌<◌, ◌^◌, ◌∙◌}
 use Rattle.std.proofs.Common.{◌∷◌, ◌≡◌}
 use Rattle.bit_fields.{proofs.GroupsLemmas.joined, specs.{Bits.bits_of, Groups.group_bits}}
-use Rattle.side_info.proofs.WriteLemmas.{front_of_one, front_of_two, front_spelled}
+use Rattle.side_info.proofs.WriteLemmas.{front-group_bits, front_of_one, front_of_two}
 use Rattle.side_info.{proofs.writing.front_word.Goals.After-from-second, specs.Side.front_widths_of}
 use Rattle.side_info.proofs.writing.front_word.Goals as goal
 
@@ -19,7 +19,7 @@ word_of c begin private first second n is joins =
     let side = c.args.side.now in
     let scfsi = λ (k : ℕ). subst (λ vs. get_or side.scfsi k 0 < 2 ^ get_or vs (2 + k) 0) (sym is)
     (c.requires.scfsi k) in
-    front_spelled begin private first second (front_widths_of c.args.version c.args.channels) is
+    front-group_bits begin private first second (front_widths_of c.args.version c.args.channels) is
     side.main_data_begin side.private_bits side.scfsi n
     c.requires.begin c.requires.private_bits c.requires.scfsi (omega arith)
     (joins (omega (arith, c.from-first.ensures, scfsi 0))

@@ -3,8 +3,8 @@
 use Rattle.std.proofs.Common.{ap, ap₂, arith, max, ◌∙◌}
 use Rattle.frame_header.specs.Tables.{class_of, window_of}
 use Rattle.slot_plan.proofs.FreeByteLemmas.{window-most}
-use Rattle.slot_plan.proofs.JoinLemmas.{first-joins, first-none, first-of, first-room, greatest-in}
-use Rattle.slot_plan.proofs.JoinLemmas.{least-in, others-fit, rising-all}
+use Rattle.slot_plan.proofs.JoinLemmas.{first-joins, first-none, first-of, first-room}
+use Rattle.slot_plan.proofs.JoinLemmas.{greatest_number-in, least-in, others-fit, rising-all}
 use Rattle.slot_plan.proofs.free_bytes.joins.Goals as goal
 
 pub wants-requires : goal.wants-requires
@@ -37,7 +37,8 @@ returns-then-largest_area_of-wanted c = λ class same.
     c.index-needs-0.is c.wants.ensures in
     let gives =
     c.max-wanted.ensures ∙ ap₂ max c.saturating_sub-missing.ensures c.area-own.ensures.area in
-    let largest = greatest-in c.class-class.result (class_of need.header) c.header.inside.protected
+    let largest =
+    greatest_number-in c.class-class.result (class_of need.header) c.header.inside.protected
     need.header.protected c.as_slice.result.now _ c.class-class.ensures (ap (λ h. h.protected)
     c.header.view_is) (c.as_slice.ensures.value ∙ c.slots-slots.ensures.slots) in
     first-none (window_of class.version) c.args.free c.wants.result c.max-wanted.result need

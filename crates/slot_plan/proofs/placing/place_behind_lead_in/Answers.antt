@@ -1,8 +1,8 @@
 -- The part is placed after its lead-in.
 use Rattle.std.proofs.Common.{ap, arith, false, map, refl, subst, [], ◌∙◌}
 use Rattle.std.proofs.lemmas.Result.{IfOk-weaker}
-use Rattle.slot_plan.proofs.{PartLemmas.needed-first, PlacedLemmas.led-of, TableLemmas.table-within}
-use Rattle.slot_plan.specs.Parts.{need_item, slot_areas}
+use Rattle.slot_plan.proofs.{PartLemmas.reserve_before-first, PlacedLemmas.led-of}
+use Rattle.slot_plan.{proofs.TableLemmas.table-within, specs.Parts.{need_item, slot_areas}}
 use Rattle.slot_plan.specs.Reserve.{free_bytes_behind, greatest_number, IsLeastSlot, PlacesMore}
 use Rattle.slot_plan.proofs.placing.place_behind_lead_in.Goals as goal
 
@@ -10,7 +10,7 @@ pub least_slot-slot-requires : goal.least_slot-slot-requires
 least_slot-slot-requires g c =
     let leads = g.O.Offer.lead_slots_of c.args.offer.now in
     let before =
-    needed-first c.args.room.window
+    reserve_before-first c.args.room.window
     (greatest_number (slot_areas c.args.table.now.lengths false leads))
     (g.O.Offer.slots_of c.args.offer.now) (g.O.Offer.some_area_of c.args.offer.now)
     c.args.part.now c.requires.ready.part.feasible c.requires.reserves.chosen in

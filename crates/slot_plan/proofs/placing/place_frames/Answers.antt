@@ -2,15 +2,16 @@
 use Rattle.std.proofs.Common.{ap, arith, drop, map, subst, sym, ℕ, ◌+◌, ◌∙◌, ◌≡◌}
 use Rattle.std.proofs.lemmas.List.{length-drop}
 use Rattle.frame_header.specs.Tables.{area_of, class_of}
-use Rattle.slot_plan.proofs.PartLemmas.{area-in, next-needed, next-wanted, next-within, same-class}
-use Rattle.slot_plan.{proofs.PlacedLemmas.{places-begun, places-next}, specs.Parts.need_item}
+use Rattle.slot_plan.proofs.PartLemmas.{area-in, next-reserve_before, next-wanted, next-within}
+use Rattle.slot_plan.proofs.{PartLemmas.same-class, PlacedLemmas.{places-begun, places-next}}
+use Rattle.slot_plan.specs.Parts.{need_item}
 use Rattle.slot_plan.specs.Reserve.{free_bytes_behind, open_frames, PlacesMore, reserve_before}
 use Rattle.slot_plan.proofs.placing.place_frames.Goals as goal
 
 pub place_frame-frame-requires-clause-enough : goal.place_frame-frame-requires-clause-enough
 place_frame-frame-requires-clause-enough g c =
     let choices = g.O.Offer.slots_of c.args.offer.now in
-    let all = next-needed choices c.args.part.now c.loop-need.need-index c.need-item.result
+    let all = next-reserve_before choices c.args.part.now c.loop-need.need-index c.need-item.result
     c.loop-need-test.true c.need-item.is in
     let here = (next-wanted choices
     c.args.part.now c.loop-need.need-index c.need-item.result c.loop-need.behind.items

@@ -4,7 +4,7 @@ use Rattle.std.proofs.Common.{rules, Some, subst, sym, vec_len, ℕ, [], ◌+◌
 use Rattle.std.proofs.lemmas.Bool.{eq-eqb, eqb-true, true≢false}
 use Rattle.frame_header.specs.Tables.{class_of}
 use Rattle.outside.{proofs.BufferOutputLemmas.err_at, specs.Files.Holds}
-use Rattle.sync_survey.proofs.FaultsLemmas.{marked-length, marked-none}
+use Rattle.sync_survey.proofs.FaultsLemmas.{length-marked_rows, marked_rows-none}
 use Rattle.sync_survey.proofs.FoldersLemmas.{bytes_refusal, none_read, only_reads_equal, read_more}
 use Rattle.sync_survey.proofs.FoldersLemmas.{still_shown, survey_ends, survey_of-short}
 use Rattle.sync_survey.proofs.{FrontLemmas.pieces_later, LooksLemmas.item_at-shown}
@@ -34,7 +34,7 @@ some_of (r ∷ rows) none = omega arith
 
 frames_count : (head : Option Head) (rows frames : List Row) → rows ≡ marked_rows head frames
     → length rows ≡ length frames
-frames_count head rows frames marks = ap length marks ∙ marked-length head frames
+frames_count head rows frames marks = ap length marks ∙ length-marked_rows head frames
 
 -- the stream begins as the walk says
 begun_as : {file : List ℕ} {walk : Walk} → BeginsAsWalked file walk
@@ -45,7 +45,7 @@ pub loop-at-init : goal.loop-at-init
 loop-at-init g c = record {
   surveyed = λ bytes holds. record {
     frames = [];
-    marks = c.new.ensures.items ∙ sym (marked-none c.args.walk.head);
+    marks = c.new.ensures.items ∙ sym (marked_rows-none c.args.walk.head);
     surveyed =
         subst (IsSurveyedTo bytes c.args.walk.start c.args.walk.head c.args.allowed []
         c.args.walk.pieces.items c.head_area.result 0) (sym c.numbered_from-at.ensures.at)

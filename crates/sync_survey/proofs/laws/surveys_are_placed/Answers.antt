@@ -1,6 +1,6 @@
 -- The frames of a file without fault.
-use Rattle.sync_survey.proofs.PlacedRowLemmas.{surveyed-placed}
+use Rattle.sync_survey.proofs.PlacedRowLemmas.{survey_fields-placed}
 use Rattle.sync_survey.proofs.laws.surveys_are_placed.Goals as goal
 
 pub returns : goal.returns
-returns c = surveyed-placed
+returns c = survey_fields-placed

@@ -1,7 +1,7 @@
 -- The places are the ones of the definition.
 use Rattle.std.proofs.Common.{ap, arith, get_or, length, ◌+◌, ◌-◌, ◌∙◌, ◌≡◌, ◌≤◌}
 use Rattle.std.{proofs.lemmas.List.take_rest, specs.List.prefix_len}
-use Rattle.tag_blocks.proofs.ItemsLemmas.{stands-from, stands_not}
+use Rattle.tag_blocks.proofs.ItemsLemmas.{has_whole_item-from, has_whole_item-not}
 use Rattle.tag_blocks.proofs.item.layout_at.Goals.{After-ape_number}
 use Rattle.tag_blocks.proofs.item.layout_at.Goals.{then-length-lt2-via-else-length-lt2+else-length-gt255+else-end-bytes+then-bytes-value_at-ne0}
 use Rattle.tag_blocks.proofs.item.layout_at.Goals.{then-length-lt2-via-else-length-lt2+else-length-gt255+then-end-bytes}
@@ -17,12 +17,12 @@ key c =
 
 pub returns-then-bytes-lt-KEY_AT-clause-stands : goal.returns-then-bytes-lt-KEY_AT-clause-stands
 returns-then-bytes-lt-KEY_AT-clause-stands c =
-    stands_not c.args.bytes.now (λ s. omega (arith, s.within, c.if-bytes-lt-KEY_AT.true))
+    has_whole_item-not c.args.bytes.now (λ s. omega (arith, s.within, c.if-bytes-lt-KEY_AT.true))
 
 pub returns-then-length-lt2-clause-stands : goal.returns-then-length-lt2-clause-stands
 returns-then-length-lt2-clause-stands c =
     let k = key (goal.at.returns-then-length-lt2-clause-stands c).After-ape_number in
-    stands_not c.args.bytes.now (λ s. elim c.then-length-lt2.branch [
+    has_whole_item-not c.args.bytes.now (λ s. elim c.then-length-lt2.branch [
       | then-length-lt2-via-then-length-lt2 w ↦ omega (arith, k, s.least, w.if-length-lt2.true)
       | then-length-lt2-via-else-length-lt2+then-length-gt255 w ↦
           omega (arith, k, s.most, w.if-length-gt255.true)
@@ -40,7 +40,7 @@ returns-clause-stands c =
     let k = key (goal.at.returns-clause-stands c).After-ape_number in
     let place : 8 + key_length c.args.bytes.now ≡ 8 + c.key_length-length.result + 1 - 1 =
     omega (arith, k) in
-    stands-from c.args.bytes.now (record {
+    has_whole_item-from c.args.bytes.now (record {
       least = omega (arith, k, c.if-length-lt2.false);
       most = omega (arith, k, c.if-length-gt255.false);
       within = omega (arith, k, c.ape_number.ensures, c.if-end-bytes.false);

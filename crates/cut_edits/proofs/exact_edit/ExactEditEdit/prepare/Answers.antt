@@ -5,9 +5,10 @@ use Rattle.commands.proofs.InputLemmas.{memory_is_input, of_survey_input, refuse
 use Rattle.commands.proofs.RefusingLemmas.{err_with}
 use Rattle.commands.specs.SingleOutput.{IsEarlyFault, IsInputFault, IsMaking, Making}
 use Rattle.commands.specs.declared.fault.EditFault.TheVariants.{Memory}
-use Rattle.cut_edits.proofs.HeadLemmas.{apart-length, head_is_input, head_numbers}
+use Rattle.cut_edits.proofs.HeadLemmas.{head_is_input, head_numbers, survey_without_head-length}
 use Rattle.cut_edits.proofs.LaidPassLemmas.{work_layable, work_makes}
-use Rattle.cut_edits.proofs.PieceLemmas.{apart_had, exact-makes, exact-refused, span_apart}
+use Rattle.cut_edits.proofs.PieceLemmas.{exact-makes, exact-refused, span-survey_without_head}
+use Rattle.cut_edits.proofs.PieceLemmas.{survey_without_head-relaid}
 use Rattle.cut_edits.proofs.exact_edit.ExactEditEdit.prepare.Goals.{In_ok-span}
 use Rattle.cut_edits.specs.Exact.{exact_making, exact_refuses, exact_stream, exact_task, file_span}
 use Rattle.cut_edits.specs.{Exact.{IsSpanIn, span_piece}, declared.exact_edit.ExactEdit.ExactEdit}
@@ -108,14 +109,15 @@ select_piece-requires-clause-few g c =
     omega (
       arith,
       ap (λ (s : SurveyFields). length s.frames) c.set_apart.ensures,
-      apart-length (survey_view c.in_ok-survey.survey),
+      survey_without_head-length (survey_view c.in_ok-survey.survey),
       c.in_ok-survey.ensures.few,
     )
 
 pub select_piece-requires-clause-there : goal.select_piece-requires-clause-there
 select_piece-requires-clause-there g c =
     subst (λ (s : SurveyFields). IsSpanIn s c.in_ok-span.span) (sym c.set_apart.ensures)
-    (span_apart (survey_view c.in_ok-survey.survey) c.in_ok-span.span c.in_ok-span.ensures.there)
+    (span-survey_without_head (survey_view c.in_ok-survey.survey)
+    c.in_ok-span.span c.in_ok-span.ensures.there)
 
 pub returns-clause-ready : goal.returns-clause-ready
 returns-clause-ready g c =
@@ -124,7 +126,8 @@ returns-clause-ready g c =
     c.in_ok-work.ensures c.args.self.now.input.now
     (g.D.Folder.seen c.args.folder.now).files c.in_ok-survey.ensures.there
     (subst IsSurveyLaidOut (sym c.set_apart.ensures) (apart-laid s c.in_ok-survey.ensures.laid))
-    (λ bytes holds. subst (CanBeRelaid bytes) (sym c.set_apart.ensures) (apart_had bytes s
+    (λ bytes holds. subst (CanBeRelaid bytes) (sym c.set_apart.ensures)
+    (survey_without_head-relaid bytes s
     (c.in_ok-survey.ensures.surveyed bytes holds))) c.in_ok-selected.ensures.writable
 
 pub returns-clause-making : goal.returns-clause-making
@@ -149,6 +152,6 @@ returns-clause-making g c =
     (sym (c.as_ref.ensures.value ∙ read bytes holds)) ∙ c.in_ok-span.ensures.span)
     (λ bytes holds.
     c.in_ok-selected.ensures.laid bytes (subst (CanBeRelaid bytes) (sym c.set_apart.ensures)
-    (apart_had bytes s (c.in_ok-survey.ensures.surveyed bytes holds)))
+    (survey_without_head-relaid bytes s (c.in_ok-survey.ensures.surveyed bytes holds)))
     ∙ ap₂ (λ (h : Option Info) (t : SurveyFields). span_piece h span bytes t)
     (c.as_ref-2.ensures.value ∙ read bytes holds) c.set_apart.ensures)))

@@ -3,8 +3,8 @@ use Rattle.std.proofs.Common.{ap, arith, length, length-append, List, OnOk, subs
 use Rattle.std.proofs.Common.{◌+◌, ◌<◌, ◌∙◌, ◌∷◌, ◌≡◌}
 use Rattle.circular_buffer.specs.Buffer.{buffer}
 use Rattle.frame_header.specs.{Fields.{ClassFields, IsHeader}, Tables.class_of}
-use Rattle.frame_writer.proofs.FrameLemmas.{areas_in-pushed, AreOf-more, few-wait, more-written}
-use Rattle.frame_writer.proofs.FrameLemmas.{pushed-kept}
+use Rattle.frame_writer.proofs.FrameLemmas.{areas_length-pushed, AreFieldsOfClass-more, few-wait}
+use Rattle.frame_writer.proofs.FrameLemmas.{more-written, pushed-kept}
 use Rattle.frame_writer.proofs.queue.FrameQueue.push.Goals.{After-frame, After-push}
 use Rattle.frame_writer.specs.Frames.{areas_length, AreFieldsOfClass, AreFramesWritten, Frame}
 use Rattle.frame_writer.specs.{Frames.{frame_area, IsNextSettled, WaitingFrames}, Laid.AreAreasLaid}
@@ -62,9 +62,10 @@ invariant_of-self c =
       pushed.0,
       omega (arith, ap length pushed.1, length-append queue.items (k ∷ []), few),
       ap (λ (ks : List FrameFields). areas_length ks) pushed.1
-          ∙ areas_in-pushed queue.items k bytes c.push.new.self.bytes c.self.invariant.2 long,
+          ∙ areas_length-pushed queue.items k bytes c.push.new.self.bytes c.self.invariant.2 long,
       subst (AreFieldsOfClass c.self.inside.class) (sym pushed.1)
-          (AreOf-more c.self.inside.class queue.items k c.self.invariant.3 is class fits),
+          (AreFieldsOfClass-more c.self.inside.class queue.items k c.self.invariant.3 is class
+          fits),
     )
 
 pub returns-clause-kept : goal.returns-clause-kept

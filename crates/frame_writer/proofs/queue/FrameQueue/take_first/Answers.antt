@@ -2,7 +2,7 @@
 use Rattle.std.proofs.Common.{ap, arith, drop, length, List, option_copied, rules, subst, sym, take}
 use Rattle.std.proofs.{Common.{ℕ, ◌++◌, ◌<◌, ◌∙◌, ◌∷◌, ◌≡◌, ◌≤◌}, lemmas.Grind.common_steps}
 use Rattle.circular_buffer.specs.Buffer.{Buffer}
-use Rattle.frame_writer.proofs.FrameLemmas.{first-framed, first-kept}
+use Rattle.frame_writer.proofs.FrameLemmas.{first-framed_bytes, first-kept}
 use Rattle.frame_writer.proofs.WritingLemmas.{err-map, first-handed, first-part, prefix-piece}
 use Rattle.frame_writer.proofs.queue.FrameQueue.take_first.Goals.{After-drop_first}
 use Rattle.frame_writer.proofs.queue.FrameQueue.take_first.Goals.{After-unwrap-first}
@@ -76,7 +76,8 @@ returns g c = record {
       err-map c.add_frame-added.result
       (prefix-piece c.args.name.now c.args.unsent.now (first_bytes k bytes) _
       (framed_bytes (drop 1 items) (drop (frame_area k) bytes)) _ _
-      (first-framed k (drop 1 items) bytes ∙ ap (λ (js : List FrameFields). framed_bytes js bytes)
+      (first-framed_bytes k (drop 1 items) bytes
+      ∙ ap (λ (js : List FrameFields). framed_bytes js bytes)
       (sym (first g (goal.at.returns g c).After-unwrap-first)) ∙ ap held_bytes c.self.view_is))
       c.add_frame-added.ensures.prefix;
   class = search rules;

@@ -1,7 +1,9 @@
 -- What becomes of one more input.
-use Rattle.std.proofs.Common.{ap, ap₂, arith, drop, false, get_or, IfSome, length, length-append, List, map, None, refl, Some, sym, take, ℕ, ◌++◌, ◌-◌, ◌≤◌}
-use Rattle.std.proofs.{Common.{string_bytes, subst, [], ◌<◌, ◌∙◌, ◌≡◌}, lemmas.List.{drop_at, length-map, take_all, take_at}}
-use Rattle.std.{proofs.lemmas.Slice.Zip.AllZip-long, specs.Prelude.slice_get}
+use Rattle.std.proofs.Common.{ap, ap₂, arith, drop, false, get_or, IfSome, length, length-append}
+use Rattle.std.proofs.Common.{List, map, None, refl, Some, string_bytes, subst, sym, take, ℕ, []}
+use Rattle.std.proofs.Common.{◌++◌, ◌-◌, ◌<◌, ◌∙◌, ◌≡◌, ◌≤◌}
+use Rattle.std.proofs.lemmas.{List.{drop_at, length-map, take_all, take_at}, Slice.Zip.AllZip-long}
+use Rattle.std.specs.Prelude.{slice_get}
 use Rattle.exact_span.specs.PlayedPositions.{AreCounted, counted_positions}
 use Rattle.frame_header.specs.Fields.{ClassFields}
 use Rattle.join_edits.proofs.DecideAllLemmas.{all-of-one, get-here, input-few, input-of, is-next}
@@ -184,7 +186,8 @@ returns-clause-decided g c =
       joints = c.in_ok-push.ensures.items;
       needs =
           c.join_needs.ensures
-          ∙ ap₂ (λ (a b : List Need). a ++ joined_needs joint.slot (drop (left_out_count joint.seam) b))
+          ∙ ap₂ (λ (a b : List Need). a
+          ++ joined_needs joint.slot (drop (left_out_count joint.seam) b))
           (front g here) (back g here);
       out = c.join-joint.ensures.fits.out;
       sound = c.join-joint.ensures.sound;

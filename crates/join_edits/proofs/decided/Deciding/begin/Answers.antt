@@ -1,11 +1,12 @@
 -- The run has all frames of the first input.
-use Rattle.std.proofs.{Common.{ap, ap₂, length, List, map, subst, sym, ◌++◌, ◌∙◌, ◌≡◌}, lemmas.List.length-map}
+use Rattle.std.proofs.Common.{ap, ap₂, length, List, map, subst, sym, ◌++◌, ◌∙◌, ◌≡◌}
+use Rattle.std.proofs.lemmas.List.{length-map}
 use Rattle.exact_span.specs.PlayedPositions.{counted_positions}
 use Rattle.frame_header.specs.Fields.{ClassFields}
+use Rattle.join_edits.specs.Deciding.{input_needs}
 use Rattle.laying.specs.Needs.{need_of}
 use Rattle.seam_plan.specs.Decisions.{frame_places, IsRun}
 use Rattle.slot_plan.specs.declared.needs.Need.{Need}
-use Rattle.join_edits.specs.Deciding.{input_needs}
 use Rattle.sync_survey.specs.{Faults.survey_view, Row.Row}
 use Rattle.join_edits.proofs.decided.Deciding.begin.Goals as goal
 

@@ -8,8 +8,8 @@ use Rattle.frame_writer.specs.{Frames.{all_frame_data, Frame, reach_of}, Laid.Be
 use Rattle.laying.proofs.{HoldLemmas.needs-range, PassLemmas.{lays_none, lays_then, part_then}}
 use Rattle.laying.proofs.ReachLemmas.{over-holds}
 use Rattle.laying.proofs.RelayLemmas.{begins-left, fits-next, fits-none, fits-some, found-at}
-use Rattle.laying.proofs.RelayLemmas.{item-next, last-next, lays-all, part_more, relaid-end}
-use Rattle.laying.proofs.RelayLemmas.{relaid-next, step-most}
+use Rattle.laying.proofs.RelayLemmas.{item-next, last-next, lays-all, part_more, relaid_frames-end}
+use Rattle.laying.proofs.RelayLemmas.{relaid_frames-next, step-most}
 use Rattle.laying.proofs.relay.Relay.frames.Goals.{After-index-rows-reading, After-place-item}
 use Rattle.laying.specs.Fits.{FitsFromReach, last_reach, placed_area, placed_bytes, reach_behind}
 use Rattle.laying.specs.{Needs.need_of, Passing.writing_in}
@@ -112,7 +112,7 @@ module _ (g : given.Over) (c : After-index-rows-reading g) where
         append_assoc (c.loop-place.invariant.lays.made file) (one file) (rest file)
         ∙ ap (λ (l : List Frame). c.loop-place.invariant.lays.made file ++ l)
         (sym (ap (relaid_frames (slice_range (all_frames file s) i to)) left
-        ∙ relaid-next s i to next row p more found some next_is file))
+        ∙ relaid_frames-next s i to next row p more found some next_is file))
         ∙ sym (c.loop-place.invariant.lays.left file holds)
 
 pub place-requires-clause-next : goal.place-requires-clause-next
@@ -221,7 +221,7 @@ returns-clause-gives g c = record {
       lays-all self.pass.input.now self.pass.output.now _ _ (writing_in c.args.buffers.now)
       (writing_in c.loop-place.buffers) _ _ c.loop-place.invariant.lays (λ file holds.
       let frames = slice_range (all_frames file s) c.loop-place.reading.next c.args.to in
-      ap (relaid_frames frames) none ∙ relaid-end frames);
+      ap (relaid_frames frames) none ∙ relaid_frames-end frames);
   part = search rules;
   reach = let self = c.args.self.now in
       let s = survey_view self.survey.now in

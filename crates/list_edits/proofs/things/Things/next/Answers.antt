@@ -1,7 +1,7 @@
 -- The next thing is the first of what is left: a block that isn't after the junk or the head, or
 -- one of these.
 use Rattle.std.proofs.Common.{refl, subst, ◌∙◌}
-use Rattle.list_edits.proofs.ThingsLemmas.{block_met, leading_met}
+use Rattle.list_edits.proofs.ThingsLemmas.{block_met, leading_things-met}
 use Rattle.list_edits.specs.Things.{IsLeadingOffset, leading_things}
 use Rattle.list_edits.specs.declared.things.Things.{Things}
 use Rattle.list_edits.proofs.things.Things.next.Goals as goal
@@ -18,7 +18,7 @@ returns-in-Some-next_first_until c =
 pub returns-in-None : goal.returns-in-None
 returns-in-None c =
     let t : Things = c.args.self.now in
-    leading_met t c.next_leading.new.self c.next_leading.result c.in-Some.offset (subst (λ o.
+    leading_things-met t c.next_leading.new.self c.next_leading.result c.in-Some.offset (subst (λ o.
     IsLeadingOffset o
     (leading_things t)) c.in-Some.is c.leading_offset.ensures) c.in-None.ensures.none
     (c.next_leading.ensures.same ∙ c.in-None.ensures.stays) c.next_leading.ensures.met

@@ -1,6 +1,6 @@
 -- All things of the file are left, in order.
 use Rattle.std.proofs.Common.{ap, append_assoc, map, sym, ◌∙◌}
-use Rattle.list_edits.proofs.ThingsLemmas.{things_in_order}
+use Rattle.list_edits.proofs.ThingsLemmas.{ordered_things-is}
 use Rattle.list_edits.specs.Things.{frames_from, head_thing, junk_of, offset_of, things_left}
 use Rattle.list_edits.specs.declared.things.Thing.TheVariants.{Block}
 use Rattle.sync_survey.specs.{Faults.survey_view, Order.merged_list}
@@ -21,4 +21,4 @@ returns c =
     )
     (ap (merged_list offset_of (map Block s.blocks))
     (append_assoc (junk_of s) (head_thing s.first s.head) (frames_from 0 s.frames)))
-    ∙ sym (things_in_order s c.requires)
+    ∙ sym (ordered_things-is s c.requires)

@@ -1,6 +1,6 @@
 -- The name was noted, and no other.
 use Rattle.std.proofs.Common.{ap}
-use Rattle.on_disk.proofs.TouchedLemmas.{touch_emptied, touch_failed, touch_there}
+use Rattle.on_disk.proofs.TouchedLemmas.{touch-with_empty_file, touch_failed, touch_there}
 use Rattle.on_disk.specs.Names.{touched_in}
 use Rattle.on_disk.proofs.disk.DiskFolder.touch_and_empty.Goals as goal
 
@@ -12,7 +12,8 @@ make_empty-requires g c = record {
 
 pub returns-clause-emptied : goal.returns-clause-emptied
 returns-clause-emptied g c =
-    touch_emptied (touched_in c.args.self.now.touched) _ _ c.args.name.now c.in_ok-add.ensures.added
+    touch-with_empty_file (touched_in c.args.self.now.touched) _ _
+    c.args.name.now c.in_ok-add.ensures.added
     (ap touched_in c.make_empty.ensures.touched) c.make_empty.result
 
 pub returns-clause-kept : goal.returns-clause-kept

@@ -1,7 +1,7 @@
 -- The table has an entry for 0 bytes, and the largest area is one of the menu's.
 use Rattle.std.proofs.Common.{ap, arith, length, subst, sym, ◌<◌}
 use Rattle.frame_header.specs.Tables.{class_of, overhead_of}
-use Rattle.rate_plan.proofs.FitLemmas.{has-greatest}
+use Rattle.rate_plan.proofs.FitLemmas.{has-greatest_number}
 use Rattle.slot_plan.proofs.TableLemmas.{table-within}
 use Rattle.rate_plan.proofs.menu.MenuOffer.largest_area_for.Goals as goal
 
@@ -20,5 +20,5 @@ largest_area-requires c =
     }
 
 pub returns-clause-has : goal.returns-clause-has
-returns-clause-has c = has-greatest (class_of c.args.header.now)
+returns-clause-has c = has-greatest_number (class_of c.args.header.now)
     c.args.self.now.slots.now c.args.header.now.protected c.requires.table.of_slots.some

@@ -2,7 +2,7 @@
 use Rattle.std.proofs.Common.{ap, arith, Some, subst, sym, ◌∙◌}
 use Rattle.frame_header.specs.Fields.{HeaderFields}
 use Rattle.seam_plan.proofs.JoinLemmas.{whole-fit}
-use Rattle.seam_plan.proofs.SeamLemmas.{joint-first, joint-last, joint-second, whole-joint}
+use Rattle.seam_plan.proofs.SeamLemmas.{joint-first, joint-last, joint-second, whole_joint-is}
 use Rattle.seam_plan.specs.Decisions.{AddedFramesFit, AreJoint, IsJoint}
 use Rattle.seam_plan.specs.Seams.{following_joint, joint_without_lead_in, whole_joint}
 use Rattle.seam_plan.specs.declared.seam.Seam.TheVariants.{Whole}
@@ -37,7 +37,7 @@ returns-clause-joint c = λ class frames places before brought is brings same.
     (subst (λ s. IsJoint (whole_joint brought) (record { seam = Whole; slot = Some s }))
     (sym (ap (λ (h : HeaderFields). h.slot) c.first.view_is
     ∙ ap (λ (n : Need). n.header.slot) (sym c.index-input-0.is)))
-    (whole-joint c.args.input.now brought c.index-input-0.result brings
+    (whole_joint-is c.args.input.now brought c.index-input-0.result brings
     c.requires.input.some c.index-input-0.is))
 
 pub returns-clause-fits : goal.returns-clause-fits

@@ -1,14 +1,15 @@
 -- The slot in which the first frame joins, as `joins` returns it.
 use Rattle.std.proofs.Common.{length, None, rules, Some, subst, ◌≡◌}
 use Rattle.frame_header.specs.{Fields.IsClass, Tables.window_of}
-use Rattle.seam_plan.proofs.JoinLemmas.{join-fit, joining-empty, joins-as}
+use Rattle.seam_plan.proofs.JoinLemmas.{join-fit, joining_frames-empty, joins-as}
 use Rattle.slot_plan.specs.{FreeBytes.IsJoinSlot, Parts.AreNeedsOfClass}
 use Rattle.seam_plan.proofs.run.Run.joining.Goals as goal
 
 pub returns-then-is_empty-clause-joining : goal.returns-then-is_empty-clause-joining
 returns-then-is_empty-clause-joining c = λ class frames rest places before is needs.
     let none : length c.args.needs.now ≡ 0 = search rules in
-    joining-empty (window_of class.version) c.args.seam frames rest c.args.needs.now needs none
+    joining_frames-empty (window_of class.version) c.args.seam frames rest c.args.needs.now needs
+    none
 
 pub returns-in_default-clause-joining : goal.returns-in_default-clause-joining
 returns-in_default-clause-joining c = λ class frames rest places before is needs.

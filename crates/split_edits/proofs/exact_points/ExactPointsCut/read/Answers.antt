@@ -1,6 +1,7 @@
 -- The survey whose head is set apart.
 use Rattle.std.proofs.Common.{ap, arith, length, subst, sym}
-use Rattle.cut_edits.proofs.{HeadLemmas.apart-length, PieceLemmas.apart_had}
+use Rattle.cut_edits.proofs.HeadLemmas.{survey_without_head-length}
+use Rattle.cut_edits.proofs.PieceLemmas.{survey_without_head-relaid}
 use Rattle.sync_survey.{proofs.EmptiedLemmas.apart-laid, specs.Faults.{survey_view, SurveyFields}}
 use Rattle.sync_survey.specs.Survey.{IsSurveyLaidOut}
 use Rattle.split_edits.proofs.exact_points.ExactPointsCut.read.Goals as goal
@@ -8,7 +9,8 @@ use Rattle.split_edits.proofs.exact_points.ExactPointsCut.read.Goals as goal
 pub returns-clause-source : goal.returns-clause-source
 returns-clause-source g c = λ bytes holds. record {
   survey = c.set_apart.ensures;
-  has = apart_had bytes (survey_view c.args.survey) (c.requires.surveyed bytes holds);
+  has = survey_without_head-relaid bytes (survey_view c.args.survey)
+      (c.requires.surveyed bytes holds);
   head_is = c.in_ok-head.ensures.head bytes holds;
 }
 
@@ -21,6 +23,6 @@ pub returns-clause-few : goal.returns-clause-few
 returns-clause-few g c = omega (
   arith,
   ap (λ (s : SurveyFields). length s.frames) c.set_apart.ensures,
-  apart-length (survey_view c.args.survey),
+  survey_without_head-length (survey_view c.args.survey),
   c.requires.few,
 )
