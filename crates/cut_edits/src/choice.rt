@@ -104,9 +104,11 @@ impl<'a> FrameChoice<'a> {
         requires surveyed { OnFile (D.seen folder.old) name.now
             (λ bytes. survey_of bytes most_frames ≡ Ok (survey_view survey.now)) }
         ensures chosen { IfOk result (λ chosen. OnFile (D.seen folder.old) name.now
-            (λ bytes. choosing_of self.now bytes (survey_view survey.now) ≡ Ok (chosen_in chosen))) }
+            (λ bytes. choosing_of self.now bytes (survey_view survey.now)
+            ≡ Ok (chosen_in chosen))) }
         ensures some { IfOk result (λ chosen. chosen.from < chosen.to) }
-        ensures within { IfOk result (λ chosen. chosen.to ≤ length (survey_view survey.now).frames) }
+        ensures within { IfOk result
+            (λ chosen. chosen.to ≤ length (survey_view survey.now).frames) }
         // This holds however the frames are planned.
         ensures refused { IfErr result (λ fault. (plan : Planning)
             → IsInputFault (laying_making (choosing_of self.now) plan) name.now

@@ -127,8 +127,10 @@ fn select_sealed(survey: &Survey, from: usize, to: usize, kept: Kept, plan: Plan
     requires within { to ≤ length (survey_view survey.now).frames }
     requires few { length (entries plan) ≤ most_output_frames }
     requires fitting { IsFittingPlan (window_of (survey_view survey.now).class.version)
-        (needs_laid (laid_part from to kept (entries plan)) (survey_view survey.now)) (entries plan) }
-    ensures laid { (file : List ℕ) → CanBeRelaid file (survey_view survey.now) → selected_part result
+        (needs_laid (laid_part from to kept (entries plan)) (survey_view survey.now))
+        (entries plan) }
+    ensures laid { (file : List ℕ) → CanBeRelaid file (survey_view survey.now)
+        → selected_part result
         ≡ sealed_part (laid_part from to kept (entries plan)) file (survey_view survey.now) }
     ensures writable { IsWritableSelection (survey_view survey.now) result }
 {
@@ -158,7 +160,8 @@ pub fn select_piece(
     requires laid { IsSurveyLaidOut (survey_view survey.now) }
     requires few { length (survey_view survey.now).frames ≤ most_frames }
     requires there { IsSpanIn (survey_view survey.now) span.now }
-    ensures laid { IfOk result (λ selected. (file : List ℕ) → CanBeRelaid file (survey_view survey.now)
+    ensures laid { IfOk result
+        (λ selected. (file : List ℕ) → CanBeRelaid file (survey_view survey.now)
         → selected_part selected
         ≡ span_piece (option_copied head.entry) span.now file (survey_view survey.now)) }
     ensures writable { IfOk result (IsWritableSelection (survey_view survey.now)) }

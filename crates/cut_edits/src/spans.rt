@@ -51,7 +51,8 @@ pub fn find_span(
     requires to { IsExactPlace to.now }
     requires few { length (survey_view survey.now).frames ≤ most_frames }
     ensures span { MatchResult result
-        (λ span. file_span from.now to.now (option_copied head.entry) (survey_view survey.now) ≡ Ok span)
+        (λ span. file_span from.now to.now (option_copied head.entry) (survey_view survey.now)
+        ≡ Ok span)
         (λ fault. file_span from.now to.now (option_copied head.entry) (survey_view survey.now)
         ≡ Err fault) }
     ensures there { IfOk result (IsSpanIn (survey_view survey.now)) }

@@ -54,9 +54,11 @@ impl DrillWriter {
     fn frame<D: Folder>(&mut self, folder: &mut D, name: &str) -> Result<(), Failed>
         requires there { IsFileThere (D.seen folder.old).files name.now }
         requires next { IsNextDrawn self.old }
-        ensures written { OnOk result (AcceptsFrame name.now (next_frame self.old) (drill_writing self.old)
+        ensures written { OnOk result
+            (AcceptsFrame name.now (next_frame self.old) (drill_writing self.old)
             (drill_writing self.new) (D.seen folder.old).files (D.seen folder.new).files) }
-        ensures part { OnErr result (WritesPart name.now (next_frame self.old) (drill_writing self.old)
+        ensures part { OnErr result
+            (WritesPart name.now (next_frame self.old) (drill_writing self.old)
             self.new.writer (D.seen folder.old).files (D.seen folder.new).files) }
         ensures next { OnOk result (IsNextDrawn self.new) }
         ensures state { self.new.draws.state ≡

@@ -25,7 +25,8 @@ pub fn write_stream<D: Folder>(
     name: &str,
 ) -> Result<(), StreamFault>
     ensures written { OnOk result ((D.seen folder.new).files ≡
-        with_appended_bytes (with_empty_file (D.seen folder.old).files name.now) name.now (drill_stream seed count)) }
+        with_appended_bytes (with_empty_file (D.seen folder.old).files name.now)
+        name.now (drill_stream seed count)) }
     ensures part { IsErrOf result StreamFault.Write
         → FailsToCreate name.now (D.seen folder.old).files (D.seen folder.new).files
         ⊎ AppendedPrefix name.now (drill_stream seed count)

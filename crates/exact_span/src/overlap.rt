@@ -25,7 +25,8 @@ pub fn shared(class: Class, rest: u64, start: u64, frames: u32) -> Option<Overla
     ensures shared { result ≡ shared_overlap class rest start frames }
     ensures overlap { IfSome result IsOverlap }
     ensures within { IfSome result (λ o. o.frames ≤ frames) }
-    ensures short { start ≤ latest_start → rest ≤ longest_rest → IfSome result (IsOverlapShort class) }
+    ensures short { start ≤ latest_start → rest ≤ longest_rest
+        → IfSome result (IsOverlapShort class) }
 {
     let samples = u64::from(class.samples());
     // A greater sum is more frames than any file has.

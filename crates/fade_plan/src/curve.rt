@@ -88,7 +88,8 @@ fn steps_of_both(before: &Point, behind: &Point, frame: u64) -> i16
     requires behind_kept { IsKeptPoint behind.now }
     requires before { before.now.frame ≤ frame }
     requires behind { frame < behind.now.frame }
-    ensures steps { result ≡ steps_between (curve_point_of before.now) (curve_point_of behind.now) frame }
+    ensures steps { result
+        ≡ steps_between (curve_point_of before.now) (curve_point_of behind.now) frame }
     ensures most { unsigned_abs result ≤ 255 }
 {
     let left = weighted(before.steps, behind.frame - frame);

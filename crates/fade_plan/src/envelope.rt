@@ -56,7 +56,8 @@ fn keep(points: &mut Vec<Point>, line: u32, entry: FadeEntry) -> Result<(), Allo
 fn read_points(alloc: Global, text: &[u8]) -> Result<Vec<Point>, EnvelopeFault>
     requires { length text.now ≤ longest_sheet }
     ensures envelope { MatchResult result
-        (λ points. envelope_in (fade_entries_from text.now 0) ≡ Ok (map envelope_point_of points.items))
+        (λ points. envelope_in (fade_entries_from text.now 0)
+        ≡ Ok (map envelope_point_of points.items))
         (λ fault. (fault ≡ Memory) ⊎ (envelope_in (fade_entries_from text.now 0) ≡ Err fault)) }
     ensures kept { IfOk result (λ points. All IsKeptPoint points.items) }
 {

@@ -24,11 +24,23 @@ impl Model for Class {
 
     ghost Value = { ClassFields };
 
-    ghost view = { λ c. record { version = c.version; frequency_index = c.frequency_index; channels = c.channels } };
+    ghost view = { λ c. record {
+      version = c.version;
+      frequency_index = c.frequency_index;
+      channels = c.channels;
+    } };
 
-    ghost invariant = { λ c. IsClass (record { version = c.version; frequency_index = c.frequency_index; channels = c.channels }) };
+    ghost invariant = { λ c. IsClass (record {
+      version = c.version;
+      frequency_index = c.frequency_index;
+      channels = c.channels;
+    }) };
 
-    ghost inverse = { λ v. record { version = v.version; frequency_index = v.frequency_index; channels = v.channels } };
+    ghost inverse = { λ v. record {
+      version = v.version;
+      frequency_index = v.frequency_index;
+      channels = v.channels;
+    } };
 }
 
 #[tactic(auto, unfolding(crate::specs::Fields::same_class, crate::specs::Tables::frequency_of, crate::specs::Tables::rate_of, crate::specs::Tables::side_size_of, crate::specs::Tables::length_of, crate::specs::Tables::area_of, crate::specs::Tables::overhead_of))]

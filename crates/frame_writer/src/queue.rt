@@ -40,7 +40,8 @@ impl Model for FrameQueue {
     ghost view = { λ w. record { class = w.class; kept = w.kept.items; waiting = w.areas } };
 
     ghost invariant = { λ w. (w.kept.capacity ≡ 256) × (length w.kept.items ≤ 256)
-        × (areas_length w.kept.items ≡ length w.areas.bytes) × AreFieldsOfClass w.class w.kept.items };
+        × (areas_length w.kept.items ≡ length w.areas.bytes)
+        × AreFieldsOfClass w.class w.kept.items };
 }
 
 impl FrameQueue {
@@ -134,8 +135,8 @@ impl FrameQueue {
         unsent: &mut WriteBuffer,
     ) -> Result<(), Failed>
         requires there { IsFileThere (D.seen folder.old).files name.now }
-        ensures { QueueFinish name.now (writing_of self.old unsent.old) (writing_of self.new unsent.new)
-            (D.seen folder.old) (D.seen folder.new) result }
+        ensures { QueueFinish name.now (writing_of self.old unsent.old)
+            (writing_of self.new unsent.new) (D.seen folder.old) (D.seen folder.new) result }
     {
         while self.count() > 0 {
             self.take_first(folder, name, unsent)?;
@@ -152,8 +153,8 @@ impl FrameQueue {
         unsent: &mut WriteBuffer,
     ) -> Result<(), Failed>
         requires there { IsFileThere (D.seen folder.old).files name.now }
-        ensures { HandOnAnswer name.now (writing_of self.old unsent.old) (writing_of self.new unsent.new)
-            (D.seen folder.old) (D.seen folder.new) result }
+        ensures { HandOnAnswer name.now (writing_of self.old unsent.old)
+            (writing_of self.new unsent.new) (D.seen folder.old) (D.seen folder.new) result }
     {
         while self.is_next_settled() {
             self.take_first(folder, name, unsent)?;
@@ -202,8 +203,8 @@ impl FrameQueue {
     ) -> Result<(), Failed>
         requires there { IsFileThere (D.seen folder.old).files name.now }
         requires some { 0 < length self.old.kept }
-        ensures { TakeFirstAnswer name.now (writing_of self.old unsent.old) (writing_of self.new unsent.new)
-            (D.seen folder.old) (D.seen folder.new) result }
+        ensures { TakeFirstAnswer name.now (writing_of self.old unsent.old)
+            (writing_of self.new unsent.new) (D.seen folder.old) (D.seen folder.new) result }
     {
         let first = self.kept.front().unwrap();
         let area = first.area() as usize;

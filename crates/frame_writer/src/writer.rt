@@ -115,7 +115,8 @@ impl Writer {
     ) -> Result<(), Failed>
         requires there { IsFileThere (D.seen folder.old).files name.now }
         requires ready { self.old.state ≡ State.Open }
-        requires takes { CanTakeFrame self.old.held (frame_with_data header.now side.now payload.now) }
+        requires takes { CanTakeFrame self.old.held
+            (frame_with_data header.now side.now payload.now) }
         requires fits { SideFits self.old.held.class side.now }
         ensures answer { FrameAnswer name.now (frame_with_data header.now side.now payload.now)
             (writing_of self.old.held []) (writing_of self.new.held []) (D.seen folder.old)

@@ -42,7 +42,8 @@ impl<'a> Changes<'a> {
     /// What changes in a surveyed file that has this tag, or whose tag wasn't read.
     fn decide(&self, alloc: Global, survey: &Survey, tag: Option<Tag>) -> Result<Change, EditFault>
         requires { IsSurveyLaidOut (survey_view survey.now) }
-        ensures { IsChangeDecided (survey_view survey.now) (decided_change self.now (survey_view survey.now) tag) result }
+        ensures { IsChangeDecided (survey_view survey.now)
+            (decided_change self.now (survey_view survey.now) tag) result }
     {
         match (*self, tag) {
             (Changes::Move(shift, _), None) => plain_change(survey, shift),

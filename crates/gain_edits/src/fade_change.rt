@@ -56,11 +56,11 @@ fn curve_by(alloc: Global, sheet: &[u8], survey: &Survey) -> Result<Curve, EditF
 fn change_along(course: Course, survey: &Survey) -> Result<Change, EditFault>
     requires { IsSurveyLaidOut (survey_view survey.now) }
     ensures { MatchResult result
-        (λ change. steps_change (steps_at_offset course (survey_view survey.now).frames) (survey_view survey.now)
-        ≡ Ok (change_in change (survey_view survey.now)))
+        (λ change. steps_change (steps_at_offset course (survey_view survey.now).frames)
+        (survey_view survey.now) ≡ Ok (change_in change (survey_view survey.now)))
         (λ fault. IsEditRefusal choice_refuses fault
-        × (steps_change (steps_at_offset course (survey_view survey.now).frames) (survey_view survey.now)
-        ≡ Err fault)) }
+        × (steps_change (steps_at_offset course (survey_view survey.now).frames)
+        (survey_view survey.now) ≡ Err fault)) }
 {
     match range_fault(&course, survey) {
         Some(refusal) => Err(refusal.into()),

@@ -19,7 +19,8 @@ use tag_blocks::{Tag, Undo};
 /// A change without a note in the tag.
 pub(crate) fn plain_change(survey: &Survey, shift: &Shift) -> Result<Change, EditFault>
     requires { IsSurveyLaidOut (survey_view survey.now) }
-    ensures { IsChangeDecided (survey_view survey.now) (plain_change shift.now (survey_view survey.now)) result }
+    ensures { IsChangeDecided (survey_view survey.now)
+        (plain_change shift.now (survey_view survey.now)) result }
 {
     let steps = shift.each();
     match channel_fault(shift, survey).or(constant_steps_fault(steps, survey)) {
@@ -91,7 +92,8 @@ pub(crate) fn noted_in(
     tag: Tag,
 ) -> Result<Change, EditFault>
     requires { IsSurveyLaidOut (survey_view survey.now) }
-    ensures { IsChangeDecided (survey_view survey.now) (noted_tag_change shift.now (survey_view survey.now) tag) result }
+    ensures { IsChangeDecided (survey_view survey.now)
+        (noted_tag_change shift.now (survey_view survey.now) tag) result }
 {
     let undo = noted_undo(survey, &tag)?;
     noted_change(alloc, survey, shift, tag, &undo)

@@ -29,8 +29,8 @@ fn bytes_unless_empty(alloc: Global, tag: &Tag) -> Result<Vec<u8>, AllocError>
 /// for the first gain that would leave the range from 0 to 255; `Memory`.
 fn undone_change(alloc: Global, survey: &Survey, tag: Tag, undo: &Undo) -> Result<Change, EditFault>
     requires { IsSurveyLaidOut (survey_view survey.now) }
-    ensures { IsChangeDecided (survey_view survey.now) (undone_change (survey_view survey.now) tag undo.now)
-        result }
+    ensures { IsChangeDecided (survey_view survey.now)
+        (undone_change (survey_view survey.now) tag undo.now) result }
 {
     let mut tag = tag;
     let steps = undo_steps(undo);
@@ -49,7 +49,8 @@ fn undone_change(alloc: Global, survey: &Survey, tag: Tag, undo: &Undo) -> Resul
 /// `undone_change`; or `Memory`.
 pub(crate) fn undone_in(alloc: Global, survey: &Survey, tag: Tag) -> Result<Change, EditFault>
     requires { IsSurveyLaidOut (survey_view survey.now) }
-    ensures { IsChangeDecided (survey_view survey.now) (undone_tag_change (survey_view survey.now) tag) result }
+    ensures { IsChangeDecided (survey_view survey.now)
+        (undone_tag_change (survey_view survey.now) tag) result }
 {
     let undo = found_undo(survey, &tag)?;
     undone_change(alloc, survey, tag, &undo)

@@ -48,7 +48,8 @@ fn undo_or(survey: &Survey, tag: &Tag, missing: Result<Undo, EditFault>) -> Resu
 /// The content of the undo item; 0 steps if there is none.
 pub(crate) fn noted_undo(survey: &Survey, tag: &Tag) -> Result<Undo, EditFault>
     requires { IsSurveyLaidOut (survey_view survey.now) }
-    ensures { result ≡ noted_undo (tag_offset (survey_view survey.now)) (undo_from 32 tag.now.items) }
+    ensures { result
+        ≡ noted_undo (tag_offset (survey_view survey.now)) (undo_from 32 tag.now.items) }
 {
     let none = Undo {
         left: 0,
@@ -61,7 +62,8 @@ pub(crate) fn noted_undo(survey: &Survey, tag: &Tag) -> Result<Undo, EditFault>
 /// The content of the undo item, which has to be there: `NoUndo` if there is none.
 pub(crate) fn found_undo(survey: &Survey, tag: &Tag) -> Result<Undo, EditFault>
     requires { IsSurveyLaidOut (survey_view survey.now) }
-    ensures { result ≡ found_undo (tag_offset (survey_view survey.now)) (undo_from 32 tag.now.items) }
+    ensures { result
+        ≡ found_undo (tag_offset (survey_view survey.now)) (undo_from 32 tag.now.items) }
 {
     undo_or(survey, tag, Err(Refusal::NoUndo.into()))
 }

@@ -163,7 +163,8 @@ fn name_at<'a>(values: &[Value<'a>], place: usize) -> &'a str
 // A change of gains of these channels: the values from this place on, counted from 0, are its steps, its input and its output.
 fn gain<'a>(channels: Channels, given: &[Flag], values: &[Value<'a>], place: usize) -> Job<'a>
     requires { place ≤ 2 }
-    ensures { job_request result ≡ gain_request channels given.now (map value_said values.now) place }
+    ensures { job_request result
+        ≡ gain_request channels given.now (map value_said values.now) place }
 {
     Job::Gain {
         shift: Shift {

@@ -96,12 +96,13 @@ impl<'a> Sources<'a> {
         requires held { AreHeld (D.seen folder.old).files (map string_bytes self.now.inputs.now)
             (map survey_view self.now.surveys.now) }
         requires one { AreSurveysOfOneClass (map survey_view self.now.surveys.now) }
-        requires next { IsNextInput (map survey_view self.now.surveys.now) number run.now input.now }
+        requires next { IsNextInput (map survey_view self.now.surveys.now) number
+            run.now input.now }
         ensures within { IfOk result (λ alike. IfSome alike
             (λ o. o.frames ≤ length input.now.needs.now)) }
         ensures alike { IfOk result (IsSharedOverlap (D.seen folder.old).files
-            (map string_bytes self.now.inputs.now) (map survey_view self.now.surveys.now) number run.now
-            input.now) }
+            (map string_bytes self.now.inputs.now)
+            (map survey_view self.now.surveys.now) number run.now input.now) }
         ensures stopped { IfErr result (StopsAmongInputs (map string_bytes self.now.inputs.now)
             (D.seen folder.old).files (D.seen folder.old).counts (D.seen folder.new).counts) }
         ensures reads { OnlyRead result (D.seen folder.old) (D.seen folder.new) }
@@ -238,7 +239,8 @@ fn front_of(survey: &Survey, beginning: &Beginning, run: &[Need]) -> u32
     requires same { AreNeedsOfClass (survey_view survey.now).class run.now }
     requires fits { FitsBehind (window_of (survey_view survey.now).class.version)
         (window_of (survey_view survey.now).class.version) run.now }
-    requires first { take (length (survey_view survey.now).frames) run.now ≡ input_needs (survey_view survey.now) }
+    requires first { take (length (survey_view survey.now).frames) run.now
+        ≡ input_needs (survey_view survey.now) }
     ensures front { (first : Brought) (frames : List RunFrame)
         → BringsNeeds (survey_view survey.now) beginning.now first → run.now ≡ needs_of frames
         → result ≡ front_left_out_count (survey_view survey.now).class first frames }

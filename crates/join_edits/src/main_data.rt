@@ -90,7 +90,8 @@ impl<'a> Source<'a> {
         requires held { IsHeld (D.seen folder.old).files self.now.name.now
             (survey_view self.now.survey.now) }
         requires within { i ≤ length (survey_view self.now.survey.now).frames }
-        ensures over { OnOk result (IsWindowOverFrames window.new self.now.name.now (D.seen folder.old).files
+        ensures over { OnOk result
+            (IsWindowOverFrames window.new self.now.name.now (D.seen folder.old).files
             (survey_view self.now.survey.now) i) }
         ensures reads { ReadsInput self.now (D.seen folder.old) (D.seen folder.new) result }
     {

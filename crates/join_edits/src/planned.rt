@@ -37,7 +37,8 @@ use sync_survey::Survey;
 /// The parts of a plan: the frames of each survey are one part.
 fn parts_of(alloc: Global, surveys: &[Survey]) -> Result<Parts, AllocError>
     requires { CanInputsBeJoined (map survey_view surveys.now) }
-    ensures { IfOk result (λ parts. parts ≡ plan_input (survey_rows (map survey_view surveys.now))) }
+    ensures { IfOk result
+        (λ parts. parts ≡ plan_input (survey_rows (map survey_view surveys.now))) }
 {
     let mut parts = Parts::new(alloc);
     for survey in surveys {

@@ -86,7 +86,8 @@ fn prepare_all<D: Folder>(
 ) -> Result<Ready, EditFault>
     requires some { 1 ≤ length inputs.now }
     requires few { length inputs.now ≤ 64 }
-    ensures ready { IfOk result (IsSeamlessReady (map string_bytes inputs.now) (D.seen folder.old).files) }
+    ensures ready { IfOk result
+        (IsSeamlessReady (map string_bytes inputs.now) (D.seen folder.old).files) }
     ensures refused { IfErr result (IsEarlyFault (seamless_task (map string_bytes inputs.now))
         (D.seen folder.old)
         (D.seen folder.new)) }
@@ -119,7 +120,8 @@ fn write_and_tell<D: Folder, T: Sink>(
     requires some { 1 ≤ length inputs.now }
     requires few { length inputs.now ≤ 64 }
     requires free { clash_of (seamless_command output.now (map string_bytes inputs.now)) ≡ None }
-    requires ready { IsSeamlessReady (map string_bytes inputs.now) (D.seen folder.old).files ready.old }
+    requires ready { IsSeamlessReady (map string_bytes inputs.now)
+        (D.seen folder.old).files ready.old }
     ensures run { IsRunOf (seamless_command output.now (map string_bytes inputs.now))
         (D.seen folder.old)
         (D.seen folder.new) result }
@@ -182,10 +184,12 @@ pub fn join_seamless<D: Folder, T: Sink>(
 ) -> Result<(), EditFault>
     requires some { 1 ≤ length inputs.now }
     requires few { length inputs.now ≤ 64 }
-    ensures done { OnOk result (IsCommandDone (seamless_command output.now (map string_bytes inputs.now))
+    ensures done { OnOk result
+        (IsCommandDone (seamless_command output.now (map string_bytes inputs.now))
         (D.seen folder.old)
         (D.seen folder.new)) }
-    ensures left { IfErr result (IsCommandFault (seamless_command output.now (map string_bytes inputs.now))
+    ensures left { IfErr result
+        (IsCommandFault (seamless_command output.now (map string_bytes inputs.now))
         (D.seen folder.old)
         (D.seen folder.new)) }
     // The text; a prefix of it was sent if a write failed.

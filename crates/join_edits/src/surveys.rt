@@ -77,7 +77,8 @@ pub(crate) fn survey_all<D: Folder>(
     inputs: &[String],
 ) -> Result<Vec<Survey>, EditFault>
     requires few { length inputs.now ≤ 64 }
-    ensures inputs { IfOk result (λ surveys. AreJoinInputs None most_frames (D.seen folder.old).files
+    ensures inputs { IfOk result
+        (λ surveys. AreJoinInputs None most_frames (D.seen folder.old).files
         (map string_bytes inputs.now) (map survey_view surveys.items)) }
     ensures refused { IfErr result (IsEarlyFault (join_task (map string_bytes inputs.now))
         (D.seen folder.old)

@@ -31,7 +31,8 @@ fn append_front<D: Folder>(
 ) -> Result<(), PassFault>
     requires ready { IsRelayReady relay.now (D.seen folder.old).files buffers.old.feed }
     requires none { buffers.old.waiting ≡ [] }
-    ensures written { OnOk result (AppendsMadeBytes relay.now.pass.input.now relay.now.pass.output.now
+    ensures written { OnOk result
+        (AppendsMadeBytes relay.now.pass.input.now relay.now.pass.output.now
         (λ file. concat (front_blocks file (survey_view relay.now.survey.now)) ++ info.now)
         (D.seen folder.old).files (D.seen folder.new).files) }
     ensures prefix { IfErr result (AppendsPrefix relay.now.pass.input.now relay.now.pass.output.now
@@ -63,11 +64,11 @@ fn append_joined<'a, D: Folder>(
     requires few { length inputs.now ≤ 64 }
     requires join { IsJoinPass first.now (map string_bytes inputs.now) (map survey_view surveys.now)
         (D.seen folder.old).files }
-    requires fits { FitsWork (survey_view first.now.survey.now).class (map survey_view surveys.now) froms.now
-        work.old }
+    requires fits { FitsWork (survey_view first.now.survey.now).class (map survey_view surveys.now)
+        froms.now work.old }
     ensures { AppendsJoined first.now (map string_bytes inputs.now)
-        (join_bytes (D.seen folder.old).files (map string_bytes inputs.now) (map survey_view surveys.now)
-        froms.now work.old)
+        (join_bytes (D.seen folder.old).files (map string_bytes inputs.now)
+        (map survey_view surveys.now) froms.now work.old)
         (D.seen folder.old) (D.seen folder.new) result }
 {
     let JoinWork {
@@ -106,8 +107,8 @@ pub(crate) fn write_joined<D: Folder>(
 ) -> Result<(), EditFault>
     requires some { 1 ≤ length inputs.now }
     requires few { length inputs.now ≤ 64 }
-    requires can { CanJoinBeWritten output.now (D.seen folder.old).files (map string_bytes inputs.now)
-        (map survey_view surveys.now) froms.now work.old }
+    requires can { CanJoinBeWritten output.now (D.seen folder.old).files
+        (map string_bytes inputs.now) (map survey_view surveys.now) froms.now work.old }
     ensures written { OnOk result ((bytes : List ℕ)
         → Holds (D.seen folder.old).files (first_input (map string_bytes inputs.now)) bytes
         → (D.seen folder.new).files ≡ files_holding (D.seen folder.old).files output.now

@@ -61,8 +61,8 @@ impl<'a> Relay<'a> {
     ) -> Result<(), PassFault>
         requires ready { IsRelayReady self.now (D.seen folder.old).files feed.old }
         ensures { AddMadeAnswer self.now (chosen_bytes in_front (survey_view self.now.survey.now)
-            (survey_view self.now.survey.now).blocks) waiting.old waiting.new feed.new (D.seen folder.old)
-            (D.seen folder.new) result }
+            (survey_view self.now.survey.now).blocks)
+            waiting.old waiting.new feed.new (D.seen folder.old) (D.seen folder.new) result }
     {
         for block in self.survey.blocks() {
             self.copy_chosen(folder, in_front, block, feed, waiting)?;

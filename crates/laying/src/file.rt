@@ -27,8 +27,8 @@ impl<'a> Relay<'a> {
         waiting: &mut WriteBuffer,
     ) -> Result<(), PassFault>
         requires { IsFileThere (D.seen folder.old).files self.now.pass.output.now }
-        ensures hands { ForwardAnswer self.now (waiting.old ++ bytes.now) waiting.new (D.seen folder.old)
-            (D.seen folder.new) result }
+        ensures hands { ForwardAnswer self.now (waiting.old ++ bytes.now)
+            waiting.new (D.seen folder.old) (D.seen folder.new) result }
         ensures none { OnOk result (waiting.new ≡ []) }
     {
         self.pass.push(folder, bytes, waiting)?;
@@ -50,7 +50,8 @@ impl<'a> Relay<'a> {
     ) -> Result<(), PassFault>
         requires ready { IsRelayReady self.now (D.seen folder.old).files feed.old }
         ensures adds { AddMadeAnswer self.now (λ file. concat
-            (front_blocks file (survey_view self.now.survey.now)) ++ info.now) waiting.old waiting.new
+            (front_blocks file (survey_view self.now.survey.now))
+            ++ info.now) waiting.old waiting.new
             feed.new (D.seen folder.old) (D.seen folder.new) result }
         ensures none { OnOk result (waiting.new ≡ []) }
     {
@@ -71,7 +72,8 @@ impl<'a> Relay<'a> {
     ) -> Result<(), PassFault>
         requires ready { IsRelayReady self.now (D.seen folder.old).files buffers.old.feed }
         requires writable { IsWritableSelection (survey_view self.now.survey.now) selected.now }
-        ensures { AddMadeAnswer self.now (selected_front (survey_view self.now.survey.now) selected.now)
+        ensures { AddMadeAnswer self.now
+            (selected_front (survey_view self.now.survey.now) selected.now)
             buffers.old.waiting buffers.new.waiting buffers.new.feed (D.seen folder.old)
             (D.seen folder.new) result }
     {

@@ -163,8 +163,8 @@ impl<'a> Relay<'a> {
         requires begin { place.now.begin ≤ reach_of writer.old }
         requires unsettled { IsNextSettled writer.old → ⊥ }
         ensures { TakesFrame self.now (lead_in_before place.now row.now.header)
-            (writing_of writer.old unsent.old) (writing_of writer.new unsent.new) (D.seen folder.old)
-            (D.seen folder.new) result }
+            (writing_of writer.old unsent.old) (writing_of writer.new unsent.new)
+            (D.seen folder.old) (D.seen folder.new) result }
     {
         let header = row.header().unprotected(place.slot);
         let side = Side::empty().with_begin(place.begin);
@@ -190,7 +190,8 @@ impl<'a> Relay<'a> {
         requires within { at + count ≤ (survey_view self.now.survey.now).length }
         ensures given { OnOk result (AreGivenBytes feed.new.given self.now.pass.input.now
             (D.seen folder.new).files at count) }
-        ensures reads { RelayReadAnswer self.now feed.new (D.seen folder.old) (D.seen folder.new) result }
+        ensures reads { RelayReadAnswer self.now feed.new (D.seen folder.old)
+            (D.seen folder.new) result }
     {
         self.pass.fill(folder, at, count, feed)
     }
@@ -211,7 +212,8 @@ impl<'a> Relay<'a> {
         requires found { slice_get (survey_view self.now.survey.now).frames i ≡ Some row.now }
         ensures area { OnOk result (IsAreaOf feed.new.given self.now.pass.input.now
             (D.seen folder.new).files row.now) }
-        ensures reads { RelayReadAnswer self.now feed.new (D.seen folder.old) (D.seen folder.new) result }
+        ensures reads { RelayReadAnswer self.now feed.new (D.seen folder.old)
+            (D.seen folder.new) result }
     {
         let own = area_place(self.survey.class(), row);
         self.fill(folder, own.at, own.size, feed)
@@ -231,7 +233,8 @@ impl<'a> Relay<'a> {
         requires none { IsWindowOver window.old [] }
         ensures over { OnOk result (IsWindowOverFrames window.new self.now.pass.input.now
             (D.seen folder.new).files (survey_view self.now.survey.now) 0) }
-        ensures reads { RelayReadAnswer self.now feed.new (D.seen folder.old) (D.seen folder.new) result }
+        ensures reads { RelayReadAnswer self.now feed.new (D.seen folder.old)
+            (D.seen folder.new) result }
     {
         let Some(head) = self.survey.head() else {
             return Ok(());
@@ -259,7 +262,8 @@ impl<'a> Relay<'a> {
         requires none { IsWindowOver window.old [] }
         ensures over { OnOk result (IsWindowOverLast window.new self.now.pass.input.now
             (D.seen folder.new).files (survey_view self.now.survey.now) first first) }
-        ensures reads { RelayReadAnswer self.now feed.new (D.seen folder.old) (D.seen folder.new) result }
+        ensures reads { RelayReadAnswer self.now feed.new (D.seen folder.old)
+            (D.seen folder.new) result }
     {
         if first == 0 {
             self.read_head(folder, feed, window)
@@ -284,7 +288,8 @@ impl<'a> Relay<'a> {
         requires within { i ≤ length (survey_view self.now.survey.now).frames }
         ensures over { OnOk result (IsWindowOverFrames window.new self.now.pass.input.now
             (D.seen folder.new).files (survey_view self.now.survey.now) i) }
-        ensures reads { RelayReadAnswer self.now feed.new (D.seen folder.old) (D.seen folder.new) result }
+        ensures reads { RelayReadAnswer self.now feed.new (D.seen folder.old)
+            (D.seen folder.new) result }
     {
         window.clear();
         let first = first_held(self.survey, i);
@@ -316,7 +321,8 @@ impl<'a> Relay<'a> {
         ensures over { OnOk result ((at : ℕ) → at ≤ (survey_view self.now.survey.now).length
             → HoldsLastAreas window.new self.now.pass.input.now (D.seen folder.new).files
             (survey_view self.now.survey.now) at 0 reading.now.next) }
-        ensures reads { RelayReadAnswer self.now feed.new (D.seen folder.old) (D.seen folder.new) result }
+        ensures reads { RelayReadAnswer self.now feed.new (D.seen folder.old)
+            (D.seen folder.new) result }
     {
         self.fill(folder, reading.at, reading.count, feed)?;
         window.push_area(feed.bytes());
@@ -347,7 +353,8 @@ impl<'a> Relay<'a> {
             reading.now.next) }
         ensures near { IfOk result (λ first. (first.0 + first.1 ≤ own.at)
             × (own.at + own.size ≤ first.0 + most_given)) }
-        ensures reads { RelayReadAnswer self.now feed.new (D.seen folder.old) (D.seen folder.new) result }
+        ensures reads { RelayReadAnswer self.now feed.new (D.seen folder.old)
+            (D.seen folder.new) result }
     {
         let end = reading.at + reading.count as u64;
         if reading.count > 0 && end <= own.at && own.at + own.size as u64 <= reading.at + 4096 {
@@ -376,7 +383,8 @@ impl<'a> Relay<'a> {
         requires over { HoldsUpTo self.now reading.now (D.seen folder.old).files window.old }
         ensures given { IfOk result (GivesArea self.now reading.now known.now.row.now
             (D.seen folder.new).files window.new feed.new.given) }
-        ensures reads { RelayReadAnswer self.now feed.new (D.seen folder.old) (D.seen folder.new) result }
+        ensures reads { RelayReadAnswer self.now feed.new (D.seen folder.old)
+            (D.seen folder.new) result }
     {
         let own = area_place(known.class, known.row);
         let (first, before) = self.first_byte(folder, reading, own, feed, window)?;
@@ -401,7 +409,8 @@ impl<'a> Relay<'a> {
         place: &Placed,
         buffers: &mut RelayBuffers,
     ) -> Result<Reading, PassFault>
-        requires stands { IsRelayAtFrame self.now (D.seen folder.old).files buffers.old reading.now }
+        requires stands { IsRelayAtFrame self.now
+            (D.seen folder.old).files buffers.old reading.now }
         requires few { reading.now.next < 2 ^ 62 }
         requires next { IsNextFrame self.now reading.now known.now }
         requires begin { place.now.begin ≤ reach_of buffers.old.writer }
@@ -409,10 +418,12 @@ impl<'a> Relay<'a> {
             + area_of (class_of known.now.row.now.header) place.now.slot
             known.now.row.now.header.protected }
         ensures next { IfOk result (λ behind. behind.next ≡ reading.now.next + 1) }
-        ensures gives { RelayFramesAnswer self.now (relay_frame self.now reading.now.next known.now.row.now
+        ensures gives { RelayFramesAnswer self.now
+            (relay_frame self.now reading.now.next known.now.row.now
             place.now) (own_reach self.now known.now.row.now place.now) buffers.old buffers.new
             (D.seen folder.old) (D.seen folder.new) result }
-        ensures stands { IfOk result (IsRelayAtFrame self.now (D.seen folder.new).files buffers.new) }
+        ensures stands { IfOk result
+            (IsRelayAtFrame self.now (D.seen folder.new).files buffers.new) }
     {
         let span = self.fill_frame(
             folder,
@@ -459,7 +470,8 @@ impl<'a> Relay<'a> {
         place: &Placed,
         buffers: &mut RelayBuffers,
     ) -> Result<Reading, PassFault>
-        requires stands { IsRelayAtFrame self.now (D.seen folder.old).files buffers.old reading.now }
+        requires stands { IsRelayAtFrame self.now
+            (D.seen folder.old).files buffers.old reading.now }
         requires few { reading.now.next < 2 ^ 62 }
         requires next { IsNextFrame self.now reading.now known.now }
         requires begin { place.now.begin ≤ reach_of buffers.old.writer }
@@ -467,10 +479,12 @@ impl<'a> Relay<'a> {
             place.now.begin + placed_area place.now (need_of known.now.row.now) }
         ensures next { IfOk result (λ behind. behind.next
             ≡ reading.now.next + (if place.now.lead_in then 0 else 1)) }
-        ensures gives { RelayFramesAnswer self.now (relay_planned_frame self.now reading.now.next known.now.row.now
+        ensures gives { RelayFramesAnswer self.now
+            (relay_planned_frame self.now reading.now.next known.now.row.now
             place.now) (placed_reach self.now known.now.row.now place.now) buffers.old buffers.new
             (D.seen folder.old) (D.seen folder.new) result }
-        ensures stands { IfOk result (IsRelayAtFrame self.now (D.seen folder.new).files buffers.new) }
+        ensures stands { IfOk result
+            (IsRelayAtFrame self.now (D.seen folder.new).files buffers.new) }
     {
         if place.lead_in {
             self.lead_in(
@@ -502,8 +516,8 @@ impl<'a> Relay<'a> {
         requires stands { IsRelayOpen self.now (D.seen folder.old).files buffers.old }
         requires ordered { from ≤ to }
         requires within { to ≤ length (survey_view self.now.survey.now).frames }
-        requires over { IsWindowOverFrames buffers.old.window self.now.pass.input.now (D.seen folder.old).files
-            (survey_view self.now.survey.now) from }
+        requires over { IsWindowOverFrames buffers.old.window self.now.pass.input.now
+            (D.seen folder.old).files (survey_view self.now.survey.now) from }
         requires fits { FitsRelayReach (reach_of buffers.old.writer) self.now from to placed.now }
         ensures gives { RelayFramesAnswer self.now (planned_frames self.now from to placed.now)
             (reach_behind_all (reach_of buffers.old.writer) self.now from to placed.now) buffers.old
@@ -603,7 +617,8 @@ impl<'a> Relay<'a> {
         requires writable { IsWritableSelection (survey_view self.now.survey.now) selected.now }
         requires new { IsNewQueue (survey_view self.now.survey.now).class buffers.old.writer }
         ensures { AddMadeAnswer self.now (λ file. bytes_of_frames
-            (selected_frames (survey_view self.now.survey.now) selected.now file)) buffers.old.waiting
+            (selected_frames (survey_view self.now.survey.now) selected.now file))
+            buffers.old.waiting
             buffers.new.waiting buffers.new.feed (D.seen folder.old) (D.seen folder.new) result }
     {
         let from = selected.from;
@@ -618,7 +633,8 @@ impl<'a> Relay<'a> {
 pub fn first_held(survey: &Survey, i: usize) -> usize
     requires within { i ≤ length (survey_view survey.now).frames }
     ensures before { result ≤ i }
-    ensures held { (result ≡ 0) ⊎ (place (survey_view survey.now).head (survey_view survey.now).frames result
+    ensures held { (result ≡ 0)
+        ⊎ (place (survey_view survey.now).head (survey_view survey.now).frames result
         + window_size ≤ place (survey_view survey.now).head (survey_view survey.now).frames i) }
 {
     let rows = survey.frames();
@@ -665,7 +681,8 @@ fn cut_payload<'w>(
         → length passed + length held.now.window.now + length held.now.before.now
         ≡ place (survey_view survey.now).head (survey_view survey.now).frames i
         → ((passed ++ held.now.window.now) ++ held.now.before.now) ++ held.now.own.now
-        ≡ main_bytes file (survey_view survey.now).head (take (i + 1) (survey_view survey.now).frames)
+        ≡ main_bytes file
+        (survey_view survey.now).head (take (i + 1) (survey_view survey.now).frames)
         → result ≡ payload_of file (survey_view survey.now) i row.now }
     ensures few { length result ≤ window_size }
 {

@@ -31,7 +31,8 @@ impl Selected {
         requires within { to ≤ length (survey_view survey.now).frames }
         requires few { length (entries plan) ≤ most_output_frames }
         requires fitting { IsFittingPlan (window_of (survey_view survey.now).class.version)
-            (needs_laid (laid_part from to kept (entries plan)) (survey_view survey.now)) (entries plan) }
+            (needs_laid (laid_part from to kept (entries plan)) (survey_view survey.now))
+            (entries plan) }
         ensures laid { selected_part result ≡ laid_part from to kept (entries plan) }
         ensures writable { IsWritableSelection (survey_view survey.now) result }
     {

@@ -111,7 +111,8 @@ fn set_line(line: &mut Line, common: &mut Common, thing: &Thing)
 // a thing of each kind at every frame.
 #[inline(never)]
 fn set_other_line(line: &mut Line, common: &mut Common, things: &mut Things) -> bool
-    ensures line { result ≡ true → IsNextLine (things_left things.old) (things_left things.new) line.new }
+    ensures line { result ≡ true
+        → IsNextLine (things_left things.old) (things_left things.new) line.new }
     ensures none { result ≡ false → things_left things.old ≡ [] }
 {
     match things.next() {
@@ -127,7 +128,8 @@ fn set_other_line(line: &mut Line, common: &mut Common, things: &mut Things) -> 
 #[tactic(auto, unfolding(crate::specs::Listing::thing_line))]
 #[inline]
 pub(crate) fn set_next_line(line: &mut Line, common: &mut Common, things: &mut Things) -> bool
-    ensures line { result ≡ true → IsNextLine (things_left things.old) (things_left things.new) line.new }
+    ensures line { result ≡ true
+        → IsNextLine (things_left things.old) (things_left things.new) line.new }
     ensures none { result ≡ false → things_left things.old ≡ [] }
 {
     match things.next_frame() {

@@ -26,7 +26,8 @@ fn send_listing<T: Sink>(survey: &Survey, mut buffer: SendBuffer, out: &mut T) -
     requires empty { buffer ≡ [] }
     ensures sent { OnOk result ((T.heard out.new).sent ≡ sent_and_more (T.heard out.old).sent
         (listing (survey_view survey.now))) }
-    ensures prefix { OnErr result (SentPrefix (listing (survey_view survey.now)) (T.heard out.old).sent
+    ensures prefix { OnErr result
+        (SentPrefix (listing (survey_view survey.now)) (T.heard out.old).sent
         (T.heard out.new).sent) }
     ensures cause { HasCause (T.heard out.old).faults (T.heard out.new).faults result }
 {

@@ -52,7 +52,8 @@ fn junk_of(survey: &Survey) -> Option<Thing>
 }
 
 fn head_of(survey: &Survey) -> Option<Thing>
-    ensures { option_to_list result ≡ head_thing (survey_view survey.now).first (survey_view survey.now).head }
+    ensures { option_to_list result
+        ≡ head_thing (survey_view survey.now).first (survey_view survey.now).head }
 {
     let head = survey.head()?;
     Some(Thing::FirstHead(survey.first(), head.header))
@@ -74,7 +75,8 @@ impl<'a> Things<'a> {
     /// The next thing, if it is a frame: its number, and its row. None if it is another, or all were met.
     #[inline]
     pub(crate) fn next_frame(&mut self) -> Option<(u64, &'a Row)>
-        ensures met { IfSome result (λ f. things_left self.old ≡ Frame f.0 f.1.now ∷ things_left self.new) }
+        ensures met { IfSome result
+            (λ f. things_left self.old ≡ Frame f.0 f.1.now ∷ things_left self.new) }
         ensures stays { IfNone result (self.new ≡ self.old) }
     {
         if self.junk.is_some() {
@@ -90,7 +92,8 @@ impl<'a> Things<'a> {
 
     /// The next thing, in order of offset; none once all were met.
     pub(crate) fn next(&mut self) -> Option<Thing>
-        ensures { MatchOption result (things_left self.old ≡ []) (λ t. things_left self.old ≡ t ∷ things_left self.new) }
+        ensures { MatchOption result (things_left self.old ≡ [])
+            (λ t. things_left self.old ≡ t ∷ things_left self.new) }
     {
         let Some(offset) = self.leading_offset() else {
             return self.next_other();
@@ -127,7 +130,8 @@ impl<'a> Things<'a> {
     /// The next thing that is neither the junk nor the head.
     fn next_other(&mut self) -> Option<Thing>
         requires { leading_things self.old ≡ [] }
-        ensures { MatchOption result (things_left self.old ≡ []) (λ t. things_left self.old ≡ t ∷ things_left self.new) }
+        ensures { MatchOption result (things_left self.old ≡ [])
+            (λ t. things_left self.old ≡ t ∷ things_left self.new) }
     {
         let number = self.others.seconds_met() as u64;
         match self.others.next()? {

@@ -36,7 +36,14 @@ impl Model for GainBuffers {
 
     ghost Value = { Passing };
 
-    ghost view = { λ b. record { feed = record { place = b.place; held = take (b.end - b.done) (drop b.done b.room.items); given = [] }; waiting = take b.done b.room.items } };
+    ghost view = { λ b. record {
+      feed = record {
+        place = b.place;
+        held = take (b.end - b.done) (drop b.done b.room.items);
+        given = [];
+      };
+      waiting = take b.done b.room.items;
+    } };
 
     ghost invariant = { λ b. AreBufferBounds b.room.items b.place b.done b.end };
 }
@@ -47,7 +54,8 @@ impl Model for GainBuffers {
 /// `Write` if a write failed.
 fn hand_on<D: Folder>(folder: &mut D, pass: &Pass, bytes: &[u8]) -> Result<(), PassFault>
     requires { IsFileThere (D.seen folder.old).files pass.now.output.now }
-    ensures appended { OnOk result ((D.seen folder.new).files ≡ with_appended_bytes (D.seen folder.old).files
+    ensures appended { OnOk result
+        ((D.seen folder.new).files ≡ with_appended_bytes (D.seen folder.old).files
         pass.now.output.now bytes.now) }
     ensures prefix { OnErr result (AppendedPrefix pass.now.output.now bytes.now
         (D.seen folder.old).files (D.seen folder.new).files) }

@@ -147,8 +147,8 @@ impl<'a> GainPass<'a> {
         requires told { OnFile (D.seen folder.old) self.now.pass.input.now
             (λ file. AreRowsOf file rows.now) }
         ensures { MoveFramesAnswer self.now.pass (λ file. bytes_written_from
-            (steps_at_offset self.now.course.now rows.now) self.now.tag file from rows.now) buffers.old
-            buffers.new (D.seen folder.old) (D.seen folder.new) result }
+            (steps_at_offset self.now.course.now rows.now) self.now.tag file from rows.now)
+            buffers.old buffers.new (D.seen folder.old) (D.seen folder.new) result }
     {
         let mut at = from;
         let mut near = 0;
@@ -164,7 +164,8 @@ impl<'a> GainPass<'a> {
 /// The new tag of a change, which replaces the input's, if the tag changes.
 fn new_tag<'a>(survey: &Survey, change: &'a Change) -> Option<NewTag<'a>>
     requires { IsSurveyLaidOut (survey_view survey.now) }
-    ensures { IsNewTag (survey_view survey.now) (change_in change.now (survey_view survey.now)) result }
+    ensures { IsNewTag (survey_view survey.now)
+        (change_in change.now (survey_view survey.now)) result }
 {
     let bytes = change.tag.as_ref()?;
     let place = tag_place(survey);
@@ -198,8 +199,8 @@ pub fn write_changed<D: Folder>(
         (λ file. survey_of file most_frames ≡ Ok (survey_view survey.now)) }
     requires fresh { IsPassingFresh buffers.old (D.seen folder.old).files input.now }
     ensures { ChangedAnswer (route input.now output.now (survey_view survey.now).length)
-        (λ file. file_with_change (change_in change.now (survey_view survey.now)) file (survey_view survey.now))
-        (D.seen folder.old) (D.seen folder.new) result }
+        (λ file. file_with_change (change_in change.now (survey_view survey.now)) file
+        (survey_view survey.now)) (D.seen folder.old) (D.seen folder.new) result }
 {
     let pass = Pass {
         input,

@@ -26,13 +26,15 @@ fn read_block<D: Folder>(
     survey: &Survey,
     piece: &Piece,
 ) -> Result<Vec<u8>, FileTagFault>
-    requires found { HasTagBlock name.now (D.seen folder.old).files (survey_view survey.now) piece.now }
+    requires found { HasTagBlock name.now (D.seen folder.old).files (survey_view survey.now)
+        piece.now }
     requires few { piece.now.block.length ≤ longest_tag }
     ensures length { IfOk result (λ block. length block.items ≡ piece.now.block.length) }
     ensures bytes { IfOk result (λ block. OnFile (D.seen folder.old) name.now
         (λ bytes. block.items ≡ take piece.now.block.length (drop piece.now.offset bytes))) }
     ensures done { OnOk result ((D.seen folder.new).counts ≡ (D.seen folder.old).counts) }
-    ensures cause { IfErr result (IsTagCause name.now (D.seen folder.old).files (survey_view survey.now)
+    ensures cause { IfErr result
+        (IsTagCause name.now (D.seen folder.old).files (survey_view survey.now)
         (D.seen folder.old).counts (D.seen folder.new).counts) }
     ensures files { (D.seen folder.new).files ≡ (D.seen folder.old).files }
     ensures counts { OnlyReads (D.seen folder.old).counts (D.seen folder.new).counts }
@@ -88,7 +90,8 @@ fn read_piece<D: Folder>(
     ensures large { longest_tag < piece.now.block.length
         → result ≡ Err (FileTagFault.TooLarge piece.now.block.length) }
     ensures done { OnOk result ((D.seen folder.new).counts ≡ (D.seen folder.old).counts) }
-    ensures cause { IfErr result (IsTagCause name.now (D.seen folder.old).files (survey_view survey.now)
+    ensures cause { IfErr result
+        (IsTagCause name.now (D.seen folder.old).files (survey_view survey.now)
         (D.seen folder.old).counts (D.seen folder.new).counts) }
     ensures files { (D.seen folder.new).files ≡ (D.seen folder.old).files }
     ensures counts { OnlyReads (D.seen folder.old).counts (D.seen folder.new).counts }
@@ -128,7 +131,8 @@ pub fn read_tag<D: Folder>(
     ensures large { longest_tag < tag_length (survey_view survey.now)
         → result ≡ Err (FileTagFault.TooLarge (tag_length (survey_view survey.now))) }
     ensures done { OnOk result ((D.seen folder.new).counts ≡ (D.seen folder.old).counts) }
-    ensures cause { IfErr result (IsTagCause name.now (D.seen folder.old).files (survey_view survey.now)
+    ensures cause { IfErr result
+        (IsTagCause name.now (D.seen folder.old).files (survey_view survey.now)
         (D.seen folder.old).counts (D.seen folder.new).counts) }
     ensures files { (D.seen folder.new).files ≡ (D.seen folder.old).files }
     ensures counts { OnlyReads (D.seen folder.old).counts (D.seen folder.new).counts }

@@ -27,7 +27,11 @@ impl Model for Feed {
 
     ghost Value = { Fed };
 
-    ghost view = { λ f. record { place = f.place; held = take f.held f.room.items; given = take (f.to - f.from) (drop f.from f.room.items) } };
+    ghost view = { λ f. record {
+      place = f.place;
+      held = take f.held f.room.items;
+      given = take (f.to - f.from) (drop f.from f.room.items);
+    } };
 
     ghost invariant = { λ f. AreFeedBounds f.room.items f.place f.held f.from f.to };
 }

@@ -23,7 +23,12 @@ impl Model for Tally {
 
     ghost Value = { Counts };
 
-    ghost view = { λ t. record { misses = t.misses; ends = ended_reads t.ends t.end; read_faults = t.read_faults; write_faults = t.write_faults } };
+    ghost view = { λ t. record {
+      misses = t.misses;
+      ends = ended_reads t.ends t.end;
+      read_faults = t.read_faults;
+      write_faults = t.write_faults;
+    } };
 }
 
 impl Tally {

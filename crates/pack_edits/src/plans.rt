@@ -72,7 +72,8 @@ fn plan_by(
     chosen: &Chosen,
     mode: PackMode,
 ) -> Result<Plan, EditFault>
-    requires { AreChosenThere (allowed_frames mode) (chosen_in chosen.now) (survey_view survey.now) }
+    requires { AreChosenThere (allowed_frames mode) (chosen_in chosen.now)
+        (survey_view survey.now) }
     ensures { MatchResult result
         (λ plan. mode_planning mode (survey_view survey.now).class
         (chosen_needs (chosen_in chosen.now) (survey_view survey.now)) ≡ Ok (entries plan))
@@ -114,12 +115,14 @@ pub(crate) fn plan_packed(
     chosen: &Chosen,
     mode: PackMode,
 ) -> Result<Selected, EditFault>
-    requires { AreChosenThere (allowed_frames mode) (chosen_in chosen.now) (survey_view survey.now) }
+    requires { AreChosenThere (allowed_frames mode) (chosen_in chosen.now)
+        (survey_view survey.now) }
     ensures laid { IfOk result (λ l. planned_part (mode_planning mode) (survey_view survey.now)
         (chosen_in chosen.now) ≡ Ok (selected_part l)) }
     ensures writable { IfOk result (IsWritableSelection (survey_view survey.now)) }
     ensures refused { IfErr result (IsPlanFault (mode_planning mode) (mode_refuses mode)
-        (survey_view survey.now).class (chosen_needs (chosen_in chosen.now) (survey_view survey.now))) }
+        (survey_view survey.now).class (chosen_needs (chosen_in chosen.now)
+        (survey_view survey.now))) }
 {
     let plan = plan_by(alloc, survey, chosen, mode)?;
     Ok(Selected::new(survey, chosen.from, chosen.to, chosen.kept, plan))

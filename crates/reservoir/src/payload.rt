@@ -24,7 +24,8 @@ impl<'a> Model for Payload<'a> {
 
     ghost Value = { List ℕ };
 
-    ghost view = { λ p. p.front.now ++ (p.back.now ++ (p.before.now ++ (p.own.now ++ byte_of p.last))) };
+    ghost view = { λ p. p.front.now
+        ++ (p.back.now ++ (p.before.now ++ (p.own.now ++ byte_of p.last))) };
 }
 
 impl<'a> Payload<'a> {

@@ -77,8 +77,8 @@ impl Window {
     pub fn payload(&self, area: u32, begin: u32, bits: u32, into: &mut ArrayVec<u8, 2048>)
         requires held { area + begin ≤ length self.now }
         requires within { bits ≤ 8 * (area + begin) }
-        ensures payload { (main : List ℕ) → IsWindowOver self.now main → AreBitsPacked into.new.items
-            bits (main_bits main (length main - area - begin) bits) }
+        ensures payload { (main : List ℕ) → IsWindowOver self.now main
+            → AreBitsPacked into.new.items bits (main_bits main (length main - area - begin) bits) }
         ensures bytes { AreBytes into.new.items }
         ensures few { length into.new.items ≤ window_size }
     {

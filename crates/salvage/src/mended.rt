@@ -86,7 +86,8 @@ impl Damaged {
     /// If memory runs out.
     pub fn mend(self, alloc: Global) -> Result<Mended, AllocError>
         requires { IsDamagedLaidOut (damaged_view self) }
-        ensures survey { IfOk result (λ m. survey_view m.survey ≡ emptied_survey (damaged_view self).survey) }
+        ensures survey { IfOk result
+            (λ m. survey_view m.survey ≡ emptied_survey (damaged_view self).survey) }
         ensures laid { IfOk result (λ m. IsSurveyLaidOut (survey_view m.survey)) }
         ensures emptied { IfOk result (λ m. m.emptied.items
             ≡ emptied_from 0 (damaged_view self).survey.frames) }

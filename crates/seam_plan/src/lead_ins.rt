@@ -47,7 +47,8 @@ pub(crate) fn fit_alone(needs: &[Need]) -> bool
 pub(crate) fn has_lead_in(input: &Input<'_>) -> bool
     requires { FitBehindWindow input.now.needs.now }
     ensures { (class : ClassFields) (brought : Brought) → AreNeedsOfClass class input.now.needs.now
-        → IsBroughtInput input.now brought → result ≡ has_lead_in (window_of class.version) brought }
+        → IsBroughtInput input.now brought
+        → result ≡ has_lead_in (window_of class.version) brought }
 {
     input.blank && leads_others(input.needs)
 }

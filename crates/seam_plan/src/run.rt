@@ -168,7 +168,8 @@ impl Run {
         requires fits { FitsBehind (window_of self.now.class.version)
             (window_of self.now.class.version) needs.now }
         ensures joining { JoinRun seam needs.now self.now result }
-        ensures fit { IfSome result (λ j. AddedFramesFit self.now.class self.now.left needs.now j.slot) }
+        ensures fit { IfSome result
+            (λ j. AddedFramesFit self.now.class self.now.left needs.now j.slot) }
         ensures seam { IfSome result (λ j. j.seam ≡ seam) }
     {
         if needs.is_empty() {

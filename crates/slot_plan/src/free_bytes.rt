@@ -37,7 +37,8 @@ pub fn wants(needs: &[Need]) -> u32
 /// The frames are of one class, and fit after `free` bytes, which are at most the window.
 pub fn leaves(needs: &[Need], free: u32) -> u32
     requires { FitBehindFree free needs.now }
-    ensures { (class : ClassFields) → AreNeedsOfClass class needs.now → free ≤ window_of class.version
+    ensures { (class : ClassFields) → AreNeedsOfClass class needs.now
+        → free ≤ window_of class.version
         → IsMostLeft (window_of class.version) free needs.now result }
 {
     let mut left = free;

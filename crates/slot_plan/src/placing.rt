@@ -27,7 +27,8 @@ fn place_frame<O: Offer>(
     requires enough { (need.now.bytes + behind) - greatest_number
         (open_frame (need_item (O.slots_of offer.now) need.now)).areas ≤ free }
     requires free { free ≤ most_back }
-    ensures { IsLeastPlacement false free ((need.now.bytes + behind) - free) (class_of need.now.header)
+    ensures { IsLeastPlacement false free ((need.now.bytes + behind) - free)
+        (class_of need.now.header)
         need.now.header.protected (O.slots_of offer.now need.now.header) result }
 {
     let wanted = (u64::from(need.bytes) + u64::from(behind)).saturating_sub(u64::from(free));

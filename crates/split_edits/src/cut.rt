@@ -50,8 +50,8 @@ pub(crate) trait Cut {
         folder: &mut D,
     ) -> Result<Vec<Self::Place>, EditFault>
         requires { IsLegal self.now }
-        ensures places { IfOk result (λ places. SaysPlaces (cutting self.now) (D.seen folder.old).files
-            (Ok places.items)) }
+        ensures places { IfOk result
+            (λ places. SaysPlaces (cutting self.now) (D.seen folder.old).files (Ok places.items)) }
         ensures sound { IfOk result (λ places. ArePlaces IsSound places.items) }
         ensures refused { IfErr result (IsPlacesFault (cutting self.now)
             (D.seen folder.old)
@@ -79,7 +79,8 @@ pub(crate) trait Cut {
         ensures survey { IfOk result (λ source. survey_view source.survey
             ≡ (cutting self.now).survey (survey_view survey)) }
         ensures laid { IfOk result (λ source. IsSurveyLaidOut (survey_view source.survey)) }
-        ensures few { IfOk result (λ source. length (survey_view source.survey).frames ≤ most_frames) }
+        ensures few { IfOk result
+            (λ source. length (survey_view source.survey).frames ≤ most_frames) }
         ensures refused { IfErr result (IsHeadFault input.now
             (D.seen folder.old)
             (D.seen folder.new)) }

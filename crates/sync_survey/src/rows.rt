@@ -29,9 +29,14 @@ impl Model for Row {
 
     ghost Value = { Row };
 
-    ghost view = { λ r. record { offset = r.offset; header = r.front.header; lost = r.lost; side = r.front.side } };
+    ghost view = { λ r.
+        record { offset = r.offset; header = r.front.header; lost = r.lost; side = r.front.side } };
 
-    ghost inverse = { λ r. record { offset = r.offset; lost = r.lost; front = record { header = r.header; side = r.side } } };
+    ghost inverse = { λ r. record {
+      offset = r.offset;
+      lost = r.lost;
+      front = record { header = r.header; side = r.side };
+    } };
 }
 
 impl HasOffset for Row {

@@ -41,7 +41,10 @@ impl Survey {
     /// The offset and the length of the junk before the first frame. Without junk, the offset is
     /// where the first frame or head begins, and the length is 0.
     pub fn junk(&self) -> (u64, u64)
-        ensures { result ≡ ((survey_view self.now).junk, (survey_view self.now).first - (survey_view self.now).junk) }
+        ensures { result ≡ (
+          (survey_view self.now).junk,
+          (survey_view self.now).first - (survey_view self.now).junk,
+        ) }
     {
         let at = self.start.front_end;
         (at, self.start.first.offset.saturating_sub(at))

@@ -27,7 +27,8 @@ impl Model for ApeItem {
 
     ghost Value = { TagItem };
 
-    ghost view = { λ item. record { key = item.key.items; flags = item.flags; value = item.value.items } };
+    ghost view = { λ item.
+        record { key = item.key.items; flags = item.flags; value = item.value.items } };
 }
 
 /// Whether a byte is a character of a key.

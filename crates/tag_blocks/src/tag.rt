@@ -32,9 +32,17 @@ impl Model for Tag {
 
     ghost Value = { TagFields };
 
-    ghost view = { λ tag. record { header_flags = tag.header_flags; footer_flags = tag.footer_flags; items = tag.items.items } };
+    ghost view = { λ tag. record {
+      header_flags = tag.header_flags;
+      footer_flags = tag.footer_flags;
+      items = tag.items.items;
+    } };
 
-    ghost invariant = { λ tag. IsTag (record { header_flags = tag.header_flags; footer_flags = tag.footer_flags; items = tag.items.items }) };
+    ghost invariant = { λ tag. IsTag (record {
+      header_flags = tag.header_flags;
+      footer_flags = tag.footer_flags;
+      items = tag.items.items;
+    }) };
 }
 
 /// The tag that an APEv2 block is.
