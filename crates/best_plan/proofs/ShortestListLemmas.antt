@@ -78,12 +78,11 @@ by-lead : (window : ℕ) (choices : HeaderFields → List SlotFields) (needs : L
     → IsLeadIn window choices needs other → IsPlanFor window (part_items choices needs other) placed
     → Holds choices needs placed best lead_in (other ∷ []) (part_items choices needs other)
 unfolding IsLeadIn part_items items_with_lead_in
-by-lead window choices needs placed best false None without is alone plan =
-    (
-      ((λ _. refl), (λ _. refl)),
-      is.best.shortest (item_areas (map (need_item choices) needs) placed) plan.least.chosen
-          plan.least.feasible,
-    )
+by-lead window choices needs placed best false None without is alone plan = (
+  ((λ _. refl), (λ _. refl)),
+  is.best.shortest (item_areas (map (need_item choices) needs) placed) plan.least.chosen
+      plan.least.feasible,
+)
 by-lead window choices needs placed best true None without is alone plan =
     absurd (true≢false (without.1 alone))
 by-lead window choices [] placed best lead_in (Some slot) without is alone plan = absurd alone
