@@ -1,5 +1,5 @@
-# make            builds the program, which proves it
-# make install    puts program, man page, completion and documents below DESTDIR/PREFIX
+# make            builds the program, and so proves it
+# make install    installs the program, man page, completion and documents below DESTDIR/PREFIX
 # make uninstall  removes them
 # make deb        makes a Debian package of them in OUT
 # make check      the merge gate

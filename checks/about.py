@@ -1,12 +1,13 @@
 #!/usr/bin/env python3
-"""What `mp3edit info` says of MP3 files. It shares no code with the program that it helps to check.
+"""What `mp3edit info` says about MP3 files. It shares no code with the program that it helps to check.
 
   about.py info FILE              what 'mp3edit info FILE' sends to standard output
-  about.py ends FILE              the least and the greatest of all gains, those of silent granules among them; lost frames left out
+  about.py ends FILE              the lowest and the highest gain, including those of silent granules but not those of lost frames
 
-The payload of a frame is its main data in bytes, none of a lost frame; the areas, that of the head among them, are where main data can be.
-A number of the head is there where its flag is set and it is whole. Delay and padding are those of a head that counts, as spans.py has it. The
-gains that move are those of granules with main data, in frames that aren't lost; they can be moved by as many steps as leave each in 0 to 255.
+The payload of a frame is the length of its main data in bytes; a lost frame has none. The areas, including the head's, are where main data
+can be. The head has a number if the number's flag is set and its field is whole. Delay and padding are shown if the head counts (see
+spans.py). The gains that move are those of granules with main data, in frames that aren't lost; they can move by as many steps as keep each
+of them in 0 to 255.
 """
 import sys
 
@@ -17,7 +18,7 @@ import spans  # noqa: E402
 
 
 def numbers_of(data, head):
-    """How many frames and how many bytes a head says, each None where it doesn't say it."""
+    """The numbers of frames and of bytes that a head has, each None if the head doesn't have it."""
     fields = data[laid.text_of(data, head) : head.end]
     flags = int.from_bytes(fields[4:8], "big") if len(fields) >= 8 else 0
     said, at = [None, None], 8
@@ -52,7 +53,7 @@ def played_line(data, found):
 
 
 def gains_of(found, channels):
-    """The gains of these channels that move."""
+    """Those gains of these channels that move."""
     return [it.gain for frame in found.frames for it in frame.moving() if it.channel in channels]
 
 

@@ -1,5 +1,5 @@
-"""Small MP3 files, and random changes of them, for mutated-files: each function takes the source of random numbers. A file is changed
-first as a list of pieces, which are frames, blocks and other bytes, and then as bytes.
+"""Small MP3 files, and random changes to them, for mutated-files: each function takes the source of random numbers. A file is changed
+first as a list of pieces (frames, blocks and other bytes) and then as bytes.
 """
 import array
 import shutil
@@ -24,7 +24,7 @@ OTHER_POINTS = (b"", b"# x", b"\t#", b"0", b"EOF 1 1", b"0.0 1", b"1 256", b"EOF
 HEADER_FIELDS = ((11, 1), (12, 1), (13, 2), (15, 1), (16, 4), (20, 2), (22, 1), (23, 1), (24, 2), (26, 2), (28, 1), (29, 1), (30, 2))
 
 
-# ---- files to begin with: lists of pieces, such as frames and blocks
+# ---- files to start from: lists of pieces, such as frames and blocks
 
 
 def pieces_of(data):
@@ -47,7 +47,7 @@ def sound(random, frequency, channels, name):
 
 
 def encoded(folder):
-    """Files by the encoders that are there."""
+    """Files by the encoders that are installed, as pieces."""
     random, found = Random(0), []
     options = ("-V 2", "-p --abr 64 --tt x", "-t -p -V 6", "--nores -b 64 -m d", "-m m -t", "-p -m m -V 4", "-b 160 -m s --tt x")
     for turn, frequency in enumerate(it for _, version in VERSION_BITS for it in version.frequencies * 2):
@@ -62,7 +62,7 @@ def encoded(folder):
 
 
 def with_bits(data, at, width, value):
-    """Bytes with another number in these bits."""
+    """The bytes with another number in these bits."""
     behind = 8 * len(data) - at - width
     number = int.from_bytes(data, "big")
     number += (value - (number >> behind & (1 << width) - 1)) << behind
@@ -70,7 +70,7 @@ def with_bits(data, at, width, value):
 
 
 def with_lengths(random, shape, side, bits):
-    """Side information whose granules have this number of bits of main data together, or nearly."""
+    """Side information whose granules have this many bits of main data in total, or nearly."""
     count = shape.version.granules * shape.channels
     for number in range(count):
         here = min(4095, bits if number == count - 1 else random.choice((0, bits // 2, random.randint(0, bits))))
@@ -104,7 +104,7 @@ def made(random):
     return laid.laid(found)
 
 
-# ---- changes of pieces
+# ---- changes to pieces
 
 
 def note(random):
@@ -126,7 +126,7 @@ def ape(random):
     tag.items = [item(random) for _ in range(random.choice((0, 1, 1, 2, 3)))]
     tag.flags = tag.flags[0] | random.choice((0, random.getrandbits(29))), random.choice((tag.flags[1], 0, random.getrandbits(29)))
     if random.random() < 0.02:
-        # At the edge of what is read, or of what may be written.
+        # At the limit of what is read, or of what may be written.
         size = frames.LONGEST_TAG - len(bytes(tag)) - 13 - random.choice((-1, 0, 1, 31, 32, 33))
         tag.items.append((b"Long", 0, bytes(size)))
     return bytes(tag)
@@ -149,7 +149,7 @@ def block(random):
 
 
 def letters(random):
-    """Bytes that don't belong to a stream, up to a little more than the 65,536 that may be before it."""
+    """Bytes that don't belong to a stream, sometimes about as many as the 65,536 that may come before it."""
     most = random.choice((3, 40, 500, 500))
     if random.random() < 0.1:
         return b"U" * random.randint(65_535, 65_537)
@@ -179,7 +179,7 @@ def put_letters(random, pieces, _):
 
 
 def put_others(random, pieces, others):
-    """Some frames or blocks of another file."""
+    """Inserts some frames or blocks of another file."""
     other = random.choice(others)
     at = random.randrange(len(other))
     put_in(random, pieces, b"".join(other[at : at + random.randint(1, 4)]))
@@ -191,7 +191,7 @@ def take_out(random, pieces, _):
 
 
 def leave_few(random, pieces, _):
-    """Other bytes, a frame or another piece, and a prefix of the next one."""
+    """Leaves one piece, after bytes that belong to no stream, and a prefix of the next piece."""
     at = random.randrange(len(pieces))
     pieces[:] = [letters(random), *pieces[at : at + 1], *[it[: random.randint(0, len(it))] for it in pieces[at + 1 : at + 2]]]
 
@@ -202,7 +202,7 @@ def double(random, pieces, _):
 
 
 def put_head(random, pieces, _):
-    """A head before the first frame, whose text may be at either place, or the first frame made one."""
+    """Puts a head before the first frame, or makes the first frame one; its text may be at either place."""
     places = frame_places(pieces)
     if places:
         at = places[0]
@@ -223,7 +223,7 @@ def change_header(random, pieces, _):
 
 
 def change_side(random, pieces, _):
-    """Another number in a field of the side information, mostly with the check word that is right for it."""
+    """Puts another number into a field of the side information, mostly with a matching check word."""
     places = frame_places(pieces)
     for _ in range(random.choice((1, 1, 3)) if places else 0):
         at = random.choice((*places[:2], random.choice(places)))
@@ -240,11 +240,11 @@ def change_side(random, pieces, _):
         pieces[at] = pieces[at][:4] + word + side + pieces[at][shape.side_end :]
 
 
-# ---- changes of bytes
+# ---- changes to bytes
 
 
 def turned(random, data):
-    """With one bit turned, or three."""
+    """The bytes with one bit flipped, or up to three."""
     new = bytearray(data)
     for _ in range(random.choice((1, 1, 3))):
         new[random.randrange(len(new))] ^= 1 << random.randrange(8)
@@ -278,7 +278,7 @@ def any_pieces(random, sources):
 
 
 def changed(random, pieces, sources):
-    """The bytes of some pieces after some changes."""
+    """The bytes of the pieces, or of some of them, after some changes."""
     pieces = list(pieces)
     if random.random() < 0.3:
         at = random.randrange(len(pieces))
@@ -308,7 +308,7 @@ def sheet(random):
 
 
 def fade_sheet(random, data):
-    """The sheet of a fade over a file, maybe with faults."""
+    """A fade sheet for a file, maybe with faults."""
     found = results.survey_or_fault(data)
     count = len(found.frames) if isinstance(found, frames.Survey) else 3
     points = random.choice((1, 2, 2, 3, 4, 7))
@@ -328,11 +328,11 @@ def fade_sheet(random, data):
 
 
 def files(random, sources):
-    """A file and another one, which is mostly made of the same frames, two sheets, and maybe an output that exists already."""
+    """A file and another one, mostly made of the same frames, two sheets, and maybe an output that already exists."""
     pieces = any_pieces(random, sources)
     others = pieces if random.random() < 0.7 else any_pieces(random, sources)
     found = {"x": changed(random, pieces, sources), "y": changed(random, others, sources), "s": sheet(random)}
-    # The sheet of a fade has random numbers of its own, so that it changes none of the others.
+    # The fade sheet has its own random numbers, so that those of everything else stay the same.
     fade = {"f": fade_sheet(Random(zlib.crc32(found["x"])), found["x"])}
     return found | fade | ({"o": b"old" * random.choice((1, 50_000))} if random.random() < 0.3 else {})
 
@@ -341,7 +341,7 @@ def files(random, sources):
 
 
 def places(random, count, frames_there):
-    """This number of words for positions, mostly rising."""
+    """`count` words for positions, mostly rising."""
     numbers = sorted(random.sample(range(frames_there + 1), min(count, frames_there + 1)))
     if random.random() < 0.1:
         random.shuffle(numbers)
@@ -375,7 +375,7 @@ def exact_places(random, data, found, many=2):
 
 
 def mode(random, data):
-    """Words that say by how many steps gains are to move: mostly a few, or as many as they may, or one more."""
+    """Words that say how many steps the gains move: mostly a few, or as many as they may, or one more."""
     found = results.survey_or_fault(data)
     gains = [it.gain for frame in getattr(found, "frames", []) for it in frame.moving()] or [100]
     edges = [255 - max(gains), 256 - max(gains), -min(gains), -1 - min(gains)]
@@ -385,7 +385,7 @@ def mode(random, data):
 
 
 def bit_rate(random, found):
-    """A word for a bit rate: mostly one of a frame or of another of its version."""
+    """A word for a bit rate: mostly a frame's, or another one of its version."""
     if not isinstance(found, frames.Survey) or random.random() < 0.1:
         return random.choice(("0", "8", "100", "144", "256", "999", "032", "1000", "-1", "x"))
     it = random.choice(found.frames)
@@ -412,7 +412,7 @@ def commands(random, files):
     yield ["join", "o", *random.choice((["x", "y"], ["y", "x"], ["x", "x", "y"], ["y", "x", "y", "x"]))]
     yield ["fade", "x", "o", "f"]
     yield ["fade", "--back", "x", "o", "f"]
-    # Few frames, since each is laid in Python too.
+    # Few frames, since Python has to lay each of them too.
     yield ["drill", str(random.choice((0, 1, 2**31 - 1, random.randrange(2**31)))), str(random.choice((1, 2, random.randint(1, 60))))]
     words = random.choice(
         ("gain -w -s s -l 1 3 x o", "cut --least x 0 1 o", "split x p 0 EOF", "join o x", "fade --back x o f", "drill 0000000005 00002")
@@ -420,7 +420,7 @@ def commands(random, files):
     at = random.randint(0, len(words))
     words[at : at + random.randint(0, 2)] = random.choice(([], ["-w"], ["0.60"], ["x"], ["o"], ["p03.mp3"], ["none"], ["256"], [""]))
     yield words
-    # Drawn apart, as the sheet of a fade is.
+    # What follows is drawn separately, like the fade sheet.
     yield ["salvage", "x", "o"]
     random = Random(zlib.crc32(data) + 1)
     yield ["cut", "--exact", "x", *exact_places(random, data, found), "o"]

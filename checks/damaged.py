@@ -1,17 +1,17 @@
 #!/usr/bin/env python3
-"""Reads damaged MP3 files, apart from the program that it helps to check.
+"""Reads damaged MP3 files. It shares no code with the program that it helps to check.
 
-  damaged.py told FILE    what is read of the file: the head, blocks, frames and gaps by their offsets
-  damaged.py text FILE    the lines that say what is missing: gaps and emptied frames by their offsets, and how many there are
+  damaged.py told FILE    what is read of the file: the head, blocks, frames and gaps in order of offset
+  damaged.py text FILE    the lines that say what is missing: gaps and emptied frames in order of offset, and how many there are
 
-If nothing is read, both say why ('no frame at O', 'too many frames at O'), with status 1.
+If nothing is read, both print the reason ('no frame at O', 'too many frames at O', 'too long: N') and end with status 1.
 
 The first frame is the usable one at the offset where the blocks and zero bytes at the front of the file end, or the first usable one
-after it that is anchored. From there on usable frames, whole blocks and zero bytes are read, end to end. Where none of them follows a
-gap begins, and it ends at the next usable frame that is anchored, or with the file. A frame is usable if it is whole, of the class of
-the first one, and its check word, if it has one, is right; the first may be a head with any check word. After each gap main data are
-counted from 0. A frame whose main data begin before that 0, or before the end of those of an earlier sound frame, or end after its own
-area, becomes an empty one.
+after it that is anchored. From there on usable frames, whole blocks and zero bytes are read, end to end. Where none of them follows, a
+gap begins; it ends at the next usable frame that is anchored, or at the end of the file. A frame is usable if it is whole, of the first
+frame's class, and its check word, if it has one, is right; the first may be a head with any check word. After each gap main data are
+counted from 0 again. A frame becomes an empty one if its main data begin before that 0 or before the end of an earlier sound frame's main
+data, or end after the frame's own area.
 """
 import sys
 
@@ -23,19 +23,19 @@ class Refused(Exception):
 
 
 def is_right(data, frame):
-    """Whether its check word is right, if it has one."""
+    """Whether the frame's check word is right, if it has one."""
     frame.read_side(data)
     return not frame.protected or frame.word == frame.right_word(frame.side)
 
 
 def frame_at(data, at):
-    """The whole frame at the offset."""
+    """The whole frame at the offset, or None."""
     there = header_at(data, at)
     return there if isinstance(there, Frame) and there.end <= len(data) else None
 
 
 def usable_at(data, at, kind):
-    """The usable frame at the offset: of this class, or as the first frame where no class is given."""
+    """The usable frame at the offset, or None: of this class, or as the first frame if no class is given."""
     frame = frame_at(data, at)
     if frame is None:
         return None
@@ -45,7 +45,7 @@ def usable_at(data, at, kind):
 
 
 def next_usable(data, at, kind):
-    """The usable anchored frame at the least offset, from the given one on."""
+    """The first usable frame that is anchored, at this offset or after it; or None."""
     while True:
         at = data.find(b"\xff", at)
         if at < 0:
@@ -57,7 +57,7 @@ def next_usable(data, at, kind):
 
 
 def other_end(data, at, blocks):
-    """The offset after the whole block or the zero byte at an offset, or None."""
+    """The offset after the whole block or the zero byte at this offset, or None. A block is added to the blocks."""
     block = block_at(data, at)
     if block and block.end <= len(data):
         blocks.append(block)

@@ -1,6 +1,6 @@
 #!/usr/bin/env python3
 """Writes to standard output the stream that `mp3edit drill SEED COUNT` makes and packs, by the rules of its generator. It shares no
-code with the program.
+code with the program that it helps to check.
 
   drill.py SEED COUNT
 """
@@ -12,7 +12,7 @@ AREA, WINDOW = 381, 511
 
 
 def draws(state):
-    """The draws from a state on, each from 0 to 32,767."""
+    """The numbers drawn from this state on, each from 0 to 32,767."""
     while True:
         state = (state * 1103515245 + 12345) % 2**31
         yield state // 65536

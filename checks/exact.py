@@ -2,14 +2,14 @@
 """Compares exact pieces with the decoded whole, sample by sample, in mpg123 and in ffmpeg.
 
   exact.py pieces TOOL FILE SEED COUNT [DECODER..]   COUNT cuts of the file between random times, and splits into 5 by times and by a cue sheet,
-                                                     made by a tool; prints a line for each decoder, and fails where a piece isn't right
-                                                     in one of those that are named
+                                                     made by a tool; prints two lines for each decoder, one for cuts and one for splits, and
+                                                     fails if a piece isn't right in one of the named decoders
 
 A tool is 'ours', which is 'cut --exact' and 'split --exact' of the program that MP3EDIT names; 'plain', its 'cut' and 'split'; 'mp3splt', which
-cuts with '-f -b'; or 'ffmpeg', which cuts with '-c copy'. A piece is right where a player that leaves out delay and padding, as its
-head gives them, plays the samples of the whole between the two times, and no others. The line has how many of all are
-right and how many were refused, and of the others the greatest numbers of samples that are missing at the end, extra, and different, and by how
-much the worst is off. mpg123 rounds, so a unit is no difference in it. The pieces of a split are played one after another.
+cuts with '-f -b'; or 'ffmpeg', which cuts with '-c copy'. A piece is right if a player that leaves out delay and padding, as the piece's
+head gives them, plays exactly the samples of the whole between the two times. A line says how many of all are right and how many were
+refused; and for the others the greatest numbers of samples that are missing at the end, extra, and different, and the greatest difference.
+mpg123 rounds, so a difference of one unit doesn't count there. The pieces of a split are played in order.
 """
 import array
 import os
@@ -25,7 +25,7 @@ PROGRAM = os.environ.get("MP3EDIT", "mp3edit")
 
 
 def decoded(decoder, path):
-    """The samples of a file, those of the channels in turn, as its player plays them."""
+    """The samples of a file as the decoder plays them, channels interleaved."""
     words = {
         "mpg123": ["mpg123", "-q", "-s", "-e", "s16", str(path)],
         "ffmpeg": ["ffmpeg", "-v", "quiet", "-i", str(path), "-f", "s16le", "-"],
@@ -52,7 +52,7 @@ def run(words):
 
 
 def cut(tool, file, first, last, folder):
-    """The piece between two times in hundredths of a second, or none where the tool refuses."""
+    """The piece between two times in hundredths of a second, or None if the tool refuses."""
     begin, end = word_of(first), word_of(last)
     piece = folder / "piece.mp3"
     piece.unlink(missing_ok=True)
@@ -66,7 +66,7 @@ def cut(tool, file, first, last, folder):
 
 
 def split(tool, file, times, folder):
-    """The pieces between the beginning, these times in hundredths and the end, in order, or none where the tool refuses."""
+    """The pieces between the beginning, these times in hundredths of a second and the end, in order; or None if the tool refuses."""
     words = [word_of(it) for it in (0, *times)]
     if tool in EXACT:
         return split_by([PROGRAM, "split", *EXACT[tool], str(file), str(folder / "part"), *words, "EOF"], folder)
@@ -81,7 +81,7 @@ def split(tool, file, times, folder):
 
 
 def split_by_sheet(tool, file, times, folder):
-    """The same by a cue sheet, by the 75th parts of a second in which it counts; ffmpeg has no sheets."""
+    """The same by a cue sheet, with times in its unit, 1/75 s; ffmpeg has no sheets."""
     sheet = folder / "sheet.cue"
     tracks = (f"TRACK {number:02} AUDIO\nINDEX 01 {it // 4500:02}:{it // 75 % 60:02}:{it % 75:02}" for number, it in enumerate((0, *times), 1))
     sheet.write_text("\n".join(['FILE "x" MP3', *tracks]) + "\n")
@@ -99,7 +99,7 @@ def split_by(words, folder):
 
 
 def beside(whole, piece, unit, channels):
-    """How many samples of the piece are missing, extra and different in a channel, and by how much at most."""
+    """How many samples a channel of the piece lacks, has extra and has different, and by how much they differ at most."""
     here = min(len(whole), len(piece))
     off = {}
     if whole[:here] != piece[:here]:
@@ -129,7 +129,7 @@ class Told:
 
 
 def compared(tool, file, seed, count):
-    """What was found of the pieces, by decoder and by 'cuts' or 'splits'."""
+    """What was found about the pieces, by decoder and by 'cuts' or 'splits'."""
     file = Path(file).resolve()
     frequency, channels = shape_of(file)
     wholes = {decoder: decoded(decoder, file) for decoder in ROUNDS}

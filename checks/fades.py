@@ -4,14 +4,14 @@
   fades.py faded IN SHEET WAY OUT        writes OUT: IN with the gains of each frame moved by its steps, or by as many the other way (WAY is
                                          'there' or 'back'), except silent ones and those of lost frames, with right check words, without junk
   fades.py levels IN SHEET BEFORE AFTER  BEFORE and AFTER are what a decoder makes of IN and of the faded file: 32-bit floats, no sample left
-                                         out. The level of each frame has to be what its steps say within 0.1 dB, if the frames before it that it
-                                         overlaps have the same steps, and else between what their steps say
-  fades.py table IN SHEET BEFORE AFTER OTHER SECONDS     for each quarter of a second of the fade the steps, the levels of AFTER and of OTHER
-                                         against BEFORE in dB, and how far the two are apart, as rows of a table; status 1 where they are 1.7 dB
-                                         apart or more
+                                         out. The level of each frame has to be what its steps say within 0.1 dB; if earlier frames that overlap
+                                         it have other steps, it may be anywhere between what all these steps say, within 0.1 dB
+  fades.py table IN SHEET BEFORE AFTER OTHER SECONDS     prints rows of a table, one for each quarter of a second of the fade: the steps, the
+                                         levels of AFTER and of OTHER against BEFORE in dB, and the difference between the two; status 1 if the
+                                         difference is 1.7 dB or more anywhere
 
-A point of a sheet is a position (a frame, a time or EOF) and a number of steps of 1.5 dB, a factor of 2 to the power of 1/4 each. From
-point to point the steps go evenly, rounded toward zero.
+A point of a sheet is a position (a frame, a time or EOF) and a number of steps of 1.5 dB, each a factor of 2 to the power of 1/4. Between
+points the steps are interpolated linearly and rounded toward zero.
 """
 import array
 import math
@@ -23,7 +23,7 @@ sys.dont_write_bytecode = True
 import frames  # noqa: E402
 
 MOST_POINTS = 1000
-# Quieter than this a level isn't measured: 100 dB below full scale.
+# A level quieter than this, 100 dB below full scale, isn't measured.
 LEAST = 1e-5
 
 
@@ -58,10 +58,10 @@ def frame_at(place, found):
 
 
 def point_of(words):
-    """The position and the steps that the words of a line say, or None."""
+    """The position and the steps in the words of a line, or None."""
     if len(words) != 2 or not re.fullmatch(rb"[+-]?[0-9]{1,3}", words[1]) or abs(int(words[1])) > 255:
         return None
-    # A word of other bytes is no position.
+    # A word with bytes outside ASCII is no position.
     where = place(words[0].decode("latin-1")) if words[0].isascii() else None
     return None if where is None else (where, int(words[1]))
 
@@ -83,7 +83,7 @@ def points_of(sheet):
 
 
 def curve_of(sheet, found):
-    """The points at their frames."""
+    """The points as pairs of frame number and steps."""
     curve = []
     for number, where, steps in points_of(sheet):
         frame = frame_at(where, found)
@@ -138,7 +138,7 @@ def power(values, at, end):
 
 
 def level(before, after, at, end):
-    """By how many dB a stretch is louder after than before, or None where it is too quiet to say."""
+    """By how many dB a stretch is louder after than before, or None if it is too quiet to say."""
     a, b = power(before, at, end), power(after, at, end)
     return 10 * math.log10(b / a) if min(a, b) > LEAST**2 else None
 
@@ -152,7 +152,7 @@ def levels(name, sheet, before, after):
     steps = all_steps(frames.bytes_of(sheet), found, False)
     a, b = floats(before), floats(after)
     granules, each = found.frames[0].version.granules, len(a) // len(found.frames)
-    # A granule's samples depend on it and on the two granules before: it overlaps one, and the filter bank holds 480 samples.
+    # A granule's samples depend on it and on the two granules before it: it overlaps one, and the filter bank holds 480 samples.
     reach = -(-2 // granules)
     measured, held, between, farthest = 0, 0.0, 0.0, set()
     for number in range(len(steps)):

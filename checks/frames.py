@@ -1,19 +1,19 @@
 #!/usr/bin/env python3
 """Reads MP3 files (Layer III of MPEG-1, MPEG-2 and MPEG-2.5). It shares no code with the program that it helps to check.
 
-  frames.py survey FILE            what is in the file; or why it is refused, and status 1
+  frames.py survey FILE            what is in the file; or why it is refused, with status 1
   frames.py list FILE              what 'mp3edit list FILE' sends to standard output
-  frames.py heard LISTING WAV      compares the last line of a listing with what mpg123 made of the file, without leaving out a sample
-  frames.py counted LISTING HZ,CHANNELS,PACKETS   compares it with what ffprobe says of the file
-  frames.py refusal FILE           of a file that is refused: what the program's line says after the name
-  frames.py past FILE N            'gain V out of range at O, granule G, channel C' for the first gain that N steps lead out of 0 to 255
-  frames.py ends FILE              the least and the greatest gain, except silent ones and those of lost frames
+  frames.py heard LISTING WAV      compares the last line of a listing with what mpg123 decoded of the file, no sample left out
+  frames.py counted LISTING HZ,CHANNELS,PACKETS   compares the last line of a listing with what ffprobe says about the file
+  frames.py refusal FILE           for a file that is refused: what the program's line says after the name
+  frames.py past FILE N            'gain V out of range at O, granule G, channel C' for the first gain that N steps take out of 0 to 255
+  frames.py ends FILE              the lowest and the highest gain, except silent ones and those of lost frames
   frames.py moved IN N OUT         writes OUT: IN with each gain moved by N steps, except silent ones and those of lost frames, with right
                                    check words, and without junk; and says what is in IN
-  frames.py wrapped IN C N OUT     the same where gains wrap, of channel C alone (0 or 1), or of 'both'
-  frames.py noted IN C N W OUT     the same of both or of one, where gains wrap if W is 'W', and not if it is 'N', with the change noted in the tag
-  frames.py undone IN OUT          writes OUT: IN with all changes undone that its tag notes, and without the note
-  frames.py items FILE             the items of the tag, each in a line: KEY: VALUE
+  frames.py wrapped IN C N OUT     like 'moved', but gains wrap, and only those of channel C (0 or 1) move, or those of 'both'
+  frames.py noted IN C N W OUT     like 'wrapped', with the change noted in the tag; gains wrap if W is 'W', and don't if it is 'N'
+  frames.py undone IN OUT          writes OUT: IN with all changes that its tag notes undone, and without the note
+  frames.py items FILE             the items of the tag, one on each line: KEY: VALUE
   frames.py note FILE              the value of the undo item
   frames.py stripped IN OUT        writes OUT: IN without its tag
   frames.py without-junk IN OUT    writes OUT: IN without the bytes between its blocks and its first frame
@@ -21,16 +21,17 @@
   frames.py differ A B N           says where A and B differ; status 1 unless B is A with only the gains of silent granules and of lost
                                    frames moved by N steps, and with the check words that are right for them
   frames.py sounds WHOLE LISTING FROM TO WAV   the file that WAV was decoded from has this listing: at most one lead-in, and the frames of WHOLE
-                                   from FROM on and before TO. They sound as there, within 1, from frame 0 on or after a granule and 480 samples
+                                   from FROM on and before TO. They sound as in WHOLE, within 1; unless FROM is 0, the first granule and the 480
+                                   samples after it don't count
   frames.py beside WAV LISTING FROM TO BEGIN OTHER   the file that WAV was decoded from has this listing: at most one lead-in, and the frames of a
-                                   stream from FROM on and before TO. From sample BEGIN of the stream on they sound as OTHER, within 1
+                                   stream from FROM on and before TO. From sample BEGIN of the stream on they sound like OTHER, within 1
   frames.py decoded A B FACTOR     compares two WAV files of 16 bits: B is A times FACTOR, within rounding, and A is not silent
 
-Layout of frames: ISO/IEC 11172-3 and 13818-3, 2.4.1 and 2.4.2; of blocks: ID3v2, ID3v1 and APEv2. The tag is the first APEv2 block.
-Its item MP3GAIN_UNDO has the steps that undo all changes, left and right, and W if gains wrap. A granule of a channel is silent if its
-part2_3_length is 0. The main data bytes of a file are the areas of its frames (what is left of a frame after header, check word and side
-information) end to end; a frame's main data begin main_data_begin bytes before its own area there. A frame is lost if that is before the
-first area, and no frame before it has main data, except lost ones: a program that cuts at frames leaves such.
+The layout of frames is that of ISO/IEC 11172-3 and 13818-3, 2.4.1 and 2.4.2; blocks are ID3v2, ID3v1 and APEv2 tags. The tag is the first
+APEv2 block. Its item MP3GAIN_UNDO has the steps that undo all changes, left and right, and W if gains wrap. A granule of a channel is silent
+if its part2_3_length is 0. The main data bytes of a file are the areas of its frames (what is left of a frame after header, check word and
+side information) end to end; a frame's main data begin main_data_begin bytes before its own area there. A frame is lost if that is before
+the first area, and no earlier frame has main data, except lost ones: a program that cuts at frames leaves such frames.
 """
 import array
 import re
@@ -46,7 +47,7 @@ MOST_FRAMES = 2_900_000
 
 @dataclass(frozen=True)
 class Version:
-    """In what the versions differ. Pairs are for one channel and for two."""
+    """How the versions differ. Pairs are for one channel and for two."""
 
     name: str
     rates: tuple  # kbit/s
@@ -91,11 +92,11 @@ class Refused(Exception):
 
 
 class Unfit(Exception):
-    """What the program's line says if it names no file: the change can't be made."""
+    """What the program's line says if it names no file, since the change can't be made."""
 
 
 def check_word(data):
-    """The remainder in the division by x^16 + x^15 + x^2 + 1, from all ones (ISO/IEC 11172-3, 2.4.3.1)."""
+    """The CRC with x^16 + x^15 + x^2 + 1, starting with all ones (ISO/IEC 11172-3, 2.4.3.1)."""
     word = 0xFFFF
     for byte in data:
         for bit in range(7, -1, -1):
@@ -119,7 +120,7 @@ class Granule:
 
 
 class Frame:
-    """One frame of Layer III at an offset, by its header."""
+    """A Layer III frame at an offset, as its header says."""
 
     def __init__(self, header, offset):
         self.offset = offset
@@ -141,7 +142,7 @@ class Frame:
         self.area = self.end - self.side_end
 
     def is_head(self, data):
-        """Whether 'Xing' or 'Info' is after the side information, or where it would be if there were no check word."""
+        """Whether 'Xing' or 'Info' follows the side information, or is where it would be if there were no check word."""
         places = {self.side_end, self.offset + 4 + self.side_size}
         return any(data[at : min(at + 4, self.end)] in (b"Xing", b"Info") for at in places)
 
@@ -165,7 +166,7 @@ class Frame:
         return Granule(*place, self.bits(at, 12), self.bits(at + 21, 8), self.behind(at + 21, 8))
 
     def moving(self):
-        """The granules whose gains move: the others are not heard."""
+        """The granules whose gains move; the others aren't heard."""
         return [] if self.lost else [it for it in self.granules if it.length]
 
     def right_word(self, side):
@@ -184,7 +185,7 @@ class Free:
 
 
 def header_at(data, at):
-    """A frame by its header, or a header of free format."""
+    """The frame that a header at this offset describes, a free format header, or None."""
     header = data[at : at + 4]
     if len(header) < 4 or header[0] != 0xFF or header[1] & 0xE6 != 0xE2 or header[1] & 0x18 == 0x08:
         return None
@@ -224,7 +225,7 @@ def four(number):
 
 
 def item_at(block, at, end):
-    """The item at an offset in a block, and where it ends; or nothing if none is whole before the end."""
+    """The item at this offset of a block, and where it ends; or None if no item ends by `end`."""
     end_of_key = block.find(b"\0", at + 8, end)
     key = block[at + 8 : end_of_key]
     if end_of_key < 0 or not re.fullmatch(rb"[ -~]{2,255}", key):
@@ -239,7 +240,7 @@ def bytes_of_items(items):
 
 
 class Tag:
-    """An APEv2 block: a header of 32 bytes, items of value size, flags, key, zero byte and value, and a footer of 32 bytes."""
+    """An APEv2 block: a 32-byte header, items of value size, flags, key, zero byte and value, and a 32-byte footer."""
 
     def __init__(self, block=None, offset=0):
         self.offset = offset
@@ -262,7 +263,7 @@ class Tag:
             at = found[1]
         self.judge(at == end, at)
         self.flags = number_of(block, 20), number_of(block, end + 20)
-        # The header is that which is written for these items, so only the footer can differ.
+        # The header is already what is written for these items, so only the footer can differ.
         self.judge(bytes(self) == block and not self.flags[1] >> 29 & 1, end)
 
     def __bytes__(self):
@@ -280,7 +281,7 @@ class Tag:
         return None if place is None else self.items[place][2]
 
     def undo(self):
-        """Steps of the left and of the right channel, and whether gains wrap."""
+        """The noted steps of the left and of the right channel, and whether gains wrap."""
         note = self.note()
         if note is None:
             return 0, 0, False
@@ -305,7 +306,7 @@ class Tag:
 
 @dataclass
 class Survey:
-    """What is in a file: the frames without the head, and where the junk before the first of them is."""
+    """What is in a file: the frames without the head, and where the junk before the first frame is."""
 
     frames: list
     head: object = None
@@ -334,7 +335,7 @@ class Survey:
 
 
 def passed(data, at, blocks):
-    """The offset after the blocks and zero bytes that begin at an offset."""
+    """The offset after the blocks and zero bytes at this offset."""
     while at < len(data):
         block = block_at(data, at)
         if block and block.end > len(data):
@@ -372,7 +373,7 @@ def first_frame(data, front):
 
 
 def stream_from(data, first, blocks):
-    """The frames from the first on, and why they end before the file does."""
+    """The frames from the first on, and why they end before the file does, or None."""
     frames, at = [], first.offset
     while True:
         try:
@@ -394,7 +395,7 @@ def stream_from(data, first, blocks):
 
 
 def judge_main_data(frame, before, ended):
-    """Where the main data end after this frame, before whose own area there are `before` bytes of areas; or what is at fault in them."""
+    """Returns where the main data up to this frame's end, or refuses the frame. `before` bytes of areas come before its own."""
     at = frame.offset
     if frame.begin > before:
         raise Refused(f"back pointer at {at} is {frame.begin}, present {before}")
@@ -408,7 +409,7 @@ def judge_main_data(frame, before, ended):
 
 
 def judge(frames, head):
-    """Refuses the first frame that is at fault, and marks those that are lost."""
+    """Refuses the first frame that is at fault, and marks the lost frames."""
     kind = (head or frames[0]).kind
     before, ended, leading = head.area if head else 0, 0, True
     for number, frame in enumerate(frames):
@@ -583,7 +584,7 @@ def tag_of(data, found):
 
 
 def judge_channel(found, channel):
-    """Refuses a change of one channel alone where that can't be made."""
+    """Refuses a change to one channel alone if it can't be made."""
     if channel != "both":
         if found.frames[0].channels == 1:
             raise Unfit("one channel only")
@@ -604,7 +605,7 @@ def add_to_note(tag, old, steps, wraps):
 
 
 def gained(data, found, channel, steps, wraps, with_note):
-    """The file with the gains of a channel moved, or of 'both', and the change noted in the tag or not."""
+    """The file with the gains of a channel moved, or of 'both', and with the change noted in the tag if asked for."""
     steps, place, tag = steps_of(channel, steps), None, None
     if with_note:
         tag, place = tag_of(data, found)
@@ -616,7 +617,7 @@ def gained(data, found, channel, steps, wraps, with_note):
 
 
 def taken_back(data, found):
-    """The file with all changes undone that its tag notes."""
+    """The file with all changes that its tag notes undone."""
     tag, place = tag_of(data, found)
     if tag.note() is None:
         raise Unfit("no undo item")
@@ -637,19 +638,19 @@ def note(name):
 
 
 def with_gains(data, found, steps, wraps, tag):
-    """The file with moved gains, without junk, and with other bytes where the tag is."""
+    """The file with moved gains, without junk, and with other bytes where the tag is or would be, if given."""
     return with_steps(data, found, [steps] * len(found.frames), wraps, tag)
 
 
 def with_steps(data, found, steps, wraps, tag):
-    """The same, with the gains of each frame moved by its own steps."""
+    """Like with_gains, but the gains of each frame move by its own steps."""
     new = bytearray(data)
     for frame, own in zip(found.frames, steps):
         side = side_of(frame, own, wraps)
         new[frame.side_at : frame.side_end] = side.to_bytes(frame.side_size, "big")
         if frame.protected:
             new[frame.offset + 4 : frame.side_at] = frame.right_word(side).to_bytes(2, "big")
-    # From the end to the beginning, so that the other offsets stay right.
+    # From the end to the beginning, so that the offsets that are still needed stay right.
     for place, there in sorted([(found.junk, b"")] + ([tag] if tag else []), reverse=True):
         new[slice(*place)] = there
     return bytes(new)
@@ -708,7 +709,7 @@ def differ(one, other, steps):
                 faults.append(f"check word of the frame at {frame.offset}")
         place = frame.side_end
     if b[place:] != a[place:]:
-        faults.append(f"behind {place}")
+        faults.append(f"after {place}")
     print(
         f"silent granules moved by {steps}: {silent}, with other check words in {words} frames; "
         f"other differences: {len(faults)}"
@@ -744,7 +745,7 @@ def sounds(whole, listing, first, end, piece):
     first, chosen, each = int(first), int(end) - int(first), channels * (1152 if version == "MPEG-1" else 576)
     lead_ins = frames - chosen
     edge = 0 if first == 0 else channels * (576 + 480)
-    # A decoder's filter bank begins at another of its 16 places, so a sample in some thousands is rounded the other way.
+    # The decoder's filter bank starts at another of its 16 positions, so one sample in some thousands is rounded the other way.
     a, b = samples(whole)[first * each + edge:][:chosen * each - edge], samples(piece)[lead_ins * each + edge:]
     worst = max((abs(x - y) for x, y in zip(a, b)), default=0)
     print(f"{frames} frames, {lead_ins} lead-ins, {len(a)} and {len(b)} samples, farthest {worst}")

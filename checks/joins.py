@@ -1,12 +1,13 @@
 #!/usr/bin/env python3
-"""Compares what was split and joined again with the decoded whole, sample by sample, in mpg123 and in ffmpeg.
+"""Compares a file that was split and joined again with the decoded whole, sample by sample, in mpg123 and in ffmpeg.
 
-  joins.py WAY FILE SEED [JUDGE..]     the file split in five between random times, and joined; prints a line for each judge, and fails where one
-                                       of those that are named finds more than a rounding
+  joins.py WAY FILE SEED [JUDGE..]     splits the file into five at random times, and joins the pieces; prints a line for each judge, and fails
+                                       if one of the named judges finds more than a rounding
 
 A way is how the file is split and how it is joined: see WAYS. A judge is a decoder, and whether it plays all frames or what delay and padding
-leave: mpg123-all, mpg123-played, ffmpeg-all, ffmpeg-played. A line has how many samples in each channel are missing or more in all, and
-how many of the whole aren't the same where their piece is, and by how much. mpg123 rounds, so a unit is no difference in it.
+leave: mpg123-all, mpg123-played, ffmpeg-all, ffmpeg-played. A line says how many samples of each channel are missing or extra in all, and
+how many samples of the whole differ from those where their piece is, and by how much. mpg123 rounds, so a difference of one unit doesn't
+count there.
 """
 import array
 import os
@@ -23,7 +24,8 @@ import exact  # noqa: E402
 JUDGES = tuple(f"{decoder}-{what}" for decoder in exact.ROUNDS for what in ("all", "played"))
 PIECES = 5
 FFMPEG = ["ffmpeg", "-nostdin", "-v", "quiet", "-y"]
-# A piece is found again by so many samples that are the same, at most so far from where they were. A seam is so near where it was asked for.
+# A piece is found again by PROBE samples that are the same, at most FARTHEST from where they were. A seam is at most NEAR from where it was
+# asked for.
 PROBE, FARTHEST, NEAR = 64, 40_000, 5_000
 
 
@@ -104,7 +106,7 @@ def decoded(judge, path):
 
 
 def shift_of(whole, other, begin, end, channels, guess):
-    """By how much the samples from one on and before another come later in the other sound, by some of them that are the same in both."""
+    """By how much the samples from `begin` on and before `end` come later in the other sound, judged by some that are the same in both."""
     size = PROBE * channels
     for at in range(begin, end - size, size):
         probe = whole[at : at + size]
@@ -121,7 +123,8 @@ def shift_of(whole, other, begin, end, channels, guess):
 
 
 def off_by(whole, other, begin, end, shifts):
-    """For the samples from one on and before another how far each is from the nearest of those that are so much later; 0 where none is there."""
+    """For each sample from `begin` on and before `end` the least difference from the samples that come later by one of the shifts; 0 if there
+    are none."""
     size, places = len(other), range(begin, end)
     if len(shifts) == 1 and 0 <= begin + shifts[0] and end + shifts[0] <= size and whole[begin:end] == other[begin + shifts[0] : end + shifts[0]]:
         return [0] * (end - begin)
@@ -129,8 +132,8 @@ def off_by(whole, other, begin, end, shifts):
 
 
 def beside(whole, other, seams, unit, channels):
-    """How many samples in each channel the other sound has fewer, and more, and how many of the whole aren't in it where its pieces are, and by how much at
-    most. The whole has a seam before each of these samples, or a little off; near one a sample may be where either piece is."""
+    """How many samples of each channel are missing in the other sound and extra, how many of the whole differ from those where their piece is,
+    and by how much at most. The whole has a seam at, or near, each sample in `seams`; near one a sample may be where either piece has it."""
     near, ends = NEAR * channels, [*seams[1:], len(whole)]
     shifts, guess = [], 0
     for begin, end in zip(seams, ends):
@@ -148,7 +151,7 @@ def beside(whole, other, seams, unit, channels):
 
 
 def drawn(seed, length):
-    """Four times in hundredths of a second of so many, in order, at least half a second apart and from both ends."""
+    """Four times within this length, all in hundredths of a second, in order, at least half a second apart and from both ends."""
     chance, least = random.Random(int(seed)), 50
     while True:
         times = sorted(chance.sample(range(least, length - least), PIECES - 1))
@@ -158,12 +161,12 @@ def drawn(seed, length):
 
 @lru_cache(maxsize=1)
 def wholes_of(file, _written):
-    """What each judge plays of a file that was written at this time."""
+    """What each judge plays of a file that was written at this time (which is part of the cache's key)."""
     return {judge: decoded(judge, file) for judge in JUDGES}
 
 
 def compared(way, file, seed):
-    """What each judge found, or nothing where a tool refuses."""
+    """What each judge found, or None if a tool refuses."""
     file = Path(file).resolve()
     frequency, channels = exact.shape_of(file)
     wholes = wholes_of(file, os.stat(file).st_mtime_ns)

@@ -2,23 +2,23 @@
 """Writes the frames of an MP3 file with all main data laid into new areas. It shares no code with the program that it helps to check.
 
   laid.py cut IN FROM TO OUT      writes OUT: the frames of IN from number FROM on and before TO, in their own slots
-  laid.py least IN FROM TO OUT    the same, each in the least slot with which all main data have room
-  laid.py pack IN OUT             all frames of IN in these slots, with the quality and the extension of its head
-  laid.py constant B IN OUT       the same in slots of B kbit/s alone, also of the lead-in
-  laid.py floor B IN OUT          the same in slots of at least B kbit/s
-  laid.py best IN OUT             the same in the slots that take the fewest bytes in all
-  laid.py tried N                 compares the two ways to find these for N random parts of one to four frames
-  laid.py join OUT IN..           all frames of these, in their own slots, with the lead-ins that each has alone; of the tags only ID3v2 ones
-                                  before the first frame of the first input
+  laid.py least IN FROM TO OUT    the same, each frame in the smallest slot with which all main data have room
+  laid.py pack IN OUT             all frames of IN in the slots of 'least', with the quality and the extension of its head
+  laid.py constant B IN OUT       like 'pack', but only in slots of B kbit/s, for the lead-in too
+  laid.py floor B IN OUT          like 'pack', but only in slots of at least B kbit/s
+  laid.py best IN OUT             like 'pack', but in the slots that take the fewest bytes in all
+  laid.py tried N                 compares the two ways to find the slots of 'best', for N random parts of one to four frames
+  laid.py join OUT IN..           all frames of the inputs, in their own slots, with the lead-ins that each input needs by itself; the only tags
+                                  kept are ID3v2 tags before the first frame of the first input
 
-A slot is a bit rate and a padding bit. Of the lists of slots in which all main data have room the first in the order of the areas
-is taken; a lead-in, one silent frame, comes first if the frames alone have no such list. Main data begin as early as they
+A slot is a bit rate and a padding bit. Of the lists of slots in which all main data have room, the lexicographically first by area is
+taken; a lead-in, one silent frame, comes first if the frames alone have no such list. Main data begin as early as they
 may, at most 511 bytes (MPEG-1) or 255 before the frame's own area (main_data_begin; ISO/IEC 11172-3 and 13818-3, 2.4.2.7). A frame
-that frames.py calls lost has no main data here. With some bit rates alone there may be no room: then the fault names the first
-frame up to which there is none, even with the largest slots and a lead-in. The slots that take the fewest bytes are those of the list
-with the least sum of areas, and of several such lists of the first in the order of the areas. For few frames all lists are tried; for
-more a table has the least sums after each number of free bytes. The Info frame has the number of frames, the bytes of itself and of
-all of them, and how many 256ths of these bytes are before each hundredth of the frames. ID3v2 tags that were before the first frame
+that frames.py calls lost has no main data here. With only some bit rates there may be no room: then the fault names the first
+frame up to which there is none, even with the largest slots and a lead-in. The slots that take the fewest bytes are the list with
+the least sum of areas, and among several such lists the lexicographically first. For few frames all lists are tried; for
+more, a table has the least sums after each number of free bytes. The Info frame has the number of frames, the bytes of itself and all
+frames, and how many 256ths of these bytes come before each hundredth of the frames. ID3v2 tags that were before the first frame
 come first, and all other tags follow the frames.
 """
 import itertools
@@ -32,12 +32,12 @@ import frames  # noqa: E402
 
 HEAD_BYTES = 156
 SLOTS = [(index, padding) for index in range(1, 15) for padding in (0, 1)]
-# In the place of a list of slots: those that take the fewest bytes.
+# Given instead of a list of slots: use the slots that take the fewest bytes.
 BEST = "best"
 
 
 def in_slot(header, slot, protected):
-    """The frame with this header in a slot, with a check word or without."""
+    """The frame with this header in this slot, with a check word or without."""
     index, padding = slot
     first = header[1] & 0xFE | (0 if protected else 1)
     return frames.Frame(bytes([header[0], first, header[2] & 0x0D | index << 4 | padding << 1, header[3]]), 0)
@@ -49,7 +49,7 @@ def slot_of(header):
 
 @dataclass
 class Need:
-    """A frame that is to be laid: its header, its side information as a number, and its main data."""
+    """A frame to be laid: its header, its side information as a number, and its main data."""
 
     header: bytes
     side: int
@@ -59,7 +59,7 @@ class Need:
         self.protected = not self.header[1] & 1
 
     def shapes(self, slots):
-        """The frame in these slots, or in its own."""
+        """The frame in each of these slots, or in its own alone."""
         return [in_slot(self.header, slot, self.protected) for slot in slots or [slot_of(self.header)]]
 
 
@@ -87,7 +87,7 @@ def slots_with(header, allowed):
 
 
 def judge_room(needs, slots, window):
-    """Refuses the first frame up to which the main data have no room, even after a lead-in."""
+    """Refuses the first frame up to which the main data have no room, even after a lead-in and in the largest slots."""
     free = min(window, max(in_slot(needs[0].header, slot, False).area for slot in slots))
     for number, need in enumerate(needs):
         room = free + max(it.area for it in need.shapes(slots))
@@ -109,8 +109,8 @@ def first_with(shapes, area):
 
 
 def placed(parts, slots, lead_in_slots, led=False):
-    """Shape, main_data_begin, side information and main data of each frame in one of the slots, or in its own, a lead-in before each part
-    that needs one, or before each if they are to be led. Only one part may have other slots than its own."""
+    """Shape, main_data_begin, side information and main data of each frame in one of the slots, or in its own if none are given. A lead-in
+    comes before each part that needs one, or with `led` before every part. Slots may be given only for a single part."""
     window = (1 << frames.Frame(parts[0][0].header, 0).version.begin_bits) - 1
     found, free = [], 0
     for needs in parts:
@@ -129,7 +129,7 @@ def placed(parts, slots, lead_in_slots, led=False):
 
 
 def has_room(areas, sizes, window, free=0):
-    """Whether main data of these sizes have room in these areas, with so many bytes free before the first."""
+    """Whether main data of these sizes have room in these areas, with `free` bytes free before the first."""
     free = min(window, free)
     for area, size in zip(areas, sizes):
         if free + area < size:
@@ -139,8 +139,8 @@ def has_room(areas, sizes, window, free=0):
 
 
 def best_by_trying(choices, sizes, window):
-    """For each frame the index of one of its areas, which ascend, so that main data of these sizes have room: those with the least sum, and
-    of several such lists the first; nothing if there is none. Each list is tried, in the order of the areas."""
+    """For each frame the index of one of its areas, which ascend, such that main data of these sizes have room: the list with the least sum,
+    the first if there are several, or None if there is none. Every list is tried, in lexicographic order."""
     least, best = math.inf, None
     for places in itertools.product(*(range(len(it)) for it in choices)):
         areas = [it[at] for it, at in zip(choices, places)]
@@ -150,7 +150,7 @@ def best_by_trying(choices, sizes, window):
 
 
 def best_by_table(choices, sizes, window):
-    """The same by a table of the least sums from each frame on, after each number of free bytes."""
+    """The same list, by a table of the least sums from each frame on, after each number of free bytes."""
     later, rows = [0] * (window + 1), []
     for areas, size in zip(reversed(choices), reversed(sizes)):
         sums, places = [], []
@@ -176,7 +176,7 @@ def best_by_table(choices, sizes, window):
 
 
 def best_placed(needs):
-    """As `placed`, of one part in the slots that take the fewest bytes."""
+    """Like `placed`, for one part, in the slots that take the fewest bytes."""
     window = (1 << frames.Frame(needs[0].header, 0).version.begin_bits) - 1
     lead_in = Need(bytes([needs[0].header[0], needs[0].header[1] | 1]) + needs[0].header[2:], 0, b"")
     for front in [], [lead_in]:
@@ -196,7 +196,7 @@ def best_placed(needs):
 
 
 def try_parts(count):
-    """Compares both ways to find the best list for this number of random parts: of one to four frames, each with some areas of a class."""
+    """Compares the two ways to find the best list, for `count` random parts of one to four frames, each with some areas of a class."""
     chance = random.Random(1)
     headers = [bytes.fromhex(it) for it in ("fffb9000", "fffa9000", "fffb94c0", "fff398c0", "fff290c0")]
     none = 0
@@ -216,7 +216,7 @@ def try_parts(count):
 
 
 def laid(found):
-    """The bytes of frames that were placed."""
+    """The bytes of frames as they were placed."""
     main, place = bytearray(sum(it[0].area for it in found)), 0
     for shape, begin, _, data in found:
         main[place - begin : place - begin + len(data)] = data
@@ -245,7 +245,7 @@ def info_frame(found, written, quality, extension):
 
 
 def text_of(data, head):
-    """The offset of the text of a head."""
+    """The offset of a head's text, 'Xing' or 'Info'."""
     ends = head.side_end, head.offset + 4 + head.side_size
     return next(it for it in sorted(ends) if data[it : it + 4] in (b"Xing", b"Info"))
 
@@ -272,8 +272,8 @@ def front_blocks(found):
 
 
 def laid_file(data, found, first, end, slots, keeps_head=False):
-    """The file of the frames from one number on and before another in these slots, in their own, or in the best; and how many frames
-    are written."""
+    """The file of the frames from `first` on and before `end`, in these slots, in their own, or in the best ones; and the number of frames
+    written."""
     quality, extension = head_fields(data, found.head if keeps_head else None)
     needs = main_data(data, found)[first:end]
     places = best_placed(needs) if slots == BEST else placed([needs], slots, slots or SLOTS)
@@ -287,7 +287,7 @@ def laid_file(data, found, first, end, slots, keeps_head=False):
 
 
 def joined_file(files, surveys):
-    """The file of all frames of the files, and how many frames are written."""
+    """The file of all frames of these files, and the number of frames written."""
     places = placed([main_data(data, found) for data, found in zip(files, surveys)], None, SLOTS)
     written = laid(places)
     parts = [files[0][it.offset : it.end] for it in front_blocks(surveys[0])]
@@ -296,7 +296,7 @@ def joined_file(files, surveys):
 
 
 def menu_of(found, mode, rate):
-    """The slots of a file's class by a mode of packing; none if the bit rate isn't one of the class."""
+    """The slots of the file's class in a mode of packing; none if the class doesn't have the bit rate."""
     header = found.frames[0].header
     if not slots_with(header, lambda it: it == rate):
         return []

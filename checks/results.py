@@ -1,14 +1,13 @@
 #!/usr/bin/env python3
-"""What mp3edit answers to its words, from the files that are there. It shares no code with the program that it
-helps to check.
+"""What mp3edit does for its words and the files that exist. It shares no code with the program that it helps to check.
 
-  results.py WORD..      of the files that the words name: the files that are written, as NAME and length, the text, and the line and the
-                         status of the program
+  results.py WORD..      with the files that the words name: the files that are written, each with its name and length, the text, and the
+                         program's line and status
 
 The words are those of "Synopsis" in docs/MANUAL.md, the lines those of its "Messages", and their order is "The order of refusals" in
-docs/DECISIONS.md. Files are bytes by name. frames.py says what is in a file and moves gains, laid.py lays main data, fades.py reads
-positions and the sheets of fades, spans.py makes exact pieces, seams.py joins without seams, about.py says what a file is, drill.py draws
-streams from seeds, and damaged.py says what can be read of a damaged file.
+docs/DECISIONS.md. Files are given as their bytes, by name. frames.py says what is in a file and moves gains, laid.py lays main data,
+fades.py reads positions and fade sheets, spans.py makes exact pieces, seams.py joins without seams, about.py says what 'info' says,
+drill.py draws streams from seeds, and damaged.py says what can be read of a damaged file.
 """
 import re
 import sys
@@ -32,14 +31,14 @@ LONGEST_SHEET = 65_536
 
 @dataclass
 class Result:
-    """Status, text, line, and the bytes of the files that are written; and for each of these which frames of which inputs it has, and by
-    how many steps the gains of the left and of the right channel are moved in it: of all frames alike (moved), or of each (faded)."""
+    """Status, text, line, and the bytes of each file written; which frames of which inputs each of these has (chosen); and by how many steps
+    the gains of the left and of the right channel move: the same for all frames (moved), or for each frame its own (faded)."""
 
     status: int = 0
     text: str = ""
     line: str = ""
     outputs: dict = field(default_factory=dict)
-    chosen: dict = field(default_factory=dict)  # of an output: [(input, first frame, end)]
+    chosen: dict = field(default_factory=dict)  # by output: [(input, first frame, end)]
     moved: tuple = (0, 0)
     faded: list = field(default_factory=list)
 
@@ -83,7 +82,7 @@ def frame_count(word):
     return re.fullmatch(r"[0-9]{1,5}", word) and 1 <= int(word) <= 20_000
 
 
-# The kinds of the words of each form, a fixed word as itself, and how often the last kind may come.
+# The kinds of the words of each form, a fixed word as itself, and how often the last kind may occur.
 FRONTS = [[], ["-s", "s"], ["-w"], ["-s", "s", "-w"], ["-w", "-s", "s"]]
 MODES = [["-g", steps], ["-l", channel, steps]]
 FORMS = [(["gain", *front, *mode, name, name], 1) for front in FRONTS for mode in MODES]
@@ -112,7 +111,7 @@ FORMS += [
 
 
 def judge_words(words):
-    """Refuses the first word that fits no form, or the word after the last one if a word is missing."""
+    """Refuses the first word that fits no form, or, if a word is missing, the position after the last one."""
     longest = 0
     for kinds, most in FORMS:
         kinds_of_words = kinds + kinds[-1:] * (most - 1)
@@ -131,7 +130,7 @@ def judge_words(words):
 
 
 def ranges_of(places, found):
-    """The pairs of frame numbers from each position to the next."""
+    """The pairs of frame numbers, from each position to the next."""
     at = [frame_at(it, found) for it in places]
     count = len(found.frames)
     for pair in zip(at, at[1:]):
@@ -147,7 +146,7 @@ class Sheet:
         self.file, self.tracks, self.has_start, self.starts = False, 0, False, []
 
     def take(self, words):
-        """What is at fault in the line of these words, or nothing."""
+        """Takes the words of a line, and returns what is at fault in it, or None."""
         kind = words[0].upper() if words else b""
         if kind == b"FILE":
             again, self.file = self.file, True
@@ -187,7 +186,7 @@ def bytes_of_sheet(word, files):
 
 
 def places_of(word, files):
-    """The positions where the tracks of a sheet start, and the end."""
+    """The positions where the tracks of a cue sheet start, and the end."""
     data, sheet = bytes_of_sheet(word, files), Sheet()
     for number, line in enumerate(data.removeprefix(b"\xef\xbb\xbf").split(b"\n"), 1):
         fault = sheet.take([it for it in re.split(rb"[ \t]+", line.removesuffix(b"\r")) if it])
@@ -283,7 +282,7 @@ def pack(words, files):
 
 
 def exact_pieces(words, data, found):
-    """From each place to the next the bytes of the piece, and the frames that it has."""
+    """The bytes of the piece from each place to the next, and the numbers of the frames in it."""
     pieces = []
     for places in zip(words, words[1:]):
         try:

@@ -1,19 +1,19 @@
 #!/usr/bin/env python3
 """Files joined without seams, as 'mp3edit join --seamless' joins them. It shares no code with the program that it helps to check.
 
-  seams.py join OUT IN..          writes OUT: the inputs joined in this order; and says of each input from the second on what of it is left out
+  seams.py join OUT IN..          writes OUT: the inputs joined in this order; and says for each input from the second on what is left out of it
 
-The frames are written as one part; the frames of a file whose main data begin in its head are lost, as spans.py has it. Of each input but
-the first there goes at the front what the frames before it make useless, by the first of these that holds. It follows: the heads of it and
-of the input before it count, and by them its first played position comes where the one behind the last of the other would, a whole number
-of frames from its front. Those frames go, if the last of them, from the one on in which its playing begins, but at least one, are alike the
-last frames that are written, and the others have room. Its lead-in goes: the first frame, whose side information is all 0, and which has
-the header that a lead-in of the other frames has, if these want one and have room without it. Else it is whole. The first frame that is
-written of an input may have a greater slot than its own, the least in which all have room where 511 bytes (MPEG-1) or 255 are free before
-the first of all. At last the lead-in of the first input goes, if the others want one, and comes again as the one of all.
+The frames are written as one part. As in spans.py, a frame whose main data begin in the head is lost. Each input except the first loses
+frames at its front by the first of these rules that applies. It follows: its head and that of the input before it count, and if its first
+played position comes right after the last one played of that input, the two overlap by a whole number of frames. These frames go if the
+last of them, from the one in which playing begins but at least one, are like the last frames written, and the other frames have room.
+Its lead-in goes: the first frame, if its side information is all 0, its header is that of a lead-in for the other frames, and these need
+one by themselves but have room here without it. Otherwise the input stays whole. The first frame written of an input may get a larger slot
+than its own: the smallest in which all frames have room, with 511 bytes (MPEG-1) or 255 free before the first of all. Finally the lead-in
+of the first input goes if the other frames need one, and a lead-in for all frames comes instead.
 
-Frames are alike if only their slots, main_data_begin and gains differ. Delay and padding are such that the samples played begin with
-those of the first input and end with those of the last, if the head of the first counts and the delay has 12 bits.
+Frames are alike if they differ only in their slots, main_data_begin and gains. Delay and padding are such that the samples played begin
+with those of the first input and end with those of the last, if the head of the first counts and the delay fits in 12 bits.
 """
 import sys
 from dataclasses import dataclass, replace
@@ -30,7 +30,7 @@ LOUDNESS = slice(11, 19)
 
 @dataclass
 class Input:
-    """A file that is joined: its bytes, its survey with the lost frames of the head's area, and what each frame needs."""
+    """A file to be joined: its bytes, its survey, in which frames whose main data begin in the head are lost, and each frame's need."""
 
     name: str
     data: bytes
@@ -48,12 +48,12 @@ class Input:
         return spans.samples_of(self.found)
 
     def alike(self):
-        """What is compared of each frame."""
+        """The part of each frame that is compared."""
         return [alike_part(need, frame) for need, frame in zip(self.needs, self.found.frames)]
 
 
 def alike_part(need, frame):
-    """The header but its slot, the side information but main_data_begin and gains, and the main data."""
+    """The header without its slot, the side information without main_data_begin and gains, and the main data."""
     side = need.side & (1 << 8 * frame.side_size - frame.version.begin_bits) - 1
     for it in frame.granules:
         side &= ~(0xFF << it.behind)
@@ -65,7 +65,7 @@ def window_of(needs):
 
 
 def fits(needs, free):
-    """Whether frames have room in their own slots, with so many bytes free before the first."""
+    """Whether the frames have room in their own slots, with `free` bytes free before the first."""
     areas = [it.shapes(None)[0].area for it in needs]
     return not needs or laid.has_room(areas, [len(it.data) for it in needs], window_of(needs), free)
 
@@ -75,7 +75,7 @@ def in_slot(need, slot):
 
 
 def joining(run, needs):
-    """The frames as they join those that are written, the first in the least slot that leaves room; or nothing if none does."""
+    """The frames as they come after those written so far, the first in the smallest slot that leaves room; or None if no slot does."""
     if not needs:
         return []
     for slot in laid.SLOTS[laid.SLOTS.index(laid.slot_of(needs[0].header)) :]:
@@ -86,7 +86,7 @@ def joining(run, needs):
 
 
 def lead_in_header(needs):
-    """The header of the lead-in of some frames."""
+    """The header of a lead-in for these frames."""
     shapes = (laid.in_slot(needs[0].header, slot, False) for slot in laid.SLOTS)
     return next(it.header for it in shapes if fits(needs, it.area))
 
@@ -97,7 +97,7 @@ def has_lead_in(source):
 
 
 def following(before, source, written):
-    """How many frames of an input go because it follows the one before it, or nothing. `written` is what is compared of all that is written."""
+    """How many frames of an input go because it follows the one before it, or None. `written` has what is compared of all frames written."""
     if not before.counts or not source.counts or (source.start + before.rest) % source.samples:
         return None
     count = (source.start + before.rest) // source.samples
@@ -108,7 +108,7 @@ def following(before, source, written):
 
 
 def decided(before, source, run, written):
-    """Of an input behind the first what is said, how many frames go, and the others as they join."""
+    """For an input after the first: what is said about it, how many frames go, and the others as they are written."""
     count = following(before, source, written)
     moved = None if count is None else joining(run, source.needs[count:])
     if moved is not None:
@@ -121,7 +121,7 @@ def decided(before, source, run, written):
 
 
 def run_of(inputs):
-    """The frames that are written; of each input how many go at its front; and the lines that say it."""
+    """The frames that are written; how many go at the front of each input; and the lines that say so."""
     run, written, out, lines = list(inputs[0].needs), inputs[0].alike(), [0], []
     for before, source in zip(inputs, inputs[1:]):
         said, count, moved = decided(before, source, run, written)
@@ -139,7 +139,7 @@ def extension_of(source):
 
 
 def numbered(inputs, delay, padding):
-    """The extension of the first input with these numbers."""
+    """The extension of the first input's head with this delay and padding."""
     old = extension_of(inputs[0])
     if not all(it.counts and extension_of(it)[LOUDNESS] == old[LOUDNESS] for it in inputs):
         old = old[: LOUDNESS.start] + bytes(8) + old[LOUDNESS.stop :]
@@ -147,7 +147,7 @@ def numbered(inputs, delay, padding):
 
 
 def joined_file(inputs):
-    """The file; of each input how many frames go at its front; and the lines."""
+    """The file; how many frames go at the front of each input; and the lines."""
     run, out, lines = run_of(inputs)
     first = inputs[0]
     places = laid.placed([run], None, laid.SLOTS)

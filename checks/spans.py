@@ -1,17 +1,17 @@
 #!/usr/bin/env python3
-"""Exact pieces of MP3 files: which samples players play, and the frames, delay and padding for some of them. It shares no code with the
-program that it helps to check.
+"""Exact pieces of MP3 files: which samples players play, and which frames, delay and padding make them play only some. It shares no code
+with the program that it helps to check.
 
   spans.py cut IN FROM TO OUT     writes OUT: the exact piece of IN from one place among its samples to another
-  spans.py says IN                the delay and the padding that the head of IN says, and how many samples are played
+  spans.py says IN                the delay and the padding in the head of IN, and how many samples are played
 
-A frame has 1,152 positions, or 576 in MPEG-2 and MPEG-2.5. A head counts where it has a number of frames other than 0 and an extension
-that begins with LAME, Lavf or Lavc. Players leave out the first delay + 529 positions and, where no more frames are there than it counts,
-the last padding - 529 of those that it counts. For a position a decoder needs the granules from the one before that in which the position 480
-before it is: so a piece begins with the frame of the position 1,056 before its first. A lead-in, one silent frame, comes first where main
-data have no room else, and where the first position is before 529. The head isn't main data here: a frame whose main data begin in its
-area, and before which all frames are silent or lost, is lost. A place among the samples is a position as `cut` has it, whose frames count
-as time; digits and `s`; M.SS.mmm; or EOF- and M.SS, M.SS.hh or M.SS.mmm.
+A frame has 1,152 positions, or 576 in MPEG-2 and MPEG-2.5. A head counts if it has a number of frames other than 0 and an extension
+that begins with LAME, Lavf or Lavc. Players leave out the first delay + 529 positions and, if there are no more frames than the head says,
+the last padding - 529 positions of the frames that it says. To play a position a decoder needs the granule before the one with the position
+480 earlier, and all granules from there on; so a piece begins with the frame of the position 1,056 before its first. A lead-in, one silent
+frame, comes first if main data have no room otherwise, or if the first position is before 529. The head's area holds no main data here: a
+frame whose main data begin in it is lost if all earlier frames are silent or lost. A place among the samples is a position as in `cut`, with
+frames counted as time; digits and `s`; M.SS.mmm; or EOF- and M.SS, M.SS.hh or M.SS.mmm.
 """
 import copy
 import re
@@ -29,7 +29,7 @@ ENCODERS = (b"LAME", b"Lavf", b"Lavc")
 
 
 class Fault(Exception):
-    """What the program's line says of two places."""
+    """What the program's line says about two places."""
 
 
 # ---- places
@@ -44,7 +44,7 @@ def millis(word, pattern):
 
 
 def exact_place(word):
-    """What a place among the samples is, and its number; or None."""
+    """The kind of a place among the samples, and its value; or None."""
     if fades.place(word) is not None:
         return "position", fades.place(word)
     if re.fullmatch(r"[0-9]{1,10}s", word) and int(word[:-1]) < 2**32:
@@ -62,7 +62,7 @@ def samples_of(found):
 
 
 def number_of(place, found, length):
-    """The number of the sample that a place names, in a file that plays so many."""
+    """The number of the sample that a place names, in a file that plays `length` samples."""
     what, it = place
     frequency = found.frames[0].frequency
     if what == "position":
@@ -93,7 +93,7 @@ def counts_of(data, head):
 
 
 def played(data, found):
-    """From which position on and before which a file is played."""
+    """The first position that is played, and the one after the last."""
     count, size = len(found.frames), samples_of(found)
     counts = counts_of(data, found.head)
     if counts is None:
@@ -109,7 +109,7 @@ def played(data, found):
 
 
 def apart(found):
-    """The survey with those frames lost besides whose main data begin in the head, before which all are silent or lost."""
+    """The survey in which frames are also lost if their main data begin in the head and all earlier frames are silent or lost."""
     if found.head is None:
         return found
     rows, before, leading = [], 0, True
@@ -123,7 +123,7 @@ def apart(found):
 
 
 def range_of(data, found, places):
-    """The positions of two places; or why there is no piece between them."""
+    """The positions of two places; refuses them if there is no piece between them."""
     start, end = played(data, found)
     length = max(0, end - start)
     a, b = (number_of(it, found, length) for it in places)
@@ -139,7 +139,7 @@ def frames_for(found, p, q):
 
 
 def tag_crc(data):
-    """CRC-16/ARC, as a remainder of reversed bits."""
+    """CRC-16/ARC, in reversed bits."""
     word = 0
     for byte in data:
         word ^= byte
@@ -149,14 +149,14 @@ def tag_crc(data):
 
 
 def sealed(frame, side_size):
-    """The Info frame with its number of bytes as music length, and with its tag CRC."""
+    """The Info frame with its number of bytes as the music length, and with its tag CRC."""
     text = 4 + side_size
     frame = frame[: text + 148] + frame[text + 12 : text + 16] + frame[text + 152 :]
     return frame[: text + 154] + tag_crc(frame[: text + 154]).to_bytes(2, "big") + frame[text + 156 :]
 
 
 def piece_of(data, found, p, q):
-    """The file by which players play exactly the positions from p on and before q."""
+    """The file of which players play exactly the positions from p on and before q."""
     own, size = apart(found), samples_of(found)
     first, end = frames_for(found, p, q)
     needs = laid.main_data(data, own)[first:end]

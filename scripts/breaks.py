@@ -1,21 +1,21 @@
-"""Where a line of a proof or a clause is broken: `lines_of` gives the cheapest way, by what stands around each break. `scripts/layout` uses
-it."""
+"""Where to break a line of a proof or a clause: `lines_of` finds the cheapest way, judged by what is around each break. `scripts/layout`
+uses it."""
 import re
 from functools import lru_cache
 
 WIDTH = 100
 TOKEN = re.compile(r'--.*|"(?:[^"\\]|\\.)*"|\{-[\s\S]*?-\}|[(){}.;,@]|[^\s(){}.;,@"]+')
-# What a line costs, each bracket around a break, each looser operator beside it, a break right after a function's name, a line that is too
-# wide, and each column too many.
+# The cost of a line, of each bracket around a break, of each looser operator beside it, of a break right after a function's name, of a line
+# that is too wide, and of each column too many.
 LINE, DEPTH, STEP, HEAD, WIDE, OVER = 10, 8, 10, 8, 1000, 2
-# The operators, those that bind loosest first; and what ends a term beside brackets.
+# The operators, from loosest to tightest; and what ends a term, besides brackets.
 LEVELS = [["→"], ["↔", "⊎", "×"], ["≡", "≢", "≤", "<"], ["∙"], ["||"], ["&&"], ["=="], ["++", "∷"], ["+", "-"]]
 LEVEL = {it: level for level, them in enumerate(LEVELS) for it in them}
 ENDS = ("in", "=", "↦", ",", ";", "|", "then", "else")
-# What parts a list, by its bracket.
+# The separator of a list, by its bracket.
 PARTS = {"(": ",", "{": ";", "[": "|"}
 CLOSERS = (")", "}", "]")
-# What no break stands before, and behind.
+# What has no break before it, and what has none after it.
 HELD = ("=", ":", "↦", "|", "[", "where")
 HOLDS = ("λ", "←", "¬", "let", "record", "elim", "if", "|", "unfolding", "module", "pub", "abbrev", "data")
 
@@ -29,20 +29,20 @@ def has_comment(line):
 
 
 class Scope:
-    """A term and the operators at its top: the more kinds of them there are, the deeper is what stands beside them."""
+    """A term and the operators at its top level: the more kinds there are, the deeper is what is beside them."""
 
     def __init__(self, outer):
         self.outer, self.levels = outer, set()
 
     def cost(self, level=len(LEVELS) + 1):
-        """What a break before an operator of this level costs, by the looser ones and by the brackets around."""
+        """What a break before an operator of this level costs, given the looser ones and the brackets around it."""
         return (self.outer.cost() + DEPTH if self.outer else 0) + STEP * len([it for it in self.levels if it < level])
 
 
 class Token:
     def __init__(self, text, is_spaced):
         self.text, self.is_spaced, self.level = text, is_spaced, level_of(text)
-        # The term that it stands in, how many brackets are around, the other bracket, and where a list is parted.
+        # The term that it is in, how many brackets are around it, its matching bracket, and where the separators of its list are.
         self.scope, self.depth, self.mate, self.parts = None, 0, None, []
         # Whether it opens a list, whether it is in a binder's names, and what a break in the type of a `let` costs.
         self.is_list, self.is_bound, self.typed = False, False, 0
@@ -55,7 +55,7 @@ def level_of(text):
 
 
 def tokens_of(line):
-    """The tokens of a line with their brackets, lists and terms."""
+    """The tokens of a line, with their brackets, lists and terms."""
     tokens = [Token(it[0], 0 < it.start() and line[it.start() - 1] == " ") for it in TOKEN.finditer(line)]
     now, stack = Scope(None), []
     for at, it in enumerate(tokens):
@@ -87,7 +87,7 @@ def tokens_of(line):
 
 
 def bind(tokens, at):
-    """Marks the names from `λ` to its dot, or from `let` to its `=` or its type, which aren't parted."""
+    """Marks the names from `λ` to its dot, or from `let` to its `=` or its type, which aren't broken."""
     is_let, is_typed = tokens[at].text == "let", False
     for it in tokens[at + 1:]:
         is_top = it.depth == tokens[at].depth + is_let
@@ -104,9 +104,9 @@ def is_binder(tokens, at):
 
 
 def price_of(tokens, at):
-    """What a break before a token costs; None where none may stand."""
+    """What a break before a token costs; None if no break may be there."""
     last, it = tokens[at - 1], tokens[at]
-    # `module _`, the bracket of a list whose parts begin the lines below, and what is right behind a list's bracket.
+    # `module _`, the bracket of a list whose parts begin the lines below, and what comes right after a list's bracket.
     if last.text == "_" and at == 2 or it.text in PARTS and at + 1 == len(tokens) or last.is_list:
         return None
     if not it.is_spaced or it.is_bound or it.text in HELD or last.text in HOLDS or it.is_list and it.text == "{":
@@ -125,7 +125,7 @@ def price_of(tokens, at):
 
 
 class Plan:
-    """The best way to break a line. A list is on one line, or each of its parts begins one, as `rt fmt` has it."""
+    """The best way to break a line. A list is on one line, or each of its parts begins a line, as in `rt fmt`."""
 
     def __init__(self, tokens):
         self.tokens, self.prices = tokens, [price_of(tokens, at) if at else None for at in range(len(tokens))]
@@ -135,7 +135,8 @@ class Plan:
         return "".join(" " * it.is_spaced + it.text for it in self.tokens[start:end])
 
     def best_of(self, start, end, indent, later, back=""):
-        """The cost and the lines of some tokens and what is behind them, where the first line is at one column and the others at another."""
+        """The cost and the lines of the tokens from `start` on and before `end`, with `back` after them: the first line at column `indent`, the
+        others at column `later`."""
         best, at = (10 ** 9, []), start
         text = " " * indent
         while at < end:
@@ -160,7 +161,7 @@ class Plan:
         return best
 
     def parted(self, opener, indent):
-        """The cost and the lines of a list whose parts begin lines."""
+        """The cost and the lines of a list each of whose parts begins a line."""
         it, cost, lines = self.tokens[opener], 0, []
         ends = [opener, *it.parts, it.mate]
         for start, end in zip(ends, ends[1:]):
@@ -172,8 +173,8 @@ class Plan:
 
 
 def lines_of(lines, indent, later, head="", back=""):
-    """The lines of code that goes on over some lines, broken anew: the first at one column, the others at another. The head and the back of
-    their text stay with its first and its last token. None where they would be as wide."""
+    """Breaks code that spans these lines again: the first line at column `indent`, the others at column `later`. The head and the back of the
+    text stay with its first and its last token. None if that makes one line, or leaves no fewer lines too wide."""
     text = " ".join(it.strip() for it in lines)
     tokens = tokens_of(text[len(head):len(text) - len(back)])
     plan = Plan(tokens)

@@ -1,15 +1,15 @@
-"""The clauses of a source, whose terms are written as in specs: where they stand, and how their wide lines are broken."""
+"""The clauses of a source, whose terms are written as in specs: where they are, and how their wide lines are broken."""
 import re
 
 from breaks import TOKEN, WIDTH, has_comment, indent_of, lines_of
 
-# What a clause begins with, up to its term, and what it ends with. `ghost use` is no clause.
+# The beginning of a clause, up to its term, and its end. `ghost use` isn't a clause.
 HEAD = re.compile(r"(?:(?:requires|ensures)(?: \w+)?|ghost \w+(?: =|:)) \{ ")
 BACK = re.compile(r" \};?$")
 
 
 def clauses(lines):
-    """Each clause as the place of its first line and that of the line behind it."""
+    """Each clause as the index of its first line and the index of the line after it."""
     end = 0
     for at, line in enumerate(lines):
         if at >= end and HEAD.match(line.lstrip()):
@@ -18,7 +18,7 @@ def clauses(lines):
 
 
 def end_of(lines, at):
-    """The place behind the line that closes the first brace of this one."""
+    """The index of the line after the one that closes this line's first brace."""
     depth = 0
     while at < len(lines):
         tokens = TOKEN.findall(lines[at])
@@ -30,14 +30,14 @@ def end_of(lines, at):
 
 
 def later_of(lines, at):
-    """The column of what goes on with a line: the line's own if it is four further in than one above, since it goes on with that."""
+    """The column of the lines that continue a line: its own if it is indented four more than one above, which it then continues itself."""
     indent = indent_of(lines[at])
     outer = next((it for it in map(indent_of, reversed(lines[:at])) if it < indent), None)
     return indent if outer == indent - 4 else indent + 4
 
 
 def parts_of(lines, at):
-    """The lines that one line of a clause is broken into; itself where it fits or can't be broken."""
+    """The lines that one line of a clause is broken into, or just that line if it fits or can't be broken."""
     line, back = lines[at], BACK.search(lines[-1])
     if len(line) <= WIDTH or has_comment(line) or not back:
         return [line]
@@ -46,7 +46,7 @@ def parts_of(lines, at):
 
 
 def broken_clause(lines):
-    """The lines of a clause with the wide ones broken. What a break leaves for its last line stands on the line below where both fit."""
+    """The lines of a clause with the wide ones broken. The last part of a broken line joins the line below if both fit on it."""
     lines, made = list(lines), []
     for at in range(len(lines)):
         parts, below = parts_of(lines, at), "".join(lines[at + 1:at + 2])

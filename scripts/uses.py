@@ -1,4 +1,4 @@
-"""The imports of specs and proofs: what a `use` line brings in, and lines that bring in the same in groups."""
+"""The imports of specs and proofs: what a `use` line imports, and lines that import the same in groups."""
 import re
 
 from breaks import TOKEN, WIDTH
@@ -22,7 +22,7 @@ def leaves(tree):
 
 
 def grouped(paths, top=True):
-    """The use tree of sorted paths, each a tuple of words; what is brought in stands in braces."""
+    """The use tree of sorted paths, each a tuple of words; at the top what is imported is always in braces."""
     front = 0
     while all(len(it) > front + 1 for it in paths) and len({it[front] for it in paths}) == 1:
         front += 1
@@ -38,7 +38,7 @@ def grouped(paths, top=True):
 
 
 def use_lines(paths, head):
-    """Lines that bring in these paths: a library's stand together, and a module's where they fit."""
+    """Lines that import these paths: those of a library together, and those of a module on one line if they fit."""
     fits = lambda them: len(head + grouped(them)) <= WIDTH
     libraries, lines = {}, []
     for it in sorted(paths, key=lambda it: (it[:2] != ("Rattle", "std"), it[:-1], not re.search(r"\w", it[-1]), it[-1].lower(), it[-1])):
@@ -57,14 +57,14 @@ def use_lines(paths, head):
 
 
 def is_narrowest(line):
-    """Whether a line can't be narrower: it is the import of one name, or it has a name or a text that is too long for a line."""
+    """Whether a line can't be narrower, since it imports a single name, or has a name or a string that is too long for a line."""
     found = USE.match(line)
     indent = len(line) - len(line.lstrip())
     return len(leaves(found[3] or "")) < 2 if found else any(re.match(r'["\w]', it) and indent + len(it) > WIDTH for it in TOKEN.findall(line))
 
 
 def unfolded(lines):
-    """The lines with a group of imports that `rt fmt` has on many lines on one."""
+    """The lines, with each group of imports that `rt fmt` has spread over several lines on one."""
     made = []
     for line in lines:
         if made and re.match(r"(pub )?use ", made[-1]) and made[-1].count("{") > made[-1].count("}"):
@@ -75,26 +75,26 @@ def unfolded(lines):
 
 
 def words_used(lines):
-    """The words outside imports and comments, and the heads of the imports' paths; a dotted name counts as its parts."""
+    """The words outside imports and comments, and the first words of the imports' paths; a dotted name counts as its parts."""
     rest = "\n".join(it for it in lines if not re.match(r"(pub )?use ", it))
     heads = {it.split("use ")[1].split(".")[0] for it in lines if re.match(r"(pub )?use ", it)}
     return heads | {part for word in TOKEN.findall(rest) if not word.startswith("--") for part in (word, word.strip("«»"))}
 
 
 def is_used(item, words):
-    """Whether an item, `x` or `x as y`, is among the words under the name that it has here; an operator has its parts there."""
+    """Whether an item, `x` or `x as y`, is among the words, under the name that it has here; an operator is if one of its parts is."""
     name = item.rpartition(" as ")[2]
     return item.startswith("syntax ") or name in words or any(part in words for part in name.split("◌") if part)
 
 
 def imports(lines):
-    """The lines with each run of imports in groups, and the paths that the file doesn't use, which are left out."""
+    """The lines, with each run of imports in groups and without unused ones, and the unused paths."""
     lines = unfolded(lines)
     words, made, unused, paths, whole = words_used(lines), [], [], {}, set()
     for line in [*lines, ""]:
         head, front, group, _ = found.groups() if (found := USE.match(line)) else (None, "", None, None)
         for path in (it.split(".") for it in leaves(f"{front}.{group}") if group):
-            # What is passed on is for others.
+            # What is passed on is for other files.
             if head != "use " or is_used(path[-1], words):
                 paths.setdefault(head, set()).add(tuple(path))
             else:
