@@ -322,6 +322,38 @@ protection_back : (protected : Bool) → protected ≡ eqb (protection_of protec
 protection_back true = refl
 protection_back false = refl
 
+-- bits that give a header's version, its frequency and a bit rate are readable
+pub readable_by : (h : List ℕ) (fields : HeaderFields) → IsHeader fields → SaysClass h fields
+    → is_readable h ≡ true
+unfolding is_readable
+readable_by h fields is says =
+    let not_reserved : eqb (version_number fields.version) 1 ≡ false = version_some fields.version
+    in
+    let not_15 : eqb (rate_bits h) 15 ≡ false = ne_eqb _ _ (omega (arith, says.most)) in
+    let not_3 : eqb fields.frequency_index 3 ≡ false =
+    ne_eqb _ _ (omega (arith, is.frequency_index)) in
+    rw (says.sync, says.version, says.layer, says.frequency, not_reserved, not_15, not_3) refl
+
+-- the version that bits give is the header's
+pub version_by : (h : List ℕ) (fields : HeaderFields) → SaysClass h fields
+    → fields.version ≡ version_of h
+version_by h fields says = version_back fields.version
+    ∙ ap (λ n. cond (eqb n 3) One (cond (eqb n 2) Two TwoFive)) (sym says.version)
+
+-- bits with the sync bits, the layer, the version and the frequency
+-- of others, and a bit rate, give the same as these
+pub says_same : (h own : List ℕ) (fields : HeaderFields) → SaysClass own fields
+    → group 0 11 h ≡ group 0 11 own → group 13 2 h ≡ group 13 2 own → group 11 2 h ≡ group 11 2 own
+    → group 20 2 h ≡ group 20 2 own → 1 ≤ rate_bits h → rate_bits h ≤ 14 → SaysClass h fields
+says_same h own fields says sync layer version frequency some most = record {
+  sync = sync ∙ says.sync;
+  layer = layer ∙ says.layer;
+  version = version ∙ says.version;
+  frequency = frequency ∙ says.frequency;
+  some = some;
+  most = most;
+}
+
 -- the bits of a header are read as that header
 pub header_in-header_bits : (h : HeaderFields) → IsHeader h → header_in (header_bits h) ≡ good h
 unfolding is_readable header_numbers
@@ -330,14 +362,17 @@ header_in-header_bits h is =
     let g = λ (k : ℕ). ap (λ ns. get_or ns k 0) (groups_written h is) in
     let sync : group 0 11 bs ≡ 2047 = g 0 in
     let version : group 11 2 bs ≡ version_number h.version = g 1 in
-    let not_reserved : eqb (version_number h.version) 1 ≡ false = version_some h.version in
     let layer : group 13 2 bs ≡ 1 = g 2 in
     let rate : group 16 4 bs ≡ h.slot.rate_index = g 4 in
     let frequency : group 20 2 bs ≡ h.frequency_index = g 5 in
-    let not_15 : eqb h.slot.rate_index 15 ≡ false = ne_eqb _ _ (omega (arith, is.slot.1)) in
-    let not_3 : eqb h.frequency_index 3 ≡ false = ne_eqb _ _ (omega (arith, is.frequency_index)) in
-    let readable : is_readable bs ≡ true =
-    rw (sync, version, layer, rate, frequency, not_reserved, not_15, not_3) refl in
+    let readable : is_readable bs ≡ true = readable_by bs h is (record {
+      sync = sync;
+      layer = layer;
+      version = version;
+      frequency = frequency;
+      some = omega (arith, rate, is.slot.0);
+      most = omega (arith, rate, is.slot.1);
+    }) in
     header_in-good bs readable (omega (arith, is.slot.0))
     ∙ ap good (sym (header_fields-groups bs h.version h.protected h.slot.rate_index h.slot.padding
     h.frequency_index h.private_bit h.mode h.mode_extension h.copyright h.original h.emphasis

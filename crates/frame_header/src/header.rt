@@ -152,7 +152,42 @@ fn read_word(word: u32) -> Result<Header, NotHeader>
     Ok(header_of(word, version_of(word), frequency_index))
 }
 
+/// Whether a group of bits is the same in two headers.
+#[inline(always)]
+fn is_same_group(word: u32, other: u32, from: u32, width: u32) -> bool
+    requires some { 1 ≤ width }
+    requires within { from + width ≤ 32 }
+    requires small { width ≤ 12 }
+    ensures { result ≡ (group from width (bits_of 32 word) == group from width (bits_of 32 other)) }
+{
+    group_of(word, from, width) == group_of(other, from, width)
+}
+
+/// A header with the version and the sampling frequency of this class.
+#[inline(always)]
+fn header_with(class: Class) -> Header
+    ensures version { result.version ≡ class.version }
+    ensures frequency { result.frequency_index ≡ class.frequency_index }
+{
+    Header {
+        version: class.version,
+        protected: false,
+        slot: Slot {
+            rate_index: 1,
+            padding: false,
+        },
+        frequency_index: class.frequency_index,
+        private_bit: false,
+        mode: 0,
+        mode_extension: 0,
+        copyright: false,
+        original: false,
+        emphasis: 0,
+    }
+}
+
 /// Whether these are the bits of a header with this version and sampling frequency that isn't free format.
+// Compared with another such header, since the compiler then makes one test of the first four.
 #[inline(always)]
 #[tactic(auto, using(crate::proofs::HeaderLemmas::says_class), unfolding(crate::specs::Reading::is_readable))]
 fn is_header_of(class: Class, word: u32) -> bool
@@ -164,10 +199,11 @@ fn is_header_of(class: Class, word: u32) -> bool
     ensures all { (h : HeaderFields) → header_in (bits_of 32 word) ≡ Ok h
         → h.version ≡ class.version → h.frequency_index ≡ class.frequency_index → result ≡ true }
 {
+    let own = word_of(&header_with(class));
     let rate_index = group_of(word, 16, 4);
-    let synced = (group_of(word, 0, 11) == 0x7ff) & (group_of(word, 13, 2) == 1);
-    let version = group_of(word, 11, 2) == version_bits(class.version);
-    let frequency = group_of(word, 20, 2) == u32::from(class.frequency_index);
+    let synced = is_same_group(word, own, 0, 11) & is_same_group(word, own, 13, 2);
+    let version = is_same_group(word, own, 11, 2);
+    let frequency = is_same_group(word, own, 20, 2);
     synced & version & frequency & (1 <= rate_index) & (rate_index <= 14)
 }
 

@@ -5,17 +5,18 @@ use Rattle.std.proofs.Math.Seq.{take-append-add, take-append_seam}
 use Rattle.std.proofs.lemmas.List.{drop-append-le, drop-drop, drop-take, length-take-le}
 
 -- bytes put after the bytes of a queue
-pub put-behind : (n h l : ℕ) (room rest part bytes held : List ℕ) → n + h ≤ length room
-    → take h (drop n room) ≡ held → part ≡ bytes → length bytes ≡ l
-    → take (n + h + l - n) (drop n (take (n + h) room ++ (part ++ rest))) ≡ held ++ bytes
-put-behind n h l room rest part bytes held within holds is long =
-    let size : length held ≡ h = sym (ap length holds)
-    ∙ length-take-le h (drop n room) (omega (arith, within, length-drop n room)) in
+pub put-behind : (from to l : ℕ) (room rest part bytes held : List ℕ) → from ≤ to
+    → to ≤ length room → take (to - from) (drop from room) ≡ held → part ≡ bytes → length bytes ≡ l
+    → take (to + l - from) (drop from (take to room ++ (part ++ rest))) ≡ held ++ bytes
+put-behind from to l room rest part bytes held order within holds is long =
+    let ends : to ≡ from + (to - from) = omega (arith, order) in
+    let size : length held ≡ to - from = sym (ap length holds)
+    ∙ length-take-le (to - from) (drop from room) (omega (arith, within, length-drop from room)) in
     ap₂ (λ m (xs : List ℕ). take m xs) (omega (arith, size, long))
-    (drop-append-le n (take (n + h) room) (part ++ rest) (omega (
-      arith,
-      length-take-le (n + h) room within,
-    )) ∙ ap₂ (λ (xs ys : List ℕ). xs ++ (ys ++ rest)) (drop-take n h room ∙ holds) is)
+    (drop-append-le from (take to room) (part ++ rest)
+    (omega (arith, length-take-le to room within))
+    ∙ ap₂ (λ (xs ys : List ℕ). xs ++ (ys ++ rest)) (ap (λ n. drop from (take n room)) ends
+    ∙ drop-take from (to - from) room ∙ holds) is)
     ∙ take-append-add held (bytes ++ rest) (length bytes)
     ∙ ap (λ (xs : List ℕ). held ++ xs) (take-append_seam bytes rest)
 

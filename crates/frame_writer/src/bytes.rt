@@ -66,13 +66,11 @@ impl ByteQueue {
         requires { length self.old + length bytes.now ≤ most_waiting }
         ensures { self.new ≡ self.old ++ bytes.now }
     {
-        let count = self.to - self.from;
         let room = self.room.as_mut_slice();
-        let from = make_room(room, self.from, self.to, bytes.len());
-        let end = from + count;
-        room[end..end + bytes.len()].copy_from_slice(bytes);
-        self.from = from;
-        self.to = end + bytes.len();
+        make_room(room, &mut self.from, &mut self.to, bytes.len());
+        let end = self.to + bytes.len();
+        room[self.to..end].copy_from_slice(bytes);
+        self.to = end;
     }
 
     /// Drops the first `count` bytes.
@@ -94,18 +92,21 @@ impl ByteQueue {
 }
 
 /// Moves the bytes between two places to the beginning of `room`, if there isn't room for `more`
-/// bytes after them, and returns where they begin then.
+/// bytes after them.
 #[inline]
-fn make_room(room: &mut [u8], from: usize, to: usize, more: usize) -> usize
-    requires ordered { from ≤ to }
-    requires within { to ≤ length room.old }
-    requires free { to - from + more ≤ length room.old }
-    ensures room { result + (to - from) + more ≤ length room.old }
-    ensures same { take (to - from) (drop result room.new) ≡ take (to - from) (drop from room.old) }
+fn make_room(room: &mut [u8], from: &mut usize, to: &mut usize, more: usize)
+    requires ordered { from.old ≤ to.old }
+    requires within { to.old ≤ length room.old }
+    requires free { to.old - from.old + more ≤ length room.old }
+    ensures ordered { from.new ≤ to.new }
+    ensures room { to.new + more ≤ length room.old }
+    ensures count { to.new - from.new ≡ to.old - from.old }
+    ensures same { take (to.new - from.new) (drop from.new room.new) ≡
+        take (to.old - from.old) (drop from.old room.old) }
 {
-    if more <= room.len() - to {
-        return from;
+    if more > room.len() - *to {
+        room.copy_within(*from..*to, 0);
+        *to -= *from;
+        *from = 0;
     }
-    room.copy_within(from..to, 0);
-    0
 }

@@ -27,12 +27,15 @@ const MOST: usize = 256;
 #[derive(Drop)]
 pub struct FrameQueue {
     class: Class,
+    // The class's window, so that it isn't computed again for each frame.
+    window: u32,
     kept: HeapCircularBuffer<SizedFront>,
     areas: Areas,
 }
 
 impl Model for FrameQueue {
     ghost use Rattle.std.specs.Prelude.{◌≡◌, ◌≤◌, length};
+    ghost use Rattle.frame_header.specs.Tables.{window_of};
     ghost use Rattle.frame_writer.specs.Frames.{WaitingFrames, AreFieldsOfClass, areas_length};
 
     ghost Value = { WaitingFrames };
@@ -41,7 +44,8 @@ impl Model for FrameQueue {
 
     ghost invariant = { λ w. (w.kept.capacity ≡ 256) × (length w.kept.items ≤ 256)
         × (areas_length w.kept.items ≡ length w.areas.bytes)
-        × AreFieldsOfClass w.class w.kept.items };
+        × AreFieldsOfClass w.class w.kept.items
+        × (w.window ≡ window_of w.class.version) };
 }
 
 impl FrameQueue {
@@ -54,6 +58,7 @@ impl FrameQueue {
     {
         Ok(FrameQueue {
             class,
+            window: class.window(),
             kept: HeapCircularBuffer::with_capacity(alloc, MOST)?,
             areas: Areas::new(alloc)?,
         })
@@ -64,6 +69,7 @@ impl FrameQueue {
         ensures { IsNewQueue class self.new }
     {
         self.class = class;
+        self.window = class.window();
         self.kept.clear();
         self.areas.clear();
     }
@@ -86,7 +92,7 @@ impl FrameQueue {
     pub fn reach(&self) -> u32
         ensures { result ≡ reach_of self.now }
     {
-        self.areas.free().min(self.class.window())
+        self.areas.free().min(self.window)
     }
 
     /// How many frames wait, at most 256.
@@ -223,7 +229,7 @@ impl FrameQueue {
     {
         match self.kept.front() {
             None => false,
-            Some(first) => first.area() as usize <= self.areas.settled(self.class.window()),
+            Some(first) => first.area() as usize <= self.areas.settled(self.window),
         }
     }
 }

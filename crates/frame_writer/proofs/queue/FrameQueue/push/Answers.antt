@@ -66,6 +66,7 @@ invariant_of-self c =
       subst (AreFieldsOfClass c.self.inside.class) (sym pushed.1)
           (AreFieldsOfClass-more c.self.inside.class queue.items k c.self.invariant.3 is class
           fits),
+      c.self.invariant.4,
     )
 
 pub returns-clause-kept : goal.returns-clause-kept
