@@ -9,8 +9,8 @@ use Rattle.std.proofs.lemmas.List.{length-replicate, replicate-append-replicate,
 use Rattle.std.proofs.lemmas.List.{take-append-le, take-replicate}
 use Rattle.frame_writer.specs.Laid.{AreAreasLaid, areas_end, BeginsWithin, CanDataBeLaidFrom}
 use Rattle.frame_writer.specs.Laid.{data_end, frame_data_end, frame_data_start, FrameData}
-use Rattle.frame_writer.specs.Laid.{laid_data, laid_data_from, overwritten_bytes, WaitingAreas}
-use Rattle.frame_writer.specs.Laid.{zeros}
+use Rattle.frame_writer.specs.Laid.{laid_count, laid_data, laid_data_from, overwritten_bytes}
+use Rattle.frame_writer.specs.Laid.{WaitingAreas, zeros}
 use Rattle.reservoir.proofs.WindowLemmas.{take_two}
 
 -- ---- lists of zeros
@@ -321,6 +321,13 @@ first-parts n free stored items now views within stores =
     ∙ ap (λ k. take k items ++ take (n - k) (zeros free)) stores
     ∙ sym (take_two n items (zeros free))
     ∙ ap (take n) views
+
+-- the bytes before the free ones are those of the queue
+pub laid_count-queue : (count free stored : ℕ) (items : List ℕ) (w : WaitingAreas)
+    → waits items free ≡ w → stored ≡ laid_count count w → stored ≡ min count (length items)
+laid_count-queue count free stored items w views is =
+    is ∙ ap (laid_count count) (sym views) ∙ ap (min count)
+    (omega (arith, length-append items (zeros free), length-zeros free))
 
 -- what is left after the first bytes of what waits
 pub left-is : (n free stored : ℕ) (items left now : List ℕ) → stored ≡ min n (length items)

@@ -1,8 +1,8 @@
 -- Main data laid into the areas of frames (main_data_begin, ISO/IEC
 -- 11172-3 and 13818-3, 2.4.2.7); the zeros between and after them are this
 -- project's. Places are counted in bytes, over all areas, joined in order.
-use Rattle.std.specs.Prelude.{drop, length, List, replicate, take, ℕ, [], ◌++◌, ◌+◌, ◌-◌, ◌∷◌, ◌≡◌}
-use Rattle.std.specs.Prelude.{◌≤◌}
+use Rattle.std.specs.Prelude.{drop, length, List, min, replicate, take, ℕ, [], ◌++◌, ◌+◌, ◌-◌, ◌∷◌}
+use Rattle.std.specs.Prelude.{◌≡◌, ◌≤◌}
 
 -- how many bytes of areas may wait
 abbrev pub most_waiting : ℕ
@@ -66,6 +66,10 @@ laid_data ps = laid_data_from 0 0 ps
 pub record WaitingAreas : Type 0 where
   pub bytes : List ℕ
   pub free : ℕ
+
+-- how many of the first `count` bytes that wait are before the free bytes at the end
+abbrev pub laid_count : ℕ → WaitingAreas → ℕ
+laid_count count w = min count (length w.bytes - w.free)
 
 -- these bytes at a place, written over as many that were there
 abbrev pub overwritten_bytes : ℕ → List ℕ → List ℕ → List ℕ

@@ -3,7 +3,7 @@ ghost use Rattle.std.specs.Prelude.{◌≡◌, ℕ, ◌+◌, ◌-◌, ◌≤◌,
 ghost use Rattle.outside.specs.Files.{IsFileThere};
 ghost use Rattle.outside.specs.BufferOutput.{AppendsWaiting, AppendedPrefix};
 ghost use Rattle.outside.specs.Counts.{OnlyWrites};
-ghost use Rattle.frame_writer.specs.Laid.{FrameData, WaitingAreas, zeros, areas_after_laying, AreAreasLaid, most_waiting};
+ghost use Rattle.frame_writer.specs.Laid.{FrameData, WaitingAreas, zeros, areas_after_laying, AreAreasLaid, laid_count, most_waiting};
 ghost use Rattle.frame_writer.specs.Writing.{WriteFailed};
 ghost use Rattle.outside.specs.Answers.{PassAnswer};
 ghost use Rattle.reservoir.specs.Window.{window_size};
@@ -105,7 +105,17 @@ impl Areas {
         self.free = begin + area - payload.len() as u32;
     }
 
-    /// Adds the first `count` bytes of what waits to what waits for the file.
+    /// How many of the first `count` bytes of what waits are in the queue; those after them are
+    /// zeros.
+    #[inline]
+    pub(crate) fn stored(&self, count: usize) -> usize
+        ensures { result ≡ laid_count count self.now }
+    {
+        count.min(self.queue.len())
+    }
+
+    /// Adds the first `count` bytes of what waits to what waits for the file. `stored` of them are
+    /// in the queue, as `stored` says.
     ///
     /// # Errors
     /// If a write failed. Then a prefix of both was appended.
@@ -113,32 +123,34 @@ impl Areas {
     pub(crate) fn add_first<D: Folder>(
         &self,
         count: usize,
+        stored: usize,
         folder: &mut D,
         name: &str,
         unsent: &mut WriteBuffer,
     ) -> Result<(), Failed>
         requires there { IsFileThere (D.seen folder.old).files name.now }
         requires within { count ≤ length self.now.bytes }
+        requires stored { stored ≡ laid_count count self.now }
         ensures { PassAnswer name.now unsent.old (take count self.now.bytes) unsent.new
             (D.seen folder.old) (D.seen folder.new) result }
     {
         let bytes = self.queue.bytes();
-        let stored = count.min(bytes.len());
         unsent.push(folder, name, &bytes[..stored])?;
         add_zeros(count - stored, folder, name, unsent)
     }
 
-    /// Drops the first `count` bytes of what waits. If at most the settled bytes are dropped, all
-    /// main data that could be laid before can still be laid.
+    /// Drops the first `count` bytes of what waits, of which `stored` are in the queue, as `stored`
+    /// says. If at most the settled bytes are dropped, all main data that could be laid before can
+    /// still be laid.
     #[inline]
-    pub(crate) fn drop_first(&mut self, count: usize)
-        requires { count ≤ length self.old.bytes }
+    pub(crate) fn drop_first(&mut self, count: usize, stored: usize)
+        requires within { count ≤ length self.old.bytes }
+        requires stored { stored ≡ laid_count count self.old }
         ensures left { self.new.bytes ≡ drop count self.old.bytes }
         ensures free { self.new.free ≡ min self.old.free (length self.new.bytes) }
         ensures laid { (given : List ℕ) (ps : List FrameData) → AreAreasLaid given self.old ps →
             AreAreasLaid (given ++ take count self.old.bytes) self.new ps }
     {
-        let stored = count.min(self.queue.len());
         self.queue.drop_first(stored);
         self.free -= (count - stored) as u32;
     }

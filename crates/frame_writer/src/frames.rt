@@ -8,6 +8,7 @@ ghost use Rattle.outside.specs.Files.{IsFileThere};
 ghost use Rattle.outside.specs.BufferOutput.{AppendsWaiting, AppendedPrefix};
 ghost use Rattle.outside.specs.Counts.{OnlyWrites};
 ghost use Rattle.frame_writer.specs.Frames.{frame_area, first_bytes};
+ghost use Rattle.frame_writer.specs.Laid.{laid_count};
 ghost use Rattle.frame_writer.specs.Writing.{WriteFailed};
 ghost use Rattle.outside.specs.Answers.{PassAnswer};
 ghost use Rattle.frame_header.specs.Limits.{most_frame_length, most_front};
@@ -145,7 +146,7 @@ impl<'f, 'a> Frame<'f, 'a> {
 }
 
 /// Adds the bytes of a frame of this class, whose area is the first of those that wait, to what
-/// waits for the file.
+/// waits for the file. `stored` bytes of the area are in the queue, as `Areas::stored` says.
 ///
 /// # Errors
 /// If a write failed. Then a prefix of both was appended.
@@ -154,6 +155,7 @@ pub(crate) fn add_frame<D: Folder>(
     class: Class,
     first: &SizedFront,
     areas: &Areas,
+    stored: usize,
     folder: &mut D,
     name: &str,
     unsent: &mut WriteBuffer,
@@ -161,11 +163,12 @@ pub(crate) fn add_frame<D: Folder>(
     requires there { IsFileThere (D.seen folder.old).files name.now }
     requires class { class ≡ class_of first.now.header }
     requires within { frame_area first.now ≤ length areas.now.bytes }
+    requires stored { stored ≡ laid_count (frame_area first.now) areas.now }
     ensures { PassAnswer name.now unsent.old (first_bytes first.now areas.now.bytes) unsent.new
         (D.seen folder.old) (D.seen folder.new) result }
 {
     let mut room = [0; MOST_FRONT];
     let size = first.put_in(class, &mut room);
     unsent.push_first(folder, name, &room, size)?;
-    areas.add_first(first.area() as usize, folder, name, unsent)
+    areas.add_first(first.area() as usize, stored, folder, name, unsent)
 }

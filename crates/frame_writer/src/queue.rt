@@ -214,9 +214,10 @@ impl FrameQueue {
     {
         let first = self.kept.front().unwrap();
         let area = first.area() as usize;
-        let added = add_frame(self.class, first, &self.areas, folder, name, unsent);
+        let stored = self.areas.stored(area);
+        let added = add_frame(self.class, first, &self.areas, stored, folder, name, unsent);
         self.kept.pop_front();
-        self.areas.drop_first(area);
+        self.areas.drop_first(area, stored);
         added
     }
 

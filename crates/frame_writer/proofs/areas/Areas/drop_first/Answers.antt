@@ -1,6 +1,6 @@
 -- What is left of the queue, and of the zeros after it.
 use Rattle.std.proofs.Common.{ap, arith, drop, length-append, min, refl, take, ◌++◌, ◌-◌, ◌∙◌, ◌≡◌}
-use Rattle.frame_writer.proofs.LaidLemmas.{left-is, length-zeros, taken-laid}
+use Rattle.frame_writer.proofs.LaidLemmas.{laid_count-queue, left-is, length-zeros, taken-laid}
 use Rattle.frame_writer.specs.Laid.{WaitingAreas, zeros}
 use Rattle.frame_writer.proofs.areas.Areas.drop_first.Goals as goal
 
@@ -9,12 +9,13 @@ returns-clause-laid c = λ given ps are.
     let n = c.args.count in
     let free = c.self.inside.free in
     let now = c.args.self.now.bytes in
-    let less = free - (n - c.min-stored.result) in
+    let less = free - (n - c.args.stored) in
     let left = c.drop_first.new.self in
     let leaves : left ++ zeros less ≡ drop n now =
-    left-is n free c.min-stored.result c.self.inside.queue left now
-    (c.min-stored.ensures ∙ ap (min n) c.len.ensures.count)
-    c.drop_first.ensures (ap (λ (w : WaitingAreas). w.bytes) c.self.view_is) c.requires in
+    left-is n free c.args.stored c.self.inside.queue left now
+    (laid_count-queue n free c.args.stored c.self.inside.queue c.args.self.now c.self.view_is
+    c.requires.stored)
+    c.drop_first.ensures (ap (λ (w : WaitingAreas). w.bytes) c.self.view_is) c.requires.within in
     taken-laid given now (take n now)
     (left ++ zeros less) n c.args.self.now.free less ps refl leaves
     (omega (arith, ap (λ (w : WaitingAreas). w.free) c.self.view_is))
