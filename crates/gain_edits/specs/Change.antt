@@ -4,8 +4,8 @@ use Rattle.commands.specs.SingleOutput.{file_task, made_file, Making, Task}
 use Rattle.commands.specs.declared.fault.EditFault.{EditFault, TheVariants.Memory}
 use Rattle.commands.specs.declared.fault.Refusal.{Refusal}
 use Rattle.moved_gains.specs.Change.{change_in, file_with_change, FileChange}
-use Rattle.moved_gains.specs.Streams.{moved_stream_frame, stream_in}
-use Rattle.moved_gains.specs.declared.change.Change.{Change as CodeChange}
+use Rattle.moved_gains.specs.Streams.{moved_stream_frame, stream_of}
+use Rattle.moved_gains.specs.declared.change.Change.{Change}
 use Rattle.requests.specs.declared.shift.Steps.{Steps}
 use Rattle.sync_survey.specs.{Faults.SurveyFields, MainData.StreamFrame}
 
@@ -15,7 +15,7 @@ Changing = List ℕ → SurveyFields → Result FileChange EditFault
 
 -- the code returns what the definition says of a file with this survey, or memory ran out
 abbrev pub IsChangeDecided : SurveyFields → Result FileChange EditFault
-    → Result CodeChange EditFault → Type 0
+    → Result Change EditFault → Type 0
 IsChangeDecided s made r = MatchResult r (λ change. made ≡ Ok (change_in change s))
     (λ fault. (fault ≡ Memory) ⊎ (made ≡ Err fault))
 
@@ -35,7 +35,7 @@ change_result of file = made_file (change_making of) file
 
 -- the stream of a file with its gains moved by these steps
 abbrev pub moved_file_stream : (List ℕ → Steps) → List ℕ → List StreamFrame
-moved_file_stream steps_in file = map (moved_stream_frame (steps_in file)) (stream_in file)
+moved_file_stream steps_in file = map (moved_stream_frame (steps_in file)) (stream_of file)
 
 -- it makes the input with these changes, whose stream is the input's with the gains moved by these
 -- steps

@@ -8,8 +8,7 @@ use Rattle.gain_edits.specs.Change.{change_making, change_task, Changing}
 use Rattle.gain_edits.specs.Gain.{gain_change, gain_refuses, noted_tag_change, plain_change}
 use Rattle.gain_edits.specs.Undo.{file_undo_steps, undo_change, undo_refuses, undone_tag_change}
 use Rattle.gain_edits.specs.declared.changes.Changes.{Changes, TheVariants.{Move, Undo}}
-use Rattle.moved_gains.specs.Change.{change_in, FileChange}
-use Rattle.moved_gains.specs.declared.change.Change.{Change as CodeChange}
+use Rattle.moved_gains.specs.{Change.{change_in, FileChange}, declared.change.Change.Change}
 use Rattle.outside.specs.{Counts.OnlyReads, Files.Holds, Seen.Seen}
 use Rattle.requests.specs.{Shifts.steps_of, declared.shift.Steps.Steps}
 use Rattle.sync_survey.specs.Faults.{SurveyFields}
@@ -49,7 +48,7 @@ task_of_changes changes input =
 
 -- The decision for a surveyed input: the change of its bytes, or why it is refused. The files stay.
 pub record IsDecision (changes : Changes) (name : List ℕ) (old new : Seen) (s : SurveyFields)
-    (r : Result CodeChange EditFault) : Type 0 where
+    (r : Result Change EditFault) : Type 0 where
   pub change : IfOk r (λ change. (bytes : List ℕ) → Holds old.files name bytes
       → changing_of changes bytes s ≡ Ok (change_in change s))
   pub refused : IfErr r (IsInputFault (change_making (changing_of changes)) name old new)

@@ -14,7 +14,7 @@ use Rattle.fade_plan.specs.declared.envelope_fault.EnvelopeFault.{EnvelopeFault}
 use Rattle.fade_plan.specs.declared.envelope_fault.EnvelopeFault.TheVariants.{Memory as NoRoom}
 use Rattle.gain_edits.specs.{Change.{change_making, Changing}, GainRange.range_fault}
 use Rattle.moved_gains.specs.{Change.FileChange, Course.{course_steps, steps_at_offset}}
-use Rattle.moved_gains.specs.Streams.{moved_stream_frame, stream_in}
+use Rattle.moved_gains.specs.Streams.{moved_stream_frame, stream_of}
 use Rattle.moved_gains.specs.declared.course.Course.TheVariants.{Along}
 use Rattle.requests.specs.declared.shift.Steps.{Steps}
 use Rattle.sync_survey.specs.{Faults.SurveyFields, MainData.StreamFrame, Survey.survey_of}
@@ -94,7 +94,7 @@ surveyed_fade_stream sheet back frames (Err fault) = frames
 -- the stream of a file with the gains of each frame moved by the steps of the curve at its number
 abbrev pub faded_stream : Option (List ℕ) → Bool → List ℕ → List StreamFrame
 faded_stream sheet back file =
-    surveyed_fade_stream sheet back (stream_in file) (survey_of file most_frames)
+    surveyed_fade_stream sheet back (stream_of file) (survey_of file most_frames)
 
 -- ---- the command
 

@@ -16,8 +16,8 @@ use Rattle.seam_plan.specs.Decisions.{alike_overlap, frame_places, IsBroughtInpu
 use Rattle.seam_plan.specs.Decisions.{IsJoint, IsRun, IsSoundRun}
 use Rattle.seam_plan.specs.Frames.{Brought, needs_of, RunFrame}
 use Rattle.seam_plan.specs.Seams.{joints_of, left_out_count, run_with, seamless_join, SeamlessJoin}
-use Rattle.seam_plan.specs.declared.{input.Input.Input, run.FramePlace.FramePlace}
-use Rattle.seam_plan.specs.declared.run.{Joint.Joint as CodeJoint, Run.Run}
+use Rattle.seam_plan.specs.declared.{input.Input.Input, run.{FramePlace.FramePlace, Joint.Joint}}
+use Rattle.seam_plan.specs.declared.run.Run.{Run}
 use Rattle.slot_plan.specs.{FreeBytes.FitsBehind, Parts.AreNeedsOfClass, declared.needs.Need.Need}
 use Rattle.sync_survey.specs.Faults.{SurveyFields}
 
@@ -118,8 +118,8 @@ AreMovedNeeds needs others =
     × (n.header ≡ record m.header { slot = n.header.slot })) needs others
 
 -- how many frames are left out at the front of each later input
-abbrev pub left_out_counts : List CodeJoint → List ℕ
-left_out_counts joints = map (λ (j : CodeJoint). left_out_count j.seam) joints
+abbrev pub left_out_counts : List Joint → List ℕ
+left_out_counts joints = map (λ (j : Joint). left_out_count j.seam) joints
 
 -- what the last input brings
 abbrev pub last_brought : Brought → List Brought → Brought
@@ -129,7 +129,7 @@ last_brought first (b ∷ others) = last_brought b others
 -- what became of these inputs, given what they bring
 pub record IsDecidedTo (class : ClassFields) (brought : List Brought) (lists : List (List RunFrame))
     (frames : List RunFrame)
-    (places : List FramePlace) (before : Brought) (joints : List CodeJoint) : Type 0 where
+    (places : List FramePlace) (before : Brought) (joints : List Joint) : Type 0 where
   pub first : Brought
   pub others : List Brought
   pub are : brought ≡ first ∷ others

@@ -7,8 +7,8 @@ use Rattle.frame_writer.specs.{Frames.WaitingFrames, Writing.{AcceptsFrame, Writ
 use Rattle.laying.specs.Passing.{GivesFrames, GivesPart, HoldsLastAreas, HoldsLastWithBytes}
 use Rattle.laying.specs.Passing.{IsAreaOf, IsRelayReady, ReachesBack}
 use Rattle.laying.specs.declared.{buffers.RelayBuffers.RelayBuffers, relay.AreaSpan.AreaSpan}
-use Rattle.laying.specs.declared.relay.{HeldAreas.HeldAreas as AreasHeld, NextFrame.NextFrame}
-use Rattle.laying.specs.declared.relay.{Reading.Reading, Relay.Relay}
+use Rattle.laying.specs.declared.relay.{HeldAreas.HeldAreas, NextFrame.NextFrame, Reading.Reading}
+use Rattle.laying.specs.declared.relay.Relay.{Relay}
 use Rattle.outside.specs.{BufferOutput.{AppendedPrefix, AppendsWaiting}, Feed.Fed, Files.Files}
 use Rattle.outside.specs.Pass.{AppendsMadeBytes, AppendsPrefix, HasPassCause, IsReadPassFault}
 use Rattle.outside.specs.{Pass.{route_of, WritesMadeBytes, WritesPrefix}, Seen.Seen}
@@ -79,7 +79,7 @@ pub record GivesArea (relay : Relay) (reading : Reading) (row : Row) (files : Fi
 -- The main data of frame i can be cut out: they have `extent.bits` bits, begin
 -- `extent.begin` bytes before its own area, and don't reach back to what isn't held.
 pub record CanCutData (s : SurveyFields) (i : ℕ) (row : Row) (extent : Extent)
-    (held : AreasHeld) : Type 0 where
+    (held : HeldAreas) : Type 0 where
   pub placed : AreWellPlaced s.head s.class s.frames
   pub found : slice_get s.frames i ≡ Some row
   pub begin : extent.begin ≡ row.side.main_data_begin

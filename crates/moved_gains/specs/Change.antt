@@ -1,7 +1,7 @@
 -- What changes in a file, and the file that is written.
 use Rattle.std.specs.Prelude.{List, None, Option, option_map, Some, ℕ}
 use Rattle.moved_gains.specs.{Course.steps_at_offset, Edited.edited_file, Streams.edited_survey}
-use Rattle.moved_gains.specs.{TagPlace.file_with_tag, declared.change.Change.Change as CodeChange}
+use Rattle.moved_gains.specs.{TagPlace.file_with_tag, declared.change.Change.Change}
 use Rattle.requests.specs.declared.shift.Steps.{Steps}
 use Rattle.sync_survey.specs.Faults.{SurveyFields}
 
@@ -12,7 +12,7 @@ pub record FileChange : Type 0 where
   pub tag : Option (List ℕ)
 
 -- the change that the code has, for a file with this survey
-abbrev pub change_in : CodeChange → SurveyFields → FileChange
+abbrev pub change_in : Change → SurveyFields → FileChange
 change_in change s = record {
   steps = steps_at_offset change.course s.frames;
   tag = option_map (λ tag. tag.items) change.tag;

@@ -1,5 +1,5 @@
 -- What a change of gains makes of the survey of a file, and of the stream that the file holds.
-pub use Rattle.sync_survey.specs.Faults.{HoldsStream, stream_of as stream_in, surveyed_stream}
+pub use Rattle.sync_survey.specs.Faults.{HoldsStream, stream_of, surveyed_stream}
 use Rattle.std.specs.List.{enumerate_from}
 use Rattle.std.specs.Prelude.{drop, if◌then◌else◌, List, map, nat_lt, option_map, take, ℕ, ◌++◌}
 use Rattle.std.specs.Prelude.{◌-◌, ◌≡◌}

@@ -10,7 +10,7 @@ use Rattle.frame_header.specs.{Fields.{ClassFields, IsClass, SlotFields}, Tables
 use Rattle.seam_plan.specs.{Frames.{Brought, needs_of, RunFrame}, Joins.joining_frames}
 use Rattle.seam_plan.specs.Seams.{compared_frames, ends_alike, joint_of, joint_with, JointFrames}
 use Rattle.seam_plan.specs.{Seams.{left_out_count, overlap_of}, declared.input.Input.Input}
-use Rattle.seam_plan.specs.declared.run.{FramePlace.FramePlace, Joint.Joint as CodeJoint, Run.Run}
+use Rattle.seam_plan.specs.declared.run.{FramePlace.FramePlace, Joint.Joint, Run.Run}
 use Rattle.seam_plan.specs.declared.seam.Seam.{Seam}
 use Rattle.slot_plan.specs.FreeBytes.{FitsBehind, IsMostLeft, needs_with_first_slot}
 use Rattle.slot_plan.specs.{Parts.AreNeedsOfClass, declared.needs.Need.Need}
@@ -95,7 +95,7 @@ frame_places input from count = map (frame_place input) (range_with_len from cou
 
 -- this is decided: the seam, and the slot of the first
 -- frame that the input adds to the run, if it adds one
-pub record IsJoint (joint : JointFrames) (result : CodeJoint) : Type 0 where
+pub record IsJoint (joint : JointFrames) (result : Joint) : Type 0 where
   pub seam : result.seam ≡ joint.seam
   pub slot : result.slot
       ≡ option_map (λ (f : RunFrame). f.need.header.slot) (slice_get joint.frames 0)
@@ -115,7 +115,7 @@ last_places places count =
 -- this is what becomes of the input, and the run continues with the frames that it adds
 pub record JoinsRun (class : ClassFields) (number : ℕ) (frames : List RunFrame)
     (places : List FramePlace)
-    (before brought : Brought) (result : CodeJoint) (run : Run) : Type 0 where
+    (before brought : Brought) (result : Joint) (run : Run) : Type 0 where
   pub joint : IsJoint (joint_of class frames before brought) result
   pub goes_on :
       let joint = joint_of class frames before brought in
@@ -128,7 +128,7 @@ joined_needs None needs = needs
 joined_needs (Some slot) needs = needs_with_first_slot slot needs
 
 -- the run continues with the frames of the input that this joint leaves, whatever they sound like
-abbrev pub RunGoesOn : ℕ → Input → CodeJoint → Run → Run → Type 0
+abbrev pub RunGoesOn : ℕ → Input → Joint → Run → Run → Type 0
 RunGoesOn number input joint old new =
     (class : ClassFields) (frames more : List RunFrame) (places : List FramePlace)
     (before brought : Brought) → IsRun class frames places before old → IsBroughtInput input brought
@@ -147,23 +147,23 @@ AddedFramesFit class left (first ∷ needs) (Some slot) =
 
 -- the frames of the input that aren't left out fit after the bytes that the run leaves
 pub record AddedInputFits (class : ClassFields) (left : ℕ) (input : Input)
-    (joint : CodeJoint) : Type 0 where
+    (joint : Joint) : Type 0 where
   pub out : left_out_count joint.seam ≤ length input.needs.now
   pub fit : AddedFramesFit class left (drop (left_out_count joint.seam) input.needs.now) joint.slot
 
 -- the same joint is decided, or none
-abbrev pub AreJoint : Option JointFrames → Option CodeJoint → Type 0
+abbrev pub AreJoint : Option JointFrames → Option Joint → Type 0
 AreJoint None None = Unit {0}
 AreJoint (Some joint) (Some result) = IsJoint joint result
 AreJoint _ _ = ⊥
 
 -- frames join with this seam, or can't
-abbrev pub IsJointOfFrames : Seam → Option (List RunFrame) → Option CodeJoint → Type 0
+abbrev pub IsJointOfFrames : Seam → Option (List RunFrame) → Option Joint → Type 0
 IsJointOfFrames seam frames result = AreJoint (option_map (joint_with seam) frames) result
 
 -- the result is how frames of an input with these needs
 -- join the run with this seam, or that they can't
-abbrev pub JoinRun : Seam → List Need → Run → Option CodeJoint → Type 0
+abbrev pub JoinRun : Seam → List Need → Run → Option Joint → Type 0
 JoinRun seam needs run result =
     (class : ClassFields) (frames rest : List RunFrame) (places : List FramePlace)
     (before : Brought) → IsRun class frames places before run → needs ≡ needs_of rest

@@ -2,7 +2,7 @@
 ghost use Rattle.std.specs.Prelude.{◌≡◌, ◌⊎◌, ◌≤◌, List, ℕ, Option, length, option_copied, option_to_list, Ok, Err, IfOk, IfErr, MatchResult};
 ghost use Rattle.outside.specs.Files.{IsFileThere};
 ghost use Rattle.outside.specs.Seen.{OnFile, OnlyRead};
-ghost use Rattle.info_header.specs.declared.fields.Info.{Info as InfoFields};
+ghost use Rattle.info_header.specs.declared.fields.Info.{Info};
 ghost use Rattle.sync_survey.specs.Faults.{survey_view, SurveyFields};
 ghost use Rattle.sync_survey.specs.Survey.{survey_of, IsSurveyLaidOut};
 ghost use Rattle.laying.specs.Laid.{selected_part, IsWritableSelection};
@@ -34,7 +34,7 @@ pub(crate) trait Cut {
     ghost IsSound: { Self.Place → Type 0 };
 
     /// What is read from the head of a file with this survey.
-    ghost head: { List ℕ → SurveyFields → Option InfoFields };
+    ghost head: { List ℕ → SurveyFields → Option Info };
 
     /// The name of the cue sheet with the places, if they aren't given.
     fn sheet(&self) -> Option<&str>
